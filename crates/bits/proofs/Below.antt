@@ -1,0 +1,204 @@
+-- Laws of the tests, sums and lists over the numbers below a bound, and of the set bits of a number.
+-- Assumes nothing.
+use mathlib.Core.Path.{_≡_, refl, sym, ap, ap₂, _∙_, subst}
+use mathlib.Core.Logic.{_≢_, _⊎_, inl, inr}
+use mathlib.Core.Bool.{Bool, true, false, not, cond, _&&_}
+use mathlib.Core.List.{List, [], _∷_, _++_, append-assoc, map, List·Memᴰ, List·Memᴰ·head, List·Memᴰ·tail, List·Memᴰ·not-nil, List·Memᴰ·cases-cons}
+use Prim.Native.Nat.{ℕ, zero, suc, _+_, _*_, _/_, _%_, _^_, _≤_, _<_, suc-le-suc}
+use native.Mathlib.Nat.{mod-lt, zero-lt-suc, pow-suc, add-zero, add-suc, suc-add, zero-add, add-assoc, le-refl, le-of-suc-le-suc, not-suc-le-zero}
+use native.Mathlib.Decide.{ℕ-discrete}
+use native.Mathlib.Numerals.{add-one}
+use native.Mathlib.Omega.{arith}
+use borrow.Author.Tests.{eqb-true, eq-eqb}
+use lib.Arith.{lt-one}
+use lib.Count.{ones, ones-step, trailingZeros, under}
+use lib.Dec.{eqb}
+use lib.ListN.{length, getD, drop, set}
+use lib.Seq.{ext-getD, drop-cons, set-at}
+use Rattle.bits.specs.Bits.{bit}
+use Rattle.bits.specs.Below.{allBelow, those, sumBelow, listBelow}
+use Rattle.bits.proofs.Bools.{both-true, true-both, same-bool, all-at, all-true}
+use Rattle.bits.proofs.Bits.{bit-zero, bit-suc, bit-lt, half-lt, bit-ext-below}
+
+-- two numbers below 2 ^ n are equal where their bits are
+pub eqb-bits : (n a b : ℕ) → a < 2 ^ n → b < 2 ^ n → allBelow n (λ k. eqb (bit a k) (bit b k)) ≡ eqb a b
+eqb-bits n a b ha hb =
+    same-bool _ _
+    (λ e. eq-eqb a b (bit-ext-below n a b ha hb (λ k l. eqb-true (bit a k) (bit b k) (all-at n _ e k l))))
+    (λ e. all-true n _ (λ k l. eq-eqb (bit a k) (bit b k) (ap (λ (x : ℕ). bit x k) (eqb-true a b e))))
+
+-- ---- those of the numbers from k on that pass a test
+
+pub those-bounds : (f : ℕ → Bool) (m k j : ℕ) → List·Memᴰ j (those f m k) → (k ≤ j) × (j < k + m) × (f j ≡ true)
+unfolding those
+those-bounds f zero k j h = absurd (List·Memᴰ·not-nil h)
+those-bounds f (suc m) k j h = go (f k) refl (those-bounds f m (suc k) j) h
+  where
+    wider : (suc k ≤ j) × (j < suc k + m) × (f j ≡ true) → (k ≤ j) × (j < k + suc m) × (f j ≡ true)
+    wider r = (omega arith, omega arith, r .2)
+
+    go : (b : Bool) → f k ≡ b → (List·Memᴰ j (those f m (suc k)) → (suc k ≤ j) × (j < suc k + m) × (f j ≡ true))
+        → List·Memᴰ j (cond b (k ∷ those f m (suc k)) (those f m (suc k))) → (k ≤ j) × (j < k + suc m) × (f j ≡ true)
+    go true e ih h = elim (List·Memᴰ·cases-cons h) [ inl p ↦ (omega arith, omega arith, ap f p ∙ e) | inr t ↦ wider (ih t) ]
+    go false e ih h = wider (ih h)
+
+pub those-all : (f : ℕ → Bool) (m k j : ℕ) → k ≤ j → j < k + m → f j ≡ true → List·Memᴰ j (those f m k)
+unfolding those
+those-all f zero k j l u e = absurd (omega arith)
+those-all f (suc m) k j l u e = elim (ℕ-discrete j k) [ yes p ↦ here p | no d ↦ later (f k) (those-all f m (suc k) j (omega arith) (omega arith) e) ]
+  where
+    here : j ≡ k → List·Memᴰ j (cond (f k) (k ∷ those f m (suc k)) (those f m (suc k)))
+    here p = subst (λ (b : Bool). List·Memᴰ j (cond b (k ∷ those f m (suc k)) (those f m (suc k)))) (sym e ∙ ap f p) (List·Memᴰ·head p)
+
+    later : (b : Bool) → List·Memᴰ j (those f m (suc k)) → List·Memᴰ j (cond b (k ∷ those f m (suc k)) (those f m (suc k)))
+    later true t = List·Memᴰ·tail t
+    later false t = t
+
+-- they ascend
+pub those-ascend : (f : ℕ → Bool) (m k p q : ℕ) (l : List ℕ) → those f m k ≡ p ∷ q ∷ l → p < q
+unfolding those
+those-ascend f zero k p q l e = let z : _≡_ {A = ℕ} 0 1 = cc in omega arith
+those-ascend f (suc m) k p q l e = go (f k) (those-ascend f m (suc k) p q l) e
+  where
+    go : (b : Bool) → (those f m (suc k) ≡ p ∷ q ∷ l → p < q) → cond b (k ∷ those f m (suc k)) (those f m (suc k)) ≡ p ∷ q ∷ l → p < q
+    go false ih e = ih e
+    go true ih e =
+        let tail : those f m (suc k) ≡ q ∷ l = cc in
+        let head : k ≡ p = cc in
+        let bounds = those-bounds f m (suc k) q (subst (λ (t : List ℕ). List·Memᴰ q t) (sym tail) (List·Memᴰ·head refl)) in
+        omega (arith, head, bounds .0)
+
+pub those-cong : (f g : ℕ → Bool) → ((k : ℕ) → f k ≡ g k) → (m k : ℕ) → those f m k ≡ those g m k
+unfolding those
+those-cong f g h zero k = refl
+those-cong f g h (suc m) k = ap₂ (λ (b : Bool) (l : List ℕ). cond b (k ∷ l) l) (h k) (those-cong f g h m (suc k))
+
+-- ---- the set bits of a number, ascending: how many they are, and the first of them
+
+abbrev pub setBits : ℕ → ℕ → List ℕ
+setBits n x = those (λ k. not (eqb (bit x k) 0)) n 0
+
+those-shift : (f : ℕ → Bool) (m k : ℕ) → those f m (suc k) ≡ map suc (those (λ j. f (suc j)) m k)
+unfolding those
+those-shift f zero k = refl
+those-shift f (suc m) k = go (f (suc k)) (those-shift f m (suc k))
+  where
+    go : (b : Bool) → those f m (suc (suc k)) ≡ map suc (those (λ j. f (suc j)) m (suc k))
+        → cond b (suc k ∷ those f m (suc (suc k))) (those f m (suc (suc k)))
+        ≡ map suc (cond b (k ∷ those (λ j. f (suc j)) m (suc k)) (those (λ j. f (suc j)) m (suc k)))
+    go true e = ap (λ (l : List ℕ). suc k ∷ l) e
+    go false e = e
+
+setBits-suc : (n x : ℕ) → setBits (suc n) x ≡ cond (not (eqb (x % 2) 0)) (0 ∷ map suc (setBits n (x / 2))) (map suc (setBits n (x / 2)))
+unfolding those
+setBits-suc n x =
+    ap₂ (λ (y : ℕ) (l : List ℕ). cond (not (eqb y 0)) (0 ∷ l) l) (bit-zero x)
+    (those-shift (λ k. not (eqb (bit x k) 0)) n 0
+    ∙ ap (map suc) (those-cong (λ k. not (eqb (bit x (suc k)) 0)) (λ k. not (eqb (bit (x / 2) k) 0)) (λ k. ap (λ (y : ℕ). not (eqb y 0)) (bit-suc x k)) n 0))
+
+length-mapped : (l : List ℕ) → length (map suc l) ≡ length l
+length-mapped [] = refl
+length-mapped (x ∷ l) = ap suc (length-mapped l)
+
+pub count-setBits : (n x : ℕ) → x < 2 ^ n → length (setBits n x) ≡ ones x
+unfolding those ones
+count-setBits zero x h = ap ones (sym (lt-one h))
+count-setBits (suc n) x h =
+    ap length (setBits-suc n x)
+    ∙ go (x % 2) (mod-lt x (zero-lt-suc 1)) (setBits n (x / 2))
+    ∙ ap (λ (y : ℕ). x % 2 + y) (count-setBits n (x / 2) (half-lt n x h))
+    ∙ sym (ones-step x)
+  where
+    go : (y : ℕ) → y < 2 → (l : List ℕ) → length (cond (not (eqb y 0)) (0 ∷ map suc l) (map suc l)) ≡ y + length l
+    go zero h l = omega (arith, length-mapped l)
+    go (suc zero) h l = omega (arith, length-mapped l)
+    go (suc (suc y)) h l = absurd (omega arith)
+
+-- the first element, or d where there is none
+abbrev pub headOr : ℕ → List ℕ → ℕ
+headOr d [] = d
+headOr d (x ∷ l) = x
+
+-- the lowest set bit, or n where none is set
+pub first-setBit : (n x : ℕ) → headOr n (setBits n x) ≡ trailingZeros n x
+unfolding those trailingZeros
+first-setBit zero x = refl
+first-setBit (suc n) x =
+    ap (headOr (suc n)) (setBits-suc n x) ∙ go (x % 2) (mod-lt x (zero-lt-suc 1)) (setBits n (x / 2)) ∙ ap (under (x % 2)) (first-setBit n (x / 2))
+  where
+    go : (y : ℕ) → y < 2 → (l : List ℕ) → headOr (suc n) (cond (not (eqb y 0)) (0 ∷ map suc l) (map suc l)) ≡ under y (headOr n l)
+    go zero h [] = refl
+    go zero h (z ∷ l) = refl
+    go (suc zero) h l = refl
+    go (suc (suc y)) h l = absurd (omega arith)
+
+-- ---- sums below a number
+
+pub sum-cong : (m : ℕ) (f g : ℕ → ℕ) → ((t : ℕ) → t < m → f t ≡ g t) → sumBelow m f ≡ sumBelow m g
+unfolding sumBelow
+sum-cong zero f g h = refl
+sum-cong (suc m) f g h = ap₂ (λ (x y : ℕ). x + y) (sum-cong m f g (λ t l. h t (omega arith))) (h m (le-refl (suc m)))
+
+pub sum-parts : (a b : ℕ) (f : ℕ → ℕ) → sumBelow (a + b) f ≡ sumBelow a f + sumBelow b (λ t. f (a + t))
+unfolding sumBelow
+sum-parts a zero f = rw (add-zero a, add-zero (sumBelow a f))
+sum-parts a (suc b) f =
+    ap (λ (x : ℕ). sumBelow x f) (add-suc a b) ∙ ap (λ (x : ℕ). x + f (a + b)) (sum-parts a b f)
+    ∙ add-assoc (sumBelow a f) (sumBelow b (λ t. f (a + t))) (f (a + b))
+
+pub sum-plus : (m : ℕ) (f g : ℕ → ℕ) → sumBelow m (λ t. f t + g t) ≡ sumBelow m f + sumBelow m g
+unfolding sumBelow
+sum-plus zero f g = refl
+sum-plus (suc m) f g = omega (arith, sum-plus m f g)
+
+pub sum-parity : (m : ℕ) (f g : ℕ → ℕ) → ((t : ℕ) → f t % 2 ≡ g t % 2) → sumBelow m f % 2 ≡ sumBelow m g % 2
+unfolding sumBelow
+sum-parity zero f g h = refl
+sum-parity (suc m) f g h = omega (arith, sum-parity m f g h, h m)
+
+pub sum-none : (m : ℕ) (f : ℕ → ℕ) → ((t : ℕ) → t < m → f t ≡ 0) → sumBelow m f ≡ 0
+unfolding sumBelow
+sum-none zero f h = refl
+sum-none (suc m) f h = omega (arith, sum-none m f (λ t l. h t (omega arith)), h m (le-refl (suc m)))
+
+-- ---- a list by its elements, of any kind
+
+module _ {A : Type 0} where
+  pub length-listBelow : (m : ℕ) (f : ℕ → A) → length (listBelow m f) ≡ m
+  unfolding listBelow
+  length-listBelow zero f = refl
+  length-listBelow (suc m) f = ap suc (length-listBelow m (λ k. f (suc k)))
+
+  pub getD-listBelow : (m : ℕ) (f : ℕ → A) (i : ℕ) (d : A) → i < m → getD (listBelow m f) i d ≡ f i
+  unfolding listBelow
+  getD-listBelow zero f i d h = absurd (not-suc-le-zero h)
+  getD-listBelow (suc m) f zero d h = refl
+  getD-listBelow (suc m) f (suc i) d h = getD-listBelow m (λ k. f (suc k)) i d (le-of-suc-le-suc h)
+
+  -- a list is a listBelow where it is as long and agrees at each index
+  pub is-listBelow : (d : A) (l : List A) (m : ℕ) (f : ℕ → A) → length l ≡ m → ((i : ℕ) → i < m → getD l i d ≡ f i) → l ≡ listBelow m f
+  is-listBelow d l m f e h =
+      ext-getD d l (listBelow m f) (e ∙ sym (length-listBelow m f))
+      (λ i b. let k : i < m = subst (λ (k : ℕ). i < k) e b in h i k ∙ sym (getD-listBelow m f i d k))
+
+  pub listBelow-cong : (m : ℕ) (f g : ℕ → A) → ((i : ℕ) → i < m → f i ≡ g i) → listBelow m f ≡ listBelow m g
+  unfolding listBelow
+  listBelow-cong zero f g h = refl
+  listBelow-cong (suc m) f g h =
+      ap₂ (λ (x : A) (l : List A). x ∷ l) (h 0 (zero-lt-suc m)) (listBelow-cong m (λ k. f (suc k)) (λ k. g (suc k)) (λ i b. h (suc i) (suc-le-suc b)))
+
+  pub listBelow-more : (m : ℕ) (f : ℕ → A) → listBelow (suc m) f ≡ listBelow m f ++ (f m ∷ [])
+  unfolding listBelow
+  listBelow-more zero f = refl
+  listBelow-more (suc m) f = ap (λ (l : List A). f 0 ∷ l) (listBelow-more m (λ k. f (suc k)))
+
+  -- a loop that fills the front of a list with f, one store a turn
+  pub filling-none : (f : ℕ → A) (l : List A) → l ≡ listBelow 0 f ++ drop 0 l
+  unfolding listBelow
+  filling-none f l = refl
+
+  pub filling-more : (f : ℕ → A) (l : List A) (k : ℕ) → k < length l
+      → set (listBelow k f ++ drop k l) k (f k) ≡ listBelow (k + 1) f ++ drop (k + 1) l
+  filling-more f l k h =
+      rw (add-one k, drop-cons l k (f k) h, set-at (listBelow k f) (getD l k (f k)) (drop (suc k) l) (f k) k (length-listBelow k f), listBelow-more k f)
+      (sym (append-assoc (listBelow k f) (f k ∷ []) (drop (suc k) l)))

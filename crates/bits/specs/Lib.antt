@@ -1,0 +1,4 @@
+pub mod Bits
+pub mod Below
+pub mod Sums
+pub mod Outcomes

@@ -1,0 +1,20 @@
+// Bits of a number, and numbers as sets of variables.
+ghost use mathlib.Core.Path.{_≡_};
+ghost use Rattle.bits.specs.Bits.{bit, within};
+
+// Bit k of x; 0 at and above 32.
+pub fn bit(x: u32, k: u32) -> u32
+    ensures { λ r. ⌜ r ≡ bit x k ⌝ }
+{
+    if 32 <= k {
+        return 0;
+    }
+    (x >> k) % 2
+}
+
+// Every bit of t is one of s.
+pub fn within(t: u32, s: u32) -> bool
+    ensures { λ r. ⌜ r ≡ within t s ⌝ }
+{
+    t & s == t
+}

@@ -1,0 +1,42 @@
+-- The calls on lists: what they answer. Document 01, "Refusal numbers and places": the chains below read like its paragraph "Order".
+-- Assumes nothing.
+use mathlib.Core.List.{List, [], _∷_, _++_}
+use Prim.Native.Nat.{ℕ, _/_, _%_, _^_}
+use lib.Dec.{leb, ltb, eqb}
+use lib.ListN.{length, drop}
+use Rattle.bits.specs.Sums.{firstBad}
+use Rattle.records.specs.Answers.{Outcome, accepted, refused, unless, andThen, afterCall}
+use Rattle.cube.specs.declared.Cube.{Cube}
+use Rattle.cube.specs.declared.Valued.{Valued}
+use Rattle.cube.specs.declared.Valued.the-variants as valued-is
+use Rattle.cube.specs.Cubes.{good}
+use Rattle.cube.specs.Lists.{mostVariables, vectorVariables, mostRecords, recordWidth, cubesOf, listValue, truthVector}
+
+-- 4: "a bad record", at "the lowest record that breaks the rule"; "Accepted, a check answers the record count"
+unfoldable pub goodList : ℕ → List Cube → Outcome
+goodList n l = unless (eqb (firstBad (good n) l) (length l)) 4 (firstBad (good n) l) (accepted (length l ∷ []))
+
+-- "Checking a list: 1 to 4", for a call that takes up to `limit` variables
+unfoldable pub checkList : ℕ → ℕ → List ℕ → Outcome
+checkList limit n b =
+    unless (leb n limit) 1 0
+    (unless (eqb (length b % recordWidth) 0) 2 0
+    (unless (leb (length b / recordWidth) mostRecords) 3 0
+    (goodList n (cubesOf b))))
+
+-- "Value: 1 to 4, 6"
+unfoldable pub valueOutcome : ℕ → List ℕ → ℕ → Outcome
+valueOutcome n b a = andThen (checkList mostVariables n b) (unless (ltb a (2 ^ n)) 6 0 (accepted (listValue n (cubesOf b) a ∷ [])))
+
+-- "Truth vector of a list: 1 to 4, 5 (2^n bytes)", into a buffer of so many bytes
+unfoldable pub vectorOutcome : ℕ → List ℕ → ℕ → Outcome
+vectorOutcome n b size = andThen (checkList vectorVariables n b) (unless (leb (2 ^ n) size) 5 0 (accepted (2 ^ n ∷ [])))
+
+-- the buffer after it: "Other calls write the bytes they name and no more"
+unfoldable pub vectorAfter : ℕ → List ℕ → List ℕ → List ℕ
+vectorAfter n b out = afterCall (vectorOutcome n b (length out)) (truthVector n (cubesOf b) ++ drop (2 ^ n) out) out
+
+-- document 01's number and values for each case of the value call's answer
+abbrev pub valued : Valued → Outcome
+valued (valued-is.Bit b) = accepted (b ∷ [])
+valued (valued-is.Refused r) = refused r

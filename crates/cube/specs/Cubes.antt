@@ -1,0 +1,69 @@
+-- A cube by its literal codes, and when it is true. Document 01, "Cubes and lists"; 002, definition 3.3. Nothing here knows the width of a record.
+-- Assumes nothing.
+use mathlib.Core.Path.{_≡_}
+use mathlib.Core.Bool.{Bool, true, false, not, cond, _&&_, _||_}
+use mathlib.Core.List.{List}
+use Prim.Native.Nat.{ℕ, zero, suc, _^_, _≤_}
+use lib.Dec.{eqb, ltb}
+use lib.Bits.{bitOr, bitXor}
+use Rattle.bits.specs.Bits.{bit, withBit, within}
+use Rattle.bits.specs.Below.{allBelow, those}
+use Rattle.bits.specs.Sums.{oneIf}
+use Rattle.cube.specs.declared.Cube.{Cube}
+
+-- the code of a variable with seen bit s and value bit b: "Seen is set where a literal stands; value holds that literal's code"
+abbrev pub codeOf : ℕ → ℕ → ℕ
+codeOf zero b = 2
+codeOf (suc s) b = b
+
+-- "A literal code at a variable is 0 for the complemented literal, 1 for the plain one, 2 for absent"
+unfoldable pub code : Cube → ℕ → ℕ
+code c k = codeOf (bit (c .seen) k) (bit (c .value) k)
+
+-- the seen bit and the value bit of a code
+abbrev pub seenBit : ℕ → ℕ
+seenBit x = oneIf (ltb x 2)
+
+abbrev pub valueBit : ℕ → ℕ
+valueBit x = oneIf (eqb x 1)
+
+-- the cube with code x at variable v
+unfoldable pub put : Cube → ℕ → ℕ → Cube
+put c v x = record { seen = withBit (c .seen) v (seenBit x); value = withBit (c .value) v (valueBit x) }
+
+-- how many variables the masks of a cube have room for
+abbrev pub maskBits : ℕ
+maskBits = 32
+
+-- the same, where v is one of the variables that the masks have room for; else the cube as it was
+unfoldable pub withCode : Cube → ℕ → ℕ → Cube
+withCode c v x = cond (ltb v maskBits) (put c v x) c
+
+-- "The product with no literal is the constant 1"
+abbrev pub one : Cube
+one = record { seen = 0; value = 0 }
+
+-- "A value bit outside seen, or a seen bit at or above the variable count n, makes the record bad"
+unfoldable pub good : ℕ → Cube → Bool
+good n c = within (c .value) (c .seen) && ltb (c .seen) (2 ^ n)
+
+-- the same, bit by bit
+pub record Good (n : ℕ) (c : Cube) : Type 0 where
+  pub inside : (k : ℕ) → bit (c .value) k ≤ bit (c .seen) k
+  pub below : (k : ℕ) → n ≤ k → bit (c .seen) k ≡ 0
+
+-- the literal with code x is true where the variable is b
+abbrev pub met : ℕ → ℕ → Bool
+met x b = eqb x 2 || eqb x b
+
+-- the product is true at the assignment a: each of its literals is
+unfoldable pub holds : ℕ → Cube → ℕ → Bool
+holds n c a = allBelow n (λ k. met (code c k) (bit a k))
+
+-- the variables below n in which two cubes differ, ascending
+unfoldable pub apart : ℕ → Cube → Cube → List ℕ
+apart n c d = those (λ k. not (eqb (code c k) (code d k))) n 0
+
+-- the set of those variables, as the masks give it
+unfoldable pub differing : Cube → Cube → ℕ
+differing c d = bitOr (bitXor (c .seen) (d .seen)) (bitXor (c .value) (d .value))

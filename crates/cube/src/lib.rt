@@ -1,0 +1,103 @@
+// Cubes: products of literals by value, as two masks.
+pub mod list;
+pub mod value;
+
+ghost use mathlib.Core.Path.{_≡_};
+ghost use lib.Bits.{bitAnd};
+ghost use lib.Count.{ones};
+ghost use lib.Dec.{eqb};
+ghost use Rattle.bits.specs.Bits.{withBit};
+ghost use Rattle.bits.specs.Sums.{oneIf};
+ghost use Prim.Native.Nat.{_<_};
+ghost use Rattle.records.specs.Words.{wordOf};
+ghost use Rattle.cube.specs.Cubes.{code, withCode, one, good, differing};
+
+// Bit k of seen is set where variable k has a literal, and bit k of value holds that literal's code.
+pub struct Cube {
+    pub seen: u32,
+    pub value: u32,
+}
+
+// How many variables the masks have room for.
+const MASK_BITS: u32 = 32;
+
+// x with bit k set where the test passed, and clear where not.
+fn with_bit(x: u32, k: u32, t: bool) -> u32
+    requires { ⌜ k < 32 ⌝ }
+    ensures { λ r. ⌜ r ≡ withBit x k (oneIf t) ⌝ }
+{
+    x - (bits::bit(x, k) << k) + ((t as u32) << k)
+}
+
+impl Cube {
+    // The product with no literal, the constant 1.
+    pub const ONE: Cube = Cube { seen: 0, value: 0 };
+
+    // The product of one literal: at variable v, with the code x.
+    pub fn literal(v: u32, x: u8) -> Cube
+        ensures { λ r. ⌜ r ≡ withCode one v x ⌝ }
+    {
+        Cube::ONE.with_code(v, x)
+    }
+
+    // The cube of a record's bytes.
+    pub fn decoded(seen_low: u8, seen_high: u8, value_low: u8, value_high: u8) -> Cube
+        ensures { λ r. ⌜ r ≡ record { seen = wordOf «seen_low» «seen_high»; value = wordOf «value_low» «value_high» } ⌝ }
+    {
+        Cube {
+            seen: records::words::word(seen_low, seen_high),
+            value: records::words::word(value_low, value_high),
+        }
+    }
+
+    // The literal code at variable v.
+    pub fn code_at(self, v: u32) -> u8
+        ensures { λ r. ⌜ r ≡ code self v ⌝ }
+    {
+        if bits::bit(self.seen, v) == 0 {
+            return 2;
+        }
+        bits::bit(self.value, v) as u8
+    }
+
+    // The cube with the code x at variable v.
+    pub fn with_code(self, v: u32, x: u8) -> Cube
+        ensures { λ r. ⌜ r ≡ withCode self v x ⌝ }
+    {
+        if MASK_BITS <= v {
+            return self;
+        }
+        Cube {
+            seen: with_bit(self.seen, v, x < 2),
+            value: with_bit(self.value, v, x == 1),
+        }
+    }
+
+    // No value bit outside seen, and no seen bit at or above n.
+    pub fn is_good(self, n: usize) -> bool
+        ensures { λ r. ⌜ r ≡ good n self ⌝ }
+    {
+        let seen = self.seen;
+        if !bits::within(self.value, seen) {
+            return false;
+        }
+        if 32 <= n {
+            return true;
+        }
+        seen >> n == 0
+    }
+
+    // One masked comparison: the product of a good cube is true at the assignment a.
+    pub fn holds_at(self, a: u32) -> bool
+        ensures { λ r. ⌜ r ≡ eqb (bitAnd (self .seen) a) (self .value) ⌝ }
+    {
+        self.seen & a == self.value
+    }
+
+    // The set of the variables in which the cubes differ.
+    pub fn differing(self, other: Cube) -> u32
+        ensures { λ r. ⌜ r ≡ differing self other ⌝ }
+    {
+        (self.seen ^ other.seen) | (self.value ^ other.value)
+    }
+}

@@ -1,0 +1,103 @@
+// Lists of cubes: the cube at a place, a cube stored at a place, and the check of a list.
+use records::Counted;
+use records::Refusal;
+use crate::Cube;
+
+ghost use mathlib.Core.Path.{_≡_};
+ghost use lib.ListN.{length, getD};
+ghost use Rattle.bits.specs.Sums.{firstBad};
+ghost use Rattle.records.specs.Records.{stored};
+ghost use Rattle.records.specs.Answers.{counted};
+ghost use Rattle.cube.specs.Cubes.{one, good};
+ghost use Rattle.cube.specs.Lists.{cubes, cubesOf, narrow, cubeCapacity, mostVariables};
+ghost use Rattle.cube.specs.Calls.{checkList};
+
+// Bytes of a record.
+pub const RECORD_WIDTH: usize = 4;
+
+// Records of a list, at most.
+pub const MOST_RECORDS: usize = 4096;
+
+// Variables of a list, at most.
+pub const MOST_VARIABLES: usize = 16;
+
+// How many cubes a lent buffer of so many bytes can hold.
+pub fn capacity(size: usize) -> usize
+    ensures { λ r. ⌜ r ≡ cubeCapacity size ⌝ }
+{
+    let whole = size / RECORD_WIDTH;
+    if whole < MOST_RECORDS {
+        return whole;
+    }
+    MOST_RECORDS
+}
+
+// The cube at place i of a list, or the product with no literal past its end.
+pub fn cube_at(list: &[u8], i: usize) -> Cube
+    ensures { λ r. ⌜ r ≡ getD (cubesOf (now (list .entry))) i one ⌝ }
+{
+    if list.len() / RECORD_WIDTH <= i {
+        return Cube::ONE;
+    }
+    let at = RECORD_WIDTH * i;
+    Cube::decoded(list[at], list[at + 1], list[at + 2], list[at + 3])
+}
+
+// The cube stored at place i of a list; nothing where it has no such place.
+pub fn put_cube(list: &mut [u8], i: usize, c: Cube)
+    ensures { λ _. ⌜ now (list .exit) ≡ stored cubes (now (list .entry)) i (narrow c) ⌝ }
+{
+    if i < list.len() / RECORD_WIDTH {
+        let at = RECORD_WIDTH * i;
+        list[at] = records::words::low(c.seen);
+        list[at + 1] = records::words::high(c.seen);
+        list[at + 2] = records::words::low(c.value);
+        list[at + 3] = records::words::high(c.value);
+    }
+}
+
+// The lowest bad record, or the count.
+fn first_bad(n: usize, list: &[u8]) -> usize
+    ensures { λ r. ⌜ r ≡ firstBad (good n) (cubesOf (now (list .entry))) ⌝ }
+{
+    let count = list.len() / RECORD_WIDTH;
+    let mut i: usize = 0;
+    let found = loop {
+        if count <= i {
+            break count;
+        }
+        if !cube_at(list, i).is_good(n) {
+            break i;
+        }
+        i += 1;
+    };
+    found
+}
+
+// Checking a list of at most `limit` variables: refusals 1 to 4, or the count of its records.
+pub fn check_within(limit: usize, n: usize, list: &[u8]) -> Counted
+    ensures { λ r. ⌜ counted r ≡ checkList limit n (now (list .entry)) ⌝ }
+{
+    if limit < n {
+        return Counted::Refused(Refusal::new(1, 0));
+    }
+    if list.len() % RECORD_WIDTH != 0 {
+        return Counted::Refused(Refusal::new(2, 0));
+    }
+    let count = list.len() / RECORD_WIDTH;
+    if MOST_RECORDS < count {
+        return Counted::Refused(Refusal::new(3, 0));
+    }
+    let bad = first_bad(n, list);
+    if bad != count {
+        return Counted::Refused(Refusal::new(4, bad));
+    }
+    Counted::Count(count)
+}
+
+// Checking a list: refusals 1 to 4, or the count of its records.
+pub fn check(n: usize, list: &[u8]) -> Counted
+    ensures { λ r. ⌜ counted r ≡ checkList mostVariables n (now (list .entry)) ⌝ }
+{
+    check_within(MOST_VARIABLES, n, list)
+}

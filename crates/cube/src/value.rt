@@ -1,0 +1,86 @@
+// The value of a list at an assignment, and its truth vector.
+use records::Counted;
+use records::Refusal;
+use crate::list;
+
+ghost use mathlib.Core.Path.{_≡_};
+ghost use Prim.Native.Nat.{_<_, _≤_, _^_};
+ghost use mathlib.Core.List.{_++_};
+ghost use lib.ListN.{length, drop};
+ghost use Rattle.bits.specs.Sums.{All};
+ghost use Rattle.records.specs.Answers.{counted};
+ghost use Rattle.cube.specs.Cubes.{Good};
+ghost use Rattle.cube.specs.Lists.{cubesOf, trues, truthVector};
+ghost use Rattle.cube.specs.Calls.{valued, valueOutcome, vectorOutcome, vectorAfter};
+
+// Variables of a truth vector, at most.
+pub const VECTOR_VARIABLES: usize = 8;
+
+// What the value call answers.
+pub enum Valued {
+    Bit(u8),
+    Refused(Refusal),
+}
+
+// How many products of a list of good cubes are true at a.
+fn trues_at(n: usize, list: &[u8], a: u32) -> usize
+    requires { ⌜ All (Good n) (cubesOf (now list)) ⌝ }
+    requires { ⌜ a < 2 ^ n ⌝ }
+    ensures { λ r. ⌜ r ≡ trues n (cubesOf (now (list .entry))) a ⌝ }
+{
+    let count = list.len() / list::RECORD_WIDTH;
+    let mut t: usize = 0;
+    let mut i: usize = 0;
+    while i < count {
+        t += list::cube_at(list, i).holds_at(a) as usize;
+        i += 1;
+    }
+    t
+}
+
+// The value of a list at the assignment a: refusals 1 to 4 and 6, or the bit.
+pub fn value(n: usize, list: &[u8], a: u64) -> Valued
+    ensures { λ r. ⌜ valued r ≡ valueOutcome n (now (list .entry)) a ⌝ }
+{
+    match list::check(n, list) {
+        Counted::Refused(r) => Valued::Refused(r),
+        Counted::Count(_) => {
+            if a >> n != 0 {
+                return Valued::Refused(Refusal::new(6, 0));
+            }
+            Valued::Bit((trues_at(n, list, a as u32) % 2) as u8)
+        }
+    }
+}
+
+// The value at each of `size` assignments, to the front of a buffer.
+fn fill_vector(n: usize, size: usize, list: &[u8], out: &mut [u8])
+    requires { ⌜ All (Good n) (cubesOf (now list)) ⌝ }
+    requires { ⌜ (size ≡ 2 ^ n) × (size ≤ 256) ⌝ }
+    requires { ⌜ size ≤ length (now out) ⌝ }
+    ensures { λ _. ⌜ now (out .exit) ≡ truthVector n (cubesOf (now (list .entry))) ++ drop (2 ^ n) (now (out .entry)) ⌝ }
+{
+    let mut a: usize = 0;
+    while a < size {
+        out[a] = (trues_at(n, list, a as u32) % 2) as u8;
+        a += 1;
+    }
+}
+
+// The truth vector of a list: refusals 1 to 4 and 5, or its length, written to the front of the buffer.
+pub fn truth_vector(n: usize, list: &[u8], out: &mut [u8]) -> Counted
+    ensures { λ r. ⌜ counted r ≡ vectorOutcome n (now (list .entry)) (length (now (out .entry))) ⌝ }
+    ensures { λ _. ⌜ now (out .exit) ≡ vectorAfter n (now (list .entry)) (now (out .entry)) ⌝ }
+{
+    match list::check_within(VECTOR_VARIABLES, n, list) {
+        Counted::Refused(r) => Counted::Refused(r),
+        Counted::Count(_) => {
+            let size: usize = 1 << n;
+            if out.len() < size {
+                return Counted::Refused(Refusal::new(5, 0));
+            }
+            fill_vector(n, size, list, out);
+            Counted::Count(size)
+        }
+    }
+}

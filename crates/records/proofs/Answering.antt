@@ -1,0 +1,62 @@
+-- What an accepted chain of tests says, and what a refused one leaves.
+-- Assumes nothing.
+use mathlib.Core.Path.{_≡_, refl, sym, ap, _∙_}
+use mathlib.Core.Bool.{Bool, true, false}
+use mathlib.Core.List.{List, [], _∷_}
+use Prim.Native.Nat.{ℕ}
+use native.Mathlib.Omega.{arith}
+use lib.ListN.{getD}
+use Rattle.records.specs.declared.Refusal.{Refusal}
+use Rattle.records.specs.declared.Counted.{Counted}
+use Rattle.records.specs.declared.Counted.the-variants as counted-is
+use Rattle.records.specs.Answers.{Outcome, accepted, refused, refusal, unless, andThen, afterCall, counted}
+
+-- what is accepted is not refused
+pub not-both : {v : List ℕ} {r : Refusal} → accepted v ≡ refused r → ⊥
+not-both e = let z : _≡_ {A = ℕ} 0 1 = cc in omega arith
+
+pub accepted-values : {v w : List ℕ} → accepted v ≡ accepted w → v ≡ w
+accepted-values e = cc
+
+pub refused-same : {r s : Refusal} → refused r ≡ refused s → r ≡ s
+refused-same e = cc
+
+-- a test of an accepted chain passed, and what came after it was accepted
+pub unless-accepted : (t : Bool) (number place : ℕ) (o : Outcome) (v : List ℕ) → unless t number place o ≡ accepted v → (t ≡ true) × (o ≡ accepted v)
+unless-accepted true number place o v e = (refl, e)
+unless-accepted false number place o v e = absurd (not-both (sym e))
+
+-- an accepted call that tested something else first
+pub record Both (o rest : Outcome) (v : List ℕ) : Type 0 where
+  pub values : List ℕ
+  pub first : o ≡ accepted values
+  pub second : rest ≡ accepted v
+
+pub both-accepted : (o rest : Outcome) (v : List ℕ) → andThen o rest ≡ accepted v → Both o rest v
+both-accepted (accepted w) rest v e = record { values = w; first = refl; second = e }
+both-accepted (refused r) rest v e = absurd (not-both (sym e))
+
+-- ---- a call by what it tested first
+
+pub and-then : (o rest : Outcome) (v : List ℕ) → o ≡ accepted v → andThen o rest ≡ rest
+and-then o rest v e = ap (λ (x : Outcome). andThen x rest) e
+
+pub and-not : (o rest : Outcome) (r : Refusal) → o ≡ refused r → andThen o rest ≡ refused r
+and-not o rest r e = ap (λ (x : Outcome). andThen x rest) e
+
+pub after-refused : (o : Outcome) (new old : List ℕ) (r : Refusal) → o ≡ refused r → afterCall o new old ≡ old
+after-refused o new old r e = ap (λ (x : Outcome). afterCall x new old) e
+
+pub after-accepted : (o : Outcome) (new old v : List ℕ) → o ≡ accepted v → afterCall o new old ≡ new
+after-accepted o new old v e = ap (λ (x : Outcome). afterCall x new old) e
+
+-- ---- the answer read back
+
+pub counted-back : Outcome → Counted
+counted-back (accepted v) = counted-is.Count (getD v 0 0)
+counted-back (refused r) = counted-is.Refused r
+
+pub counted-known : (a : Counted) → counted-back (counted a) ≡ a
+unfolding counted-back
+counted-known (counted-is.Count n) = refl
+counted-known (counted-is.Refused r) = refl

@@ -1,0 +1,6 @@
+pub mod WordLaws
+pub mod Filling
+pub mod Images
+pub mod Holding
+pub mod Answering
+pub mod Determined

@@ -1,0 +1,37 @@
+-- What a call answers: document 01's values, or a refusal with its number and its place. Document 01, "Refusal numbers and places".
+-- Assumes nothing.
+use Prim.Native.Nat.{ℕ}
+use mathlib.Core.Bool.{Bool, true, false}
+use mathlib.Core.List.{List, [], _∷_}
+use Rattle.records.specs.declared.Refusal.{Refusal}
+use Rattle.records.specs.declared.Counted.{Counted}
+use Rattle.records.specs.declared.Counted.the-variants as counted-is
+
+-- the one way to make a refusal
+abbrev pub refusal : ℕ → ℕ → Refusal
+refusal number place = record { number = number; place = place }
+
+-- accepted, with the values in document 01's order; or refused
+pub data Outcome : Type 0 where
+  accepted : List ℕ → Outcome
+  refused : Refusal → Outcome
+
+-- the refusal with this number at this place, unless the test passes
+abbrev pub unless : Bool → ℕ → ℕ → Outcome → Outcome
+unless true number place rest = rest
+unless false number place rest = refused (refusal number place)
+
+-- what is accepted is tested on, and a refusal stays
+abbrev pub andThen : Outcome → Outcome → Outcome
+andThen (accepted values) rest = rest
+andThen (refused r) rest = refused r
+
+-- a buffer after a call: what an accepted call makes of it, and after a refusal what it was
+abbrev pub afterCall : Outcome → List ℕ → List ℕ → List ℕ
+afterCall (accepted values) new old = new
+afterCall (refused r) new old = old
+
+-- document 01's number and values for each case of a count or a refusal
+abbrev pub counted : Counted → Outcome
+counted (counted-is.Count n) = accepted (n ∷ [])
+counted (counted-is.Refused r) = refused r

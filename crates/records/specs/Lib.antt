@@ -1,0 +1,4 @@
+pub mod Words
+pub mod Places
+pub mod Records
+pub mod Answers
