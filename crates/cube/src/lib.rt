@@ -2,6 +2,7 @@
 pub mod list;
 pub mod value;
 
+use records::Refusal;
 ghost use mathlib.Core.Path.{_≡_};
 ghost use lib.Bits.{bitAnd};
 ghost use lib.Count.{ones};
@@ -18,6 +19,12 @@ pub struct Cube {
     pub value: u32,
 }
 
+// What the value call answers: the bit, or a refusal.
+pub enum Valued {
+    Bit(u8),
+    Refused(Refusal),
+}
+
 // How many variables the masks have room for.
 const MASK_BITS: u32 = 32;
 
@@ -26,7 +33,11 @@ fn with_bit(x: u32, k: u32, t: bool) -> u32
     requires { ⌜ k < 32 ⌝ }
     ensures { λ r. ⌜ r ≡ withBit x k (oneIf t) ⌝ }
 {
-    x - (bits::bit(x, k) << k) + ((t as u32) << k)
+    let m: u32 = 1 << k;
+    if t {
+        return x | m;
+    }
+    x ^ (x & m)
 }
 
 impl Cube {

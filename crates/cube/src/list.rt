@@ -1,8 +1,7 @@
 // Lists of cubes: the cube at a place, a cube stored at a place, and the check of a list.
+use crate::Cube;
 use records::Counted;
 use records::Refusal;
-use crate::Cube;
-
 ghost use mathlib.Core.Path.{_≡_};
 ghost use lib.ListN.{length, getD};
 ghost use Rattle.bits.specs.Sums.{firstBad};

@@ -1,8 +1,8 @@
 // The value of a list at an assignment, and its truth vector.
+use crate::Valued;
+use crate::list;
 use records::Counted;
 use records::Refusal;
-use crate::list;
-
 ghost use mathlib.Core.Path.{_≡_};
 ghost use Prim.Native.Nat.{_<_, _≤_, _^_};
 ghost use mathlib.Core.List.{_++_};
@@ -15,12 +15,6 @@ ghost use Rattle.cube.specs.Calls.{valued, valueOutcome, vectorOutcome, 
 
 // Variables of a truth vector, at most.
 pub const VECTOR_VARIABLES: usize = 8;
-
-// What the value call answers.
-pub enum Valued {
-    Bit(u8),
-    Refused(Refusal),
-}
 
 // How many products of a list of good cubes are true at a.
 fn trues_at(n: usize, list: &[u8], a: u32) -> usize

@@ -110,7 +110,6 @@ module _ {A : Type 0} (enc : A → List ℕ) (w : ℕ) (len : (a : A) → length
 
   -- ---- the image of a list in a buffer of n bytes
 
-
   pub length-image : (n : ℕ) (l : List A) → w * length l ≤ n → length (filled n (flat enc l)) ≡ n
   unfolding filled
   length-image n l h = simp (length-append, length-replicate) (omega (arith, length-flat l))

@@ -1,0 +1,87 @@
+-- The value call and the truth vector by cases: what each of their returns answers and leaves.
+-- Assumes nothing.
+use mathlib.Core.Path.{_≡_, refl, sym, ap, ap₂, _∙_}
+use mathlib.Core.List.{List, [], _∷_, _++_}
+use Prim.Native.Nat.{ℕ, _+_, _%_, _^_, _≤_, _<_, zero-le}
+use native.Mathlib.Omega.{arith}
+use lib.ListN.{length, drop, set, length-set}
+use borrow.Author.Tests.{lt-ltb, le-ltb, le-leb, lt-leb}
+use Rattle.bits.specs.Below.{listBelow}
+use Rattle.bits.proofs.Below.{filling-none, filling-more}
+use Rattle.records.specs.declared.Refusal.{Refusal}
+use Rattle.records.specs.Answers.{Outcome, accepted, refused, refusal, unless, andThen, afterCall}
+use Rattle.records.proofs.Answering.{and-then, and-not, after-accepted, after-refused}
+use Rattle.cube.specs.declared.Cube.{Cube}
+use Rattle.cube.specs.Lists.{cubesOf, trues, listValue, truthVector, mostVariables, vectorVariables}
+use Rattle.cube.specs.Calls.{checkList, valueOutcome, vectorOutcome, vectorAfter}
+
+-- ---- value
+
+module _ (n : ℕ) (b : List ℕ) (a : ℕ) where
+  pub value-refused : (r : Refusal) → checkList mostVariables n b ≡ refused r → refused r ≡ valueOutcome n b a
+  unfolding valueOutcome
+  value-refused r e = sym (and-not _ _ r e)
+
+  module _ (v : List ℕ) (e : checkList mostVariables n b ≡ accepted v) where
+    pub value-far : (r : Refusal) → r ≡ refusal 6 0 → 2 ^ n ≤ a → refused r ≡ valueOutcome n b a
+    unfolding valueOutcome
+    value-far r er h = ap refused er ∙ sym (and-then _ _ v e ∙ simp (le-ltb _ _ h))
+
+    pub value-bit : (t : ℕ) → t ≡ trues n (cubesOf b) a → a < 2 ^ n → accepted (t % 2 ∷ []) ≡ valueOutcome n b a
+    unfolding valueOutcome listValue
+    value-bit t et h = ap (λ (x : ℕ). accepted (x % 2 ∷ [])) et ∙ sym (and-then _ _ v e ∙ simp (lt-ltb _ _ h))
+
+-- ---- truth vector
+
+-- what a call answers, and the buffer after it
+pub record Vectored (n : ℕ) (b out : List ℕ) (o : Outcome) (out′ : List ℕ) : Type 0 where
+  pub answer : o ≡ vectorOutcome n b (length out)
+  pub buffer : out′ ≡ vectorAfter n b out
+
+module _ (n : ℕ) (b out : List ℕ) where
+  refusing : (r : Refusal) → refused r ≡ vectorOutcome n b (length out) → Vectored n b out (refused r) out
+  unfolding vectorAfter
+  refusing r e = record { answer = e; buffer = sym (after-refused _ _ out r (sym e)) }
+
+  pub vector-refused : (r : Refusal) → checkList vectorVariables n b ≡ refused r → Vectored n b out (refused r) out
+  unfolding vectorOutcome
+  vector-refused r e = refusing r (sym (and-not _ _ r e))
+
+  module _ (v : List ℕ) (e : checkList vectorVariables n b ≡ accepted v) where
+    pub vector-short : (r : Refusal) → r ≡ refusal 5 0 → (size : ℕ) → size ≡ 2 ^ n → length out < size → Vectored n b out (refused r) out
+    unfolding vectorOutcome
+    vector-short r er size es h =
+        let short : length out < 2 ^ n = omega arith in
+        refusing r (ap refused er ∙ sym (and-then _ _ v e ∙ simp (lt-leb _ _ short)))
+
+    pub vector-done : (size : ℕ) → size ≡ 2 ^ n → size ≤ length out → (out′ : List ℕ) → out′ ≡ truthVector n (cubesOf b) ++ drop (2 ^ n) out
+        → Vectored n b out (accepted (size ∷ [])) out′
+    unfolding vectorOutcome vectorAfter
+    vector-done size es h out′ eo =
+        let room : 2 ^ n ≤ length out = omega arith in
+        let is : vectorOutcome n b (length out) ≡ accepted (2 ^ n ∷ []) = and-then _ _ v e ∙ simp (le-leb _ _ room) in
+        record { answer = ap (λ (x : ℕ). accepted (x ∷ [])) es ∙ sym is; buffer = eo ∙ sym (after-accepted _ _ out _ is) }
+
+-- the values at the first a assignments have been written
+pub record Vectoring (n : ℕ) (b out out′ : List ℕ) (a : ℕ) : Type 0 where
+  pub size : length out′ ≡ length out
+  pub within : a ≤ 2 ^ n
+  pub is : out′ ≡ listBelow a (listValue n (cubesOf b)) ++ drop a out
+
+module _ (n : ℕ) (b out : List ℕ) where
+  pub vectoring-none : Vectoring n b out out 0
+  vectoring-none = record { size = refl; within = zero-le; is = filling-none (listValue n (cubesOf b)) out }
+
+  pub vectoring-more : (out′ : List ℕ) (a t : ℕ) → Vectoring n b out out′ a → a < 2 ^ n → 2 ^ n ≤ length out → t ≡ trues n (cubesOf b) a
+      → Vectoring n b out (set out′ a (t % 2)) (a + 1)
+  unfolding listValue
+  vectoring-more out′ a t r h room et = record {
+    size = length-set out′ a (t % 2) ∙ r .size;
+    within = omega arith;
+    is = ap₂ (λ (l : List ℕ) (x : ℕ). set l a (x % 2)) (r .is) et ∙ filling-more (listValue n (cubesOf b)) out a (omega arith);
+  }
+
+  pub vectoring-done : (out′ : List ℕ) (a : ℕ) → Vectoring n b out out′ a → 2 ^ n ≤ a → out′ ≡ truthVector n (cubesOf b) ++ drop (2 ^ n) out
+  vectoring-done out′ a r h =
+      let e : a ≡ 2 ^ n = omega (arith, r .within) in
+      r .is ∙ ap (λ (k : ℕ). listBelow k (listValue n (cubesOf b)) ++ drop k out) e

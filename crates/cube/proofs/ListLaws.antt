@@ -1,0 +1,186 @@
+-- Laws of lists of cubes: their records, the check of a list by its tests, and how many products are true.
+-- Assumes nothing.
+use mathlib.Core.Path.{_≡_, refl, sym, ap, ap₂, _∙_, subst}
+use mathlib.Core.Bool.{Bool, true, false}
+use mathlib.Core.List.{List, [], _∷_, _++_}
+use Prim.Native.Nat.{ℕ, zero, suc, _+_, _*_, _/_, _%_, _^_, _≤_, _<_, min}
+use native.Mathlib.Nat.{add-zero, lt-of-lt-of-le, mod-eq-of-lt, min-eq-left, min-eq-right, le-of-lt}
+use native.Mathlib.Omega.{arith}
+use lib.Dec.{lit<, eqb, leb}
+use lib.ListN.{length, getD, set}
+use lib.Pow.{pow-mono}
+use lib.Seq.{sets}
+use borrow.Author.Tests.{le-leb, lt-leb, eq-eqb, ne-eqb, leb-true, eqb-true}
+use native.Mathlib.Numerals.{add-one, add-two, add-three}
+use Rattle.bits.specs.Sums.{All, firstBad}
+use Rattle.bits.proofs.Sums.{first-none, all-get-or}
+use Rattle.records.specs.Words.{word, wordOf, wordAt, wordSize}
+use Rattle.records.specs.Records.{flat, image, filled, Codec, records, listOf, stored, capacityOf}
+use Rattle.records.specs.declared.Refusal.{Refusal}
+use Rattle.records.specs.Answers.{Outcome, accepted, refused, refusal, unless}
+use Rattle.records.proofs.WordLaws.{word-back, word-low, word-high, cut-low, cut-high}
+use Rattle.records.proofs.Images.{image-get, flat-listBelow}
+use Rattle.records.proofs.Holding.{Lawful, length-list, list-at, list-past, stored-in, stored-out, place-room}
+use Rattle.records.proofs.Answering.{unless-accepted}
+use Rattle.cube.specs.declared.Cube.{Cube}
+use Rattle.cube.specs.Cubes.{one, good, Good}
+use Rattle.cube.specs.Lists.{cubes, cubesOf, narrow, recordWidth, mostRecords, cubeCapacity}
+use Rattle.cube.specs.Calls.{checkList, goodList}
+use Rattle.cube.proofs.Codes.{good-parts, good-seen, good-value, one-good}
+
+-- ---- the record of a cube
+
+four : (c : Cube) → length (cubes .enc c) ≡ recordWidth
+four c = refl
+
+-- what is read at a place of an image
+cube-image : (n : ℕ) (l : List Cube) (i : ℕ) → i < length l → cubes .read (image cubes n l) i ≡ getD l i one
+unfolding image
+cube-image n l i h =
+    let b : List ℕ = filled n (flat (cubes .enc) l) in
+    let c : Cube = getD l i one in
+    let at : (k : ℕ) → k < 4 → getD b (4 * i + k) 0 ≡ getD (cubes .enc c) k 0 = λ k hk. image-get (cubes .enc) 4 four n l i k one h hk in
+    let at0 : getD b (4 * i) 0 ≡ c .seen % 256 = ap (λ (j : ℕ). getD b j 0) (sym (add-zero (4 * i))) ∙ at 0 (lit< tt) in
+    let at3 : getD b (4 * i + 2 + 1) 0 ≡ c .value / 256 = ap (λ (j : ℕ). getD b j 0) (third-byte (4 * i)) ∙ at 3 (lit< tt) in
+    let seen-is : wordAt b (4 * i) ≡ c .seen = ap₂ wordOf at0 (at 1 (lit< tt)) ∙ word-back (c .seen) in
+    let value-is : wordAt b (4 * i + 2) ≡ c .value = ap₂ wordOf (at 2 (lit< tt)) at3 ∙ word-back (c .value) in
+    λ k. record { seen = seen-is k; value = value-is k }
+  where
+    third-byte : (x : ℕ) → x + 2 + 1 ≡ x + 3
+    third-byte x = omega arith
+
+pub lawful : Lawful cubes
+lawful = record { wide = lit< tt; len = four; zero-record = refl; reads = cube-image }
+
+-- a good cube of few variables fits its record
+pub good-narrow : (n : ℕ) (c : Cube) → n ≤ 16 → Good n c → narrow c ≡ c
+good-narrow n c l g = λ k. record {
+  seen = mod-eq-of-lt (lt-of-lt-of-le (good-seen n c g) (pow-mono l)) k;
+  value = mod-eq-of-lt (lt-of-lt-of-le (good-value n c g) (pow-mono l)) k;
+}
+
+-- the bytes of the cubes of a list are the list's bytes
+pub cubes-bytes : (k : ℕ) (s : List ℕ) → length s ≡ recordWidth * k → ((i : ℕ) → getD s i 0 < 256) → flat (cubes .enc) (records cubes k s) ≡ s
+unfolding records
+cubes-bytes k s e small = flat-listBelow (cubes .enc) 4 four k (cubes .read s) s e byte
+  where
+    last : (x : ℕ) → x + 2 + 1 ≡ x + 3
+    last x = omega arith
+
+    byte : (i r : ℕ) → i < k → r < 4 → getD (cubes .enc (cubes .read s i)) r 0 ≡ getD s (4 * i + r) 0
+    byte i zero hi hr = word-low (getD s (4 * i) 0) (getD s (4 * i + 1) 0) (small (4 * i)) ∙ ap (λ (n : ℕ). getD s n 0) (sym (add-zero (4 * i)))
+    byte i (suc zero) hi hr = word-high (getD s (4 * i) 0) (getD s (4 * i + 1) 0) (small (4 * i))
+    byte i (suc (suc zero)) hi hr = word-low (getD s (4 * i + 2) 0) (getD s (4 * i + 2 + 1) 0) (small (4 * i + 2))
+    byte i (suc (suc (suc zero))) hi hr =
+        word-high (getD s (4 * i + 2) 0) (getD s (4 * i + 2 + 1) 0) (small (4 * i + 2)) ∙ ap (λ (n : ℕ). getD s n 0) (last (4 * i))
+    byte i (suc (suc (suc (suc r)))) hi hr = absurd (omega arith)
+
+-- ---- a cube read and stored
+
+pub cube-in : (b : List ℕ) (i : ℕ) → i < length b / recordWidth
+    → record {
+      seen = wordOf (getD b (recordWidth * i) 0) (getD b (recordWidth * i + 1) 0);
+      value = wordOf (getD b (recordWidth * i + 2) 0) (getD b (recordWidth * i + 3) 0);
+    } ≡ getD (cubesOf b) i one
+cube-in b i h =
+    ap (λ (k : ℕ). record { seen = wordAt b (4 * i); value = wordOf (getD b (4 * i + 2) 0) (getD b k 0) }) (last (4 * i)) ∙ sym (list-at cubes b i one h)
+  where
+    last : (x : ℕ) → x + 3 ≡ x + 2 + 1
+    last x = omega arith
+
+pub cube-past : (b : List ℕ) (i : ℕ) → length b / recordWidth ≤ i → one ≡ getD (cubesOf b) i one
+cube-past b i h = sym (list-past cubes b i one h)
+
+-- four stores in a row
+pub cube-stored : (b : List ℕ) (i : ℕ) (c : Cube) (x0 x1 x2 x3 : ℕ) → i < length b / recordWidth
+    → x0 ≡ c .seen % 256 → x1 ≡ c .seen / 256 % 256 → x2 ≡ c .value % 256 → x3 ≡ c .value / 256 % 256
+    → set (set (set (set b (recordWidth * i) x0) (recordWidth * i + 1) x1) (recordWidth * i + 2) x2) (recordWidth * i + 3) x3 ≡ stored cubes b i (narrow c)
+cube-stored b i c x0 x1 x2 x3 h e0 e1 e2 e3 =
+    rw (
+      e0 ∙ sym (cut-low (c .seen)),
+      e1 ∙ sym (cut-high (c .seen)),
+      e2 ∙ sym (cut-low (c .value)),
+      e3 ∙ sym (cut-high (c .value)),
+      add-one (4 * i),
+      add-two (4 * i),
+      add-three (4 * i),
+    )
+    (sym (stored-in cubes b i (narrow c) h))
+
+pub cube-not-stored : (b : List ℕ) (i : ℕ) (c : Cube) → length b / recordWidth ≤ i → b ≡ stored cubes b i (narrow c)
+cube-not-stored b i c h = sym (stored-out cubes b i (narrow c) h)
+
+-- ---- capacity
+
+pub capacity-low : (n : ℕ) → n / recordWidth < mostRecords → n / recordWidth ≡ cubeCapacity n
+unfolding capacityOf
+capacity-low n h = sym (min-eq-left (le-of-lt h))
+
+pub capacity-high : (n : ℕ) → mostRecords ≤ n / recordWidth → mostRecords ≡ cubeCapacity n
+unfolding capacityOf
+capacity-high n h = sym (min-eq-right h)
+
+-- ---- the check of a list, by the first test that fails
+
+module _ (limit n : ℕ) (b : List ℕ) where
+  pub check-1 : (r : Refusal) → r ≡ refusal 1 0 → limit < n → refused r ≡ checkList limit n b
+  unfolding checkList
+  check-1 r e h = ap refused e ∙ sym (simp (lt-leb _ _ h))
+
+  pub check-2 : (r : Refusal) → r ≡ refusal 2 0 → n ≤ limit → (length b % recordWidth ≡ 0 → ⊥) → refused r ≡ checkList limit n b
+  unfolding checkList
+  check-2 r e h₁ h = ap refused e ∙ sym (simp (le-leb _ _ h₁, ne-eqb _ _ h))
+
+  pub check-3 : (r : Refusal) → r ≡ refusal 3 0 → n ≤ limit → length b % recordWidth ≡ 0 → mostRecords < length b / recordWidth → refused r ≡ checkList limit n b
+  unfolding checkList
+  check-3 r e h₁ h₂ h = ap refused e ∙ sym (simp (le-leb _ _ h₁, eq-eqb _ _ h₂, lt-leb _ _ h))
+
+  module _ (h₁ : n ≤ limit) (h₂ : length b % recordWidth ≡ 0) (h₃ : length b / recordWidth ≤ mostRecords) where
+    to-records : goodList n (cubesOf b) ≡ checkList limit n b
+    unfolding checkList
+    to-records = sym (simp (le-leb _ _ h₁, eq-eqb _ _ h₂, le-leb _ _ h₃))
+
+    pub check-4 : (r : Refusal) (bad : ℕ) → r ≡ refusal 4 bad → bad ≡ firstBad (good n) (cubesOf b) → (bad ≡ length b / recordWidth → ⊥) → refused r ≡ checkList limit n b
+    unfolding goodList
+    check-4 r bad e f h =
+        ap refused (e ∙ ap (refusal 4) f)
+        ∙ sym (ap (λ (t : Bool). unless t 4 (firstBad (good n) (cubesOf b)) (accepted (length (cubesOf b) ∷ [])))
+        (ne-eqb _ _ (λ q. h (f ∙ q ∙ length-list cubes b))))
+        ∙ to-records
+
+    pub check-0 : (bad : ℕ) → bad ≡ firstBad (good n) (cubesOf b) → bad ≡ length b / recordWidth → accepted (length b / recordWidth ∷ []) ≡ checkList limit n b
+    unfolding goodList
+    check-0 bad f h =
+        ap (λ (k : ℕ). accepted (k ∷ [])) (sym (length-list cubes b))
+        ∙ sym (ap (λ (t : Bool). unless t 4 (firstBad (good n) (cubesOf b)) (accepted (length (cubesOf b) ∷ [])))
+        (eq-eqb _ _ (sym f ∙ h ∙ sym (length-list cubes b))))
+        ∙ to-records
+
+-- what an accepted list is
+pub record Accepted (limit n : ℕ) (b : List ℕ) : Type 0 where
+  pub few : n ≤ limit
+  pub whole : length b % recordWidth ≡ 0
+  pub short : length b / recordWidth ≤ mostRecords
+  pub good : All (Good n) (cubesOf b)
+
+all-good : (n : ℕ) (l : List Cube) → All (λ c. good n c ≡ true) l → All (Good n) l
+all-good n [] a = tt
+all-good n (c ∷ l) a = (good-parts n c (a .0), all-good n l (a .1))
+
+pub check-accepts : (limit n : ℕ) (b v : List ℕ) → checkList limit n b ≡ accepted v → Accepted limit n b
+unfolding checkList goodList
+check-accepts limit n b v e =
+    let p = unless-accepted (leb n limit) 1 0 _ v e in
+    let q = unless-accepted (eqb (length b % 4) 0) 2 0 _ v (p .1) in
+    let r = unless-accepted (leb (length b / 4) 4096) 3 0 _ v (q .1) in
+    let s = unless-accepted _ 4 _ _ v (r .1) in
+    record {
+      few = leb-true n limit (p .0);
+      whole = eqb-true (length b % 4) 0 (q .0);
+      short = leb-true (length b / 4) 4096 (r .0);
+      good = all-good n (cubesOf b) (first-none (good n) (cubesOf b) (eqb-true _ _ (s .0)));
+    }
+
+-- each place of a list of good cubes, also past its end, where the product with no literal stands
+pub good-at : (n : ℕ) (l : List Cube) → All (Good n) l → (i : ℕ) → Good n (getD l i one)
+good-at n l a i = all-get-or (Good n) l i one a (one-good n)

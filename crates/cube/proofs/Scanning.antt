@@ -1,0 +1,76 @@
+-- The two loops over a list of cubes: the search for the lowest bad record, and the count of the products that are true. Each invariant is one record.
+-- Assumes nothing.
+use mathlib.Core.Path.{_≡_, refl, sym, ap, ap₂, _∙_, subst}
+use mathlib.Core.Bool.{Bool, true, false, not}
+use mathlib.Core.List.{List}
+use Prim.Native.Nat.{ℕ, _+_, _/_, _^_, _≤_, _<_, zero-le}
+use native.Mathlib.Nat.{zero-add, add-zero}
+use native.Mathlib.Omega.{arith}
+use borrow.Author.Tests.{not-true, not-false}
+use lib.Bits.{bitAnd}
+use lib.Dec.{eqb}
+use lib.ListN.{length, getD, drop}
+use Rattle.bits.specs.Sums.{All, firstBad, tally, oneIf}
+use Rattle.bits.proofs.Bools.{one-lt}
+use Rattle.bits.proofs.Sums.{looking-on, looking-here, looking-end, tally-on, tally-end}
+use Rattle.records.proofs.Holding.{length-list}
+use Rattle.cube.specs.declared.Cube.{Cube}
+use Rattle.cube.specs.Cubes.{one, good, Good, holds}
+use Rattle.cube.specs.Lists.{cubes, cubesOf, recordWidth, trues}
+use Rattle.cube.proofs.Masks.{holds-mask}
+use Rattle.cube.proofs.ListLaws.{good-at}
+
+-- the first i records are good
+pub record Looking (n : ℕ) (b : List ℕ) (i : ℕ) : Type 0 where
+  pub within : i ≤ length b / recordWidth
+  pub so-far : firstBad (good n) (cubesOf b) ≡ i + firstBad (good n) (drop i (cubesOf b))
+
+module _ (n : ℕ) (b : List ℕ) where
+  pub looking-none : Looking n b 0
+  looking-none = record { within = zero-le; so-far = sym (zero-add (firstBad (good n) (cubesOf b))) }
+
+  module _ (i : ℕ) (r : Looking n b i) where
+    pub found-none : length b / recordWidth ≤ i → length b / recordWidth ≡ firstBad (good n) (cubesOf b)
+    found-none h =
+        let e : i ≡ length b / recordWidth = omega (arith, r .within) in
+        sym e ∙ sym (looking-end (good n) one (cubesOf b) i (omega (arith, length-list cubes b)) (r .so-far))
+
+    module _ (h : i < length b / recordWidth) (c : Cube) (ec : c ≡ getD (cubesOf b) i one) (t : Bool) (et : t ≡ good n c) where
+      pub found-bad : not t ≡ true → i ≡ firstBad (good n) (cubesOf b)
+      found-bad f =
+          sym (looking-here (good n) one (cubesOf b) i (omega (arith, length-list cubes b))
+          (ap (good n) (sym ec) ∙ sym et ∙ not-true t f) (r .so-far))
+
+      pub looking-next : not t ≡ false → Looking n b (i + 1)
+      looking-next f = record {
+        within = omega arith;
+        so-far = looking-on (good n) one (cubesOf b) i (omega (arith, length-list cubes b))
+            (ap (good n) (sym ec) ∙ sym et ∙ not-false t f) (r .so-far);
+      }
+
+-- t of the first i products are true at a
+pub record Counting (n : ℕ) (b : List ℕ) (a t i : ℕ) : Type 0 where
+  pub within : i ≤ length b / recordWidth
+  pub few : t ≤ i
+  pub so-far : t + tally (λ c. holds n c a) (drop i (cubesOf b)) ≡ trues n (cubesOf b) a
+
+module _ (n : ℕ) (b : List ℕ) (a : ℕ) where
+  pub counting-none : Counting n b a 0 0
+  unfolding trues
+  counting-none = record { within = zero-le; few = zero-le; so-far = zero-add (tally (λ c. holds n c a) (cubesOf b)) }
+
+  pub counting-more : (t i : ℕ) → Counting n b a t i → i < length b / recordWidth → All (Good n) (cubesOf b) → a < 2 ^ n
+      → (c : Cube) → c ≡ getD (cubesOf b) i one → (h : Bool) → h ≡ eqb (bitAnd (c .seen) a) (c .value) → Counting n b a (t + oneIf h) (i + 1)
+  counting-more t i r l g ha c ec h eh =
+      let w : Cube → Bool = λ c. holds n c a in
+      let same : h ≡ w (getD (cubesOf b) i one) =
+      eh ∙ sym (holds-mask n c a (subst (Good n) (sym ec) (good-at n (cubesOf b) g i)) ha) ∙ ap w ec in
+      record {
+        within = omega arith;
+        few = omega (arith, r .few, one-lt h);
+        so-far = omega (arith, r .so-far, tally-on w one (cubesOf b) i (omega (arith, length-list cubes b)), ap oneIf same);
+      }
+
+  pub counted-all : (t i : ℕ) → Counting n b a t i → length b / recordWidth ≤ i → t ≡ trues n (cubesOf b) a
+  counted-all t i r h =
+      omega (arith, r .so-far, tally-end (λ c. holds n c a) one (cubesOf b) i (omega (arith, length-list cubes b)))
