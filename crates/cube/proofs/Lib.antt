@@ -5,3 +5,4 @@ pub mod ListLaws
 pub mod Scanning
 pub mod CallLaws
 pub mod Determined
+pub mod Meaning

@@ -1,0 +1,56 @@
+-- What the definitions mean, in document 01's words: theorems for readers.
+-- Assumes nothing.
+use mathlib.Core.Path.{_≡_, refl, sym, ap, _∙_}
+use mathlib.Core.Bool.{Bool, true, false}
+use mathlib.Core.List.{List}
+use Prim.Native.Nat.{ℕ, _*_, _^_, _≤_, _<_}
+use lib.Bits.{bitAnd}
+use lib.Count.{ones}
+use lib.Dec.{eqb}
+use lib.ListN.{length, getD}
+use Rattle.bits.specs.Bits.{bit}
+use Rattle.bits.specs.Sums.{sum, oneIf, tally, All}
+use Rattle.bits.proofs.Bools.{all-at, all-true}
+use Rattle.bits.proofs.Sums.{tally-sum, first-le, first-fails, first-lowest}
+use Rattle.records.specs.Records.{flat, records, image}
+use Rattle.cube.specs.declared.Cube.{Cube}
+use Rattle.cube.specs.Cubes.{code, Good, good, met, holds, one, apart, differing}
+use Rattle.cube.specs.Lists.{cubes, cubesOf, recordWidth, trues, listValue}
+use Rattle.cube.proofs.Codes.{cube-ext}
+use Rattle.cube.proofs.Masks.{holds-mask, apart-count}
+use Rattle.cube.proofs.ListLaws.{lawful, cubes-bytes}
+
+-- A list's value at an assignment is the EXOR of its products there.
+pub value-is-exor : (n : ℕ) (l : List Cube) (a : ℕ) → listValue n l a ≡ oneIf (sum (λ c. holds n c a) l)
+unfolding listValue trues
+value-is-exor n l a = tally-sum (λ c. holds n c a) l
+
+-- A product is true where each literal is met, per variable (002, definition 3.3) ..
+pub product-true : (n : ℕ) (c : Cube) (a : ℕ) → ((k : ℕ) → k < n → met (code c k) (bit a k) ≡ true) → holds n c a ≡ true
+unfolding holds
+product-true n c a h = all-true n (λ k. met (code c k) (bit a k)) h
+
+-- .. and only there.
+pub true-product : (n : ℕ) (c : Cube) (a : ℕ) → holds n c a ≡ true → (k : ℕ) → k < n → met (code c k) (bit a k) ≡ true
+unfolding holds
+true-product n c a e = all-at n (λ k. met (code c k) (bit a k)) e
+
+-- For a good cube, and an assignment of n variables, that is one masked comparison, for every n.
+pub product-by-mask : (n : ℕ) (c : Cube) (a : ℕ) → Good n c → a < 2 ^ n → holds n c a ≡ eqb (bitAnd (c .seen) a) (c .value)
+product-by-mask = holds-mask
+
+-- Two good cubes with equal codes are equal.
+pub equal-codes : (n : ℕ) (c d : Cube) → Good n c → Good n d → ((k : ℕ) → k < n → code c k ≡ code d k) → c ≡ d
+equal-codes = cube-ext
+
+-- The number of variables in which two good cubes differ is the count of ones of the set.
+pub number-differing : (n : ℕ) (c d : Cube) → Good n c → Good n d → length (apart n c d) ≡ ones (differing c d)
+number-differing = apart-count
+
+-- A record there and back: what is read at a place of a written list is the cube written there ..
+pub record-back : (size : ℕ) (l : List Cube) (i : ℕ) → i < length l → cubes .read (image cubes size l) i ≡ getD l i one
+record-back = lawful .reads
+
+-- .. and the bytes of the cubes read are the bytes that were there.
+pub bytes-back : (count : ℕ) (b : List ℕ) → length b ≡ recordWidth * count → ((i : ℕ) → getD b i 0 < 256) → flat (cubes .enc) (records cubes count b) ≡ b
+bytes-back = cubes-bytes
