@@ -13,19 +13,19 @@ use lib.Seq.{sets}
 use borrow.Author.Tests.{le-leb, lt-leb, eq-eqb, ne-eqb, leb-true, eqb-true}
 use native.Mathlib.Numerals.{add-one, add-two, add-three}
 use Rattle.bits.specs.Sums.{All, firstBad}
-use Rattle.bits.proofs.Sums.{first-none, all-get-or}
+use Rattle.bits.proofs.Sums.{all-get-or}
 use Rattle.records.specs.Words.{word, wordOf, wordAt, wordSize}
 use Rattle.records.specs.Records.{flat, image, filled, Codec, records, listOf, stored, capacityOf}
 use Rattle.records.specs.declared.Refusal.{Refusal}
-use Rattle.records.specs.Answers.{Outcome, accepted, refused, refusal, unless}
+use Rattle.records.specs.Answers.{Outcome, accepted, refused, refusal, unless, unlessAt}
 use Rattle.records.proofs.WordLaws.{word-back, word-low, word-high, cut-low, cut-high}
 use Rattle.records.proofs.Images.{image-get, flat-listBelow}
 use Rattle.records.proofs.Holding.{Lawful, length-list, list-at, list-past, stored-in, stored-out, place-room}
-use Rattle.records.proofs.Answering.{unless-accepted}
+use Rattle.records.proofs.Answering.{unless-accepted, unless-at-accepted, unless-at-refused, unless-at-passed}
 use Rattle.cube.specs.declared.Cube.{Cube}
 use Rattle.cube.specs.Cubes.{one, good, Good}
 use Rattle.cube.specs.Lists.{cubes, cubesOf, narrow, recordWidth, mostRecords, cubeCapacity}
-use Rattle.cube.specs.Calls.{checkList, goodList}
+use Rattle.cube.specs.Calls.{checkList}
 use Rattle.cube.proofs.Codes.{good-parts, good-seen, good-value, one-good}
 
 -- ---- the record of a cube
@@ -135,26 +135,19 @@ module _ (limit n : ℕ) (b : List ℕ) where
   unfolding checkList
   check-3 r e h₁ h₂ h = ap refused e ∙ sym (simp (le-leb _ _ h₁, eq-eqb _ _ h₂, lt-leb _ _ h))
 
-  module _ (h₁ : n ≤ limit) (h₂ : length b % recordWidth ≡ 0) (h₃ : length b / recordWidth ≤ mostRecords) where
-    to-records : goodList n (cubesOf b) ≡ checkList limit n b
+  module _ (h₁ : n ≤ limit) (h₂ : length b % recordWidth ≡ 0) (h₃ : length b / recordWidth ≤ mostRecords) (bad : ℕ) (is : bad ≡ firstBad (good n) (cubesOf b)) where
+    to-records : unlessAt (good n) 4 (cubesOf b) (accepted (length (cubesOf b) ∷ [])) ≡ checkList limit n b
     unfolding checkList
     to-records = sym (simp (le-leb _ _ h₁, eq-eqb _ _ h₂, le-leb _ _ h₃))
 
-    pub check-4 : (r : Refusal) (bad : ℕ) → r ≡ refusal 4 bad → bad ≡ firstBad (good n) (cubesOf b) → (bad ≡ length b / recordWidth → ⊥) → refused r ≡ checkList limit n b
-    unfolding goodList
-    check-4 r bad e f h =
-        ap refused (e ∙ ap (refusal 4) f)
-        ∙ sym (ap (λ (t : Bool). unless t 4 (firstBad (good n) (cubesOf b)) (accepted (length (cubesOf b) ∷ [])))
-        (ne-eqb _ _ (λ q. h (f ∙ q ∙ length-list cubes b))))
-        ∙ to-records
+    pub check-4 : (r : Refusal) → r ≡ refusal 4 bad → (bad ≡ length b / recordWidth → ⊥) → refused r ≡ checkList limit n b
+    check-4 r e h =
+        ap refused e ∙ unless-at-refused (good n) 4 (cubesOf b) (accepted (length (cubesOf b) ∷ [])) bad is (λ q. h (q ∙ length-list cubes b)) ∙ to-records
 
-    pub check-0 : (bad : ℕ) → bad ≡ firstBad (good n) (cubesOf b) → bad ≡ length b / recordWidth → accepted (length b / recordWidth ∷ []) ≡ checkList limit n b
-    unfolding goodList
-    check-0 bad f h =
+    pub check-0 : bad ≡ length b / recordWidth → accepted (length b / recordWidth ∷ []) ≡ checkList limit n b
+    check-0 h =
         ap (λ (k : ℕ). accepted (k ∷ [])) (sym (length-list cubes b))
-        ∙ sym (ap (λ (t : Bool). unless t 4 (firstBad (good n) (cubesOf b)) (accepted (length (cubesOf b) ∷ [])))
-        (eq-eqb _ _ (sym f ∙ h ∙ sym (length-list cubes b))))
-        ∙ to-records
+        ∙ unless-at-passed (good n) 4 (cubesOf b) (accepted (length (cubesOf b) ∷ [])) bad is (h ∙ sym (length-list cubes b)) ∙ to-records
 
 -- what an accepted list is
 pub record Accepted (limit n : ℕ) (b : List ℕ) : Type 0 where
@@ -168,17 +161,17 @@ all-good n [] a = tt
 all-good n (c ∷ l) a = (good-parts n c (a .0), all-good n l (a .1))
 
 pub check-accepts : (limit n : ℕ) (b v : List ℕ) → checkList limit n b ≡ accepted v → Accepted limit n b
-unfolding checkList goodList
+unfolding checkList
 check-accepts limit n b v e =
     let p = unless-accepted (leb n limit) 1 0 _ v e in
     let q = unless-accepted (eqb (length b % 4) 0) 2 0 _ v (p .1) in
     let r = unless-accepted (leb (length b / 4) 4096) 3 0 _ v (q .1) in
-    let s = unless-accepted _ 4 _ _ v (r .1) in
+    let s = unless-at-accepted (good n) 4 (cubesOf b) _ v (r .1) in
     record {
       few = leb-true n limit (p .0);
       whole = eqb-true (length b % 4) 0 (q .0);
       short = leb-true (length b / 4) 4096 (r .0);
-      good = all-good n (cubesOf b) (first-none (good n) (cubesOf b) (eqb-true _ _ (s .0)));
+      good = all-good n (cubesOf b) (s .0);
     }
 
 -- each place of a list of good cubes, also past its end, where the product with no literal stands

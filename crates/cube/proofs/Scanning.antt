@@ -1,52 +1,23 @@
--- The two loops over a list of cubes: the search for the lowest bad record, and the count of the products that are true. Each invariant is one record.
+-- The loop that counts the products of a list that are true. The invariant is one record.
 -- Assumes nothing.
 use mathlib.Core.Path.{_≡_, refl, sym, ap, ap₂, _∙_, subst}
-use mathlib.Core.Bool.{Bool, true, false, not}
+use mathlib.Core.Bool.{Bool}
 use mathlib.Core.List.{List}
 use Prim.Native.Nat.{ℕ, _+_, _/_, _^_, _≤_, _<_, zero-le}
-use native.Mathlib.Nat.{zero-add, add-zero}
+use native.Mathlib.Nat.{zero-add}
 use native.Mathlib.Omega.{arith}
-use borrow.Author.Tests.{not-true, not-false}
 use lib.Bits.{bitAnd}
 use lib.Dec.{eqb}
 use lib.ListN.{length, getD, drop}
-use Rattle.bits.specs.Sums.{All, firstBad, tally, oneIf}
+use Rattle.bits.specs.Sums.{All, tally, oneIf}
 use Rattle.bits.proofs.Bools.{one-lt}
-use Rattle.bits.proofs.Sums.{looking-on, looking-here, looking-end, tally-on, tally-end}
+use Rattle.bits.proofs.Sums.{tally-on, tally-end}
 use Rattle.records.proofs.Holding.{length-list}
 use Rattle.cube.specs.declared.Cube.{Cube}
-use Rattle.cube.specs.Cubes.{one, good, Good, holds}
+use Rattle.cube.specs.Cubes.{one, Good, holds}
 use Rattle.cube.specs.Lists.{cubes, cubesOf, recordWidth, trues}
 use Rattle.cube.proofs.Masks.{holds-mask}
 use Rattle.cube.proofs.ListLaws.{good-at}
-
--- the first i records are good
-pub record Looking (n : ℕ) (b : List ℕ) (i : ℕ) : Type 0 where
-  pub within : i ≤ length b / recordWidth
-  pub so-far : firstBad (good n) (cubesOf b) ≡ i + firstBad (good n) (drop i (cubesOf b))
-
-module _ (n : ℕ) (b : List ℕ) where
-  pub looking-none : Looking n b 0
-  looking-none = record { within = zero-le; so-far = sym (zero-add (firstBad (good n) (cubesOf b))) }
-
-  module _ (i : ℕ) (r : Looking n b i) where
-    pub found-none : length b / recordWidth ≤ i → length b / recordWidth ≡ firstBad (good n) (cubesOf b)
-    found-none h =
-        let e : i ≡ length b / recordWidth = omega (arith, r .within) in
-        sym e ∙ sym (looking-end (good n) one (cubesOf b) i (omega (arith, length-list cubes b)) (r .so-far))
-
-    module _ (h : i < length b / recordWidth) (c : Cube) (ec : c ≡ getD (cubesOf b) i one) (t : Bool) (et : t ≡ good n c) where
-      pub found-bad : not t ≡ true → i ≡ firstBad (good n) (cubesOf b)
-      found-bad f =
-          sym (looking-here (good n) one (cubesOf b) i (omega (arith, length-list cubes b))
-          (ap (good n) (sym ec) ∙ sym et ∙ not-true t f) (r .so-far))
-
-      pub looking-next : not t ≡ false → Looking n b (i + 1)
-      looking-next f = record {
-        within = omega arith;
-        so-far = looking-on (good n) one (cubesOf b) i (omega (arith, length-list cubes b))
-            (ap (good n) (sym ec) ∙ sym et ∙ not-false t f) (r .so-far);
-      }
 
 -- t of the first i products are true at a
 pub record Counting (n : ℕ) (b : List ℕ) (a t i : ℕ) : Type 0 where

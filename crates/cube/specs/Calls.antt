@@ -4,25 +4,20 @@ use mathlib.Core.List.{List, [], _∷_, _++_}
 use Prim.Native.Nat.{ℕ, _/_, _%_, _^_}
 use lib.Dec.{leb, ltb, eqb}
 use lib.ListN.{length, drop}
-use Rattle.bits.specs.Sums.{firstBad}
-use Rattle.records.specs.Answers.{Outcome, accepted, refused, unless, andThen, afterCall}
-use Rattle.cube.specs.declared.Cube.{Cube}
+use Rattle.records.specs.Answers.{Outcome, accepted, refused, unless, unlessAt, andThen, afterCall}
 use Rattle.cube.specs.declared.Valued.{Valued}
 use Rattle.cube.specs.declared.Valued.the-variants as valued-is
 use Rattle.cube.specs.Cubes.{good}
 use Rattle.cube.specs.Lists.{mostVariables, vectorVariables, mostRecords, recordWidth, cubesOf, listValue, truthVector}
 
--- 4: "a bad record", at "the lowest record that breaks the rule"; "Accepted, a check answers the record count"
-unfoldable pub goodList : ℕ → List Cube → Outcome
-goodList n l = unless (eqb (firstBad (good n) l) (length l)) 4 (firstBad (good n) l) (accepted (length l ∷ []))
-
--- "Checking a list: 1 to 4", for a call that takes up to `limit` variables
+-- "Checking a list: 1 to 4", for a call that takes up to `limit` variables; 4 is "a bad record", at "the lowest record that breaks the rule"
 unfoldable pub checkList : ℕ → ℕ → List ℕ → Outcome
 checkList limit n b =
     unless (leb n limit) 1 0
     (unless (eqb (length b % recordWidth) 0) 2 0
     (unless (leb (length b / recordWidth) mostRecords) 3 0
-    (goodList n (cubesOf b))))
+    (unlessAt (good n) 4 (cubesOf b)
+    (accepted (length (cubesOf b) ∷ [])))))
 
 -- "Value: 1 to 4, 6"
 unfoldable pub valueOutcome : ℕ → List ℕ → ℕ → Outcome

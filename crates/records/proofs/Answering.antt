@@ -5,11 +5,15 @@ use mathlib.Core.Bool.{Bool, true, false}
 use mathlib.Core.List.{List, [], _∷_}
 use Prim.Native.Nat.{ℕ}
 use native.Mathlib.Omega.{arith}
-use lib.ListN.{getD}
+use lib.Dec.{eqb}
+use lib.ListN.{length, getD}
+use borrow.Author.Tests.{eqb-true, eq-eqb, ne-eqb}
+use Rattle.bits.specs.Sums.{All, firstBad}
+use Rattle.bits.proofs.Sums.{first-none}
 use Rattle.records.specs.declared.Refusal.{Refusal}
 use Rattle.records.specs.declared.Counted.{Counted}
 use Rattle.records.specs.declared.Counted.the-variants as counted-is
-use Rattle.records.specs.Answers.{Outcome, accepted, refused, refusal, unless, andThen, afterCall, counted}
+use Rattle.records.specs.Answers.{Outcome, accepted, refused, refusal, unless, unlessAt, andThen, afterCall, counted}
 
 -- what is accepted is not refused
 pub not-both : {v : List ℕ} {r : Refusal} → accepted v ≡ refused r → ⊥
@@ -25,6 +29,23 @@ refused-same e = cc
 pub unless-accepted : (t : Bool) (number place : ℕ) (o : Outcome) (v : List ℕ) → unless t number place o ≡ accepted v → (t ≡ true) × (o ≡ accepted v)
 unless-accepted true number place o v e = (refl, e)
 unless-accepted false number place o v e = absurd (not-both (sym e))
+
+-- every element of an accepted chain passed
+pub unless-at-accepted : {A : Type 0} (test : A → Bool) (number : ℕ) (l : List A) (o : Outcome) (v : List ℕ)
+    → unlessAt test number l o ≡ accepted v → All (λ x. test x ≡ true) l × (o ≡ accepted v)
+unless-at-accepted test number l o v e =
+    let p = unless-accepted (eqb (firstBad test l) (length l)) number (firstBad test l) o v e in
+    (first-none test l (eqb-true _ _ (p .0)), p .1)
+
+-- the place that a search found: an element that fails, or the length
+module _ {A : Type 0} (test : A → Bool) (number : ℕ) (l : List A) (o : Outcome) (bad : ℕ) (is : bad ≡ firstBad test l) where
+  pub unless-at-refused : (bad ≡ length l → ⊥) → refused (refusal number bad) ≡ unlessAt test number l o
+  unless-at-refused h =
+      ap (λ (p : ℕ). refused (refusal number p)) is
+      ∙ sym (ap (λ (t : Bool). unless t number (firstBad test l) o) (ne-eqb _ _ (λ q. h (is ∙ q))))
+
+  pub unless-at-passed : bad ≡ length l → o ≡ unlessAt test number l o
+  unless-at-passed h = sym (ap (λ (t : Bool). unless t number (firstBad test l) o) (eq-eqb _ _ (sym is ∙ h)))
 
 -- an accepted call that tested something else first
 pub record Both (o rest : Outcome) (v : List ℕ) : Type 0 where

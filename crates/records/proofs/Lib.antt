@@ -2,5 +2,6 @@ pub mod WordLaws
 pub mod Filling
 pub mod Images
 pub mod Holding
+pub mod Looking
 pub mod Answering
 pub mod Determined

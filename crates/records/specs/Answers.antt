@@ -3,6 +3,9 @@
 use Prim.Native.Nat.{ℕ}
 use mathlib.Core.Bool.{Bool, true, false}
 use mathlib.Core.List.{List, [], _∷_}
+use lib.Dec.{eqb}
+use lib.ListN.{length}
+use Rattle.bits.specs.Sums.{firstBad}
 use Rattle.records.specs.declared.Refusal.{Refusal}
 use Rattle.records.specs.declared.Counted.{Counted}
 use Rattle.records.specs.declared.Counted.the-variants as counted-is
@@ -20,6 +23,10 @@ pub data Outcome : Type 0 where
 abbrev pub unless : Bool → ℕ → ℕ → Outcome → Outcome
 unless true number place rest = rest
 unless false number place rest = refused (refusal number place)
+
+-- the same where every element must pass: the place is the lowest that does not
+abbrev pub unlessAt : {A : Type 0} → (A → Bool) → ℕ → List A → Outcome → Outcome
+unlessAt test number l rest = unless (eqb (firstBad test l) (length l)) number (firstBad test l) rest
 
 -- what is accepted is tested on, and a refusal stays
 abbrev pub andThen : Outcome → Outcome → Outcome

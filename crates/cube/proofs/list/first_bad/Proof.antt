@@ -3,13 +3,14 @@
 use Prim.Native.Nat.{_-_, _/_}
 use lib.ListN.{length}
 use borrow.Author.Needs.{needs}
-use Rattle.cube.specs.Lists.{recordWidth}
-use Rattle.cube.proofs.Scanning.{Looking, looking-none, looking-next, found-none, found-bad}
+use Rattle.cube.specs.Cubes.{good}
+use Rattle.cube.specs.Lists.{cubes, recordWidth}
+use Rattle.records.proofs.Looking.{Looking, looking-none, looking-next, found-none, found-bad}
 use Rattle.cube.proofs.list.first_bad.Statement.{statement}
 use Rattle.cube.proofs.list.first_bad.Tie as tie
 
 abbrev Inv-loop : tie.InvT-loop
-Inv-loop n list count i₀ i = Looking n list i
+Inv-loop n list count i₀ i = Looking cubes (good n) list i
 
 abbrev μ-loop : tie.MeasureT-loop
 μ-loop n list count i₀ i = length list / recordWidth - i
@@ -33,7 +34,7 @@ loop-again : tie.Need-loop-again Inv-loop μ-loop
 loop-again c = search looking-next
 
 returns : tie.Need-returns Inv-loop μ-loop
-returns c = search found-none
+returns c = found-none cubes (good _) _ _ (c .before .loop .inv) (c .if1 .taken)
 
 returns-2 : tie.Need-returns-2 Inv-loop μ-loop
 returns-2 c = search found-bad

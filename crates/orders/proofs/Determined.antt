@@ -1,0 +1,25 @@
+-- Two outcomes that satisfy the contract of a public function of this crate are equal.
+-- Assumes nothing.
+use mathlib.Core.Path.{refl}
+use Rattle.bits.specs.Outcomes.{Determined}
+use Rattle.bits.proofs.Determined.{same}
+use Rattle.orders.proofs.third.Kinds as third-kinds
+use Rattle.orders.proofs.third.Reads as third-reads
+use Rattle.orders.proofs.image.Kinds as image-kinds
+use Rattle.orders.proofs.image.Reads as image-reads
+use Rattle.orders.proofs.follow.Kinds as follow-kinds
+use Rattle.orders.proofs.follow.Reads as follow-reads
+use Rattle.orders.proofs.inverse.Kinds as inverse-kinds
+use Rattle.orders.proofs.inverse.Reads as inverse-reads
+
+pub third-determined : Determined 0 third-kinds.ps third-kinds.r third-reads.Learnt
+third-determined κs a z z′ ws ws′ p q = (same p q, refl)
+
+pub image-determined : Determined 0 image-kinds.ps image-kinds.r image-reads.Learnt
+image-determined κs a z z′ ws ws′ p q = (same p q, refl)
+
+pub follow-determined : Determined 0 follow-kinds.ps follow-kinds.r follow-reads.Learnt
+follow-determined κs a z z′ ws ws′ p q = (same p q, refl)
+
+pub inverse-determined : Determined 0 inverse-kinds.ps inverse-kinds.r inverse-reads.Learnt
+inverse-determined κs a z z′ ws ws′ p q = (same p q, refl)

@@ -1,0 +1,4 @@
+pub mod CodeLaws
+pub mod OrderLaws
+pub mod Tables
+pub mod Determined

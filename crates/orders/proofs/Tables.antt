@@ -1,0 +1,70 @@
+-- The tables of the codes and of the orders: what stands past their ends, and that the table of thirds is the definition, by one computed test.
+-- Assumes nothing.
+use mathlib.Core.Path.{_≡_, refl, sym, ap, _∙_}
+use mathlib.Core.Bool.{Bool, true, false, _&&_}
+use mathlib.Core.List.{List, [], _∷_}
+use Prim.Native.Nat.{ℕ, zero, suc, _≤_, _<_}
+use native.Mathlib.Nat.{le-trans}
+use borrow.Author.Tests.{eqb-true, leb-true, lt-ltb, le-ltb}
+use lib.Dec.{eqb, leb}
+use lib.ListN.{length, getD, List·getD-eq-default}
+use Rattle.bits.proofs.Bools.{both-true, all-at₂}
+use Rattle.orders.specs.Codes.{third, thirdOf}
+use Rattle.orders.specs.Orders.{images, image, followings, follow, inverses, inverse}
+
+-- ---- past the end of a table
+
+-- each row has at most w entries
+narrow : ℕ → List (List ℕ) → Bool
+narrow w [] = true
+narrow w (r ∷ t) = leb (length r) w && narrow w t
+
+row-past : (t : List (List ℕ)) (p q : ℕ) → length t ≤ p → 0 ≡ getD (getD t p []) q 0
+row-past t p q h = sym (ap (λ (r : List ℕ). getD r q 0) (List·getD-eq-default t [] {n = p} h))
+
+column-past : (w : ℕ) (t : List (List ℕ)) → narrow w t ≡ true → (p q : ℕ) → w ≤ q → 0 ≡ getD (getD t p []) q 0
+unfolding narrow
+column-past w [] e p q h = refl
+column-past w (r ∷ t) e zero q h = sym (List·getD-eq-default r 0 {n = q} (le-trans (leb-true (length r) w (both-true (leb (length r) w) (narrow w t) e .0)) h))
+column-past w (r ∷ t) e (suc p) q h = column-past w t (both-true (leb (length r) w) (narrow w t) e .1) p q h
+
+module _ (o x : ℕ) where
+  pub image-no-order : 6 ≤ o → 0 ≡ image o x
+  unfolding image
+  image-no-order h = row-past images o x h
+
+  pub image-no-code : 3 ≤ x → 0 ≡ image o x
+  unfolding image narrow
+  image-no-code h = column-past 3 images refl o x h
+
+module _ (p q : ℕ) where
+  pub follow-no-first : 6 ≤ p → 0 ≡ follow p q
+  unfolding follow
+  follow-no-first h = row-past followings p q h
+
+  pub follow-no-second : 6 ≤ q → 0 ≡ follow p q
+  unfolding follow narrow
+  follow-no-second h = column-past 6 followings refl p q h
+
+pub inverse-no-order : (o : ℕ) → 6 ≤ o → 0 ≡ inverse o
+unfolding inverse
+inverse-no-order o h = sym (List·getD-eq-default inverses 0 {n = o} h)
+
+-- ---- the third of two codes
+
+-- row x, column y
+abbrev pub thirds : List (List ℕ)
+thirds = (1 ∷ 2 ∷ 1 ∷ []) ∷ (2 ∷ 0 ∷ 0 ∷ []) ∷ (1 ∷ 0 ∷ 0 ∷ []) ∷ []
+
+module _ (x y : ℕ) where
+  pub third-in : x < 3 → y < 3 → getD (getD thirds x []) y 0 ≡ thirdOf x y
+  unfolding thirdOf third
+  third-in hx hy = eqb-true _ _ (all-at₂ 3 3 (λ x y. eqb (getD (getD thirds x []) y 0) (thirdOf x y)) refl x y hx hy)
+
+  pub third-no-first : 3 ≤ x → 0 ≡ thirdOf x y
+  unfolding thirdOf
+  third-no-first h = simp (le-ltb x 3 h)
+
+  pub third-no-second : x < 3 → 3 ≤ y → 0 ≡ thirdOf x y
+  unfolding thirdOf
+  third-no-second hx h = simp (lt-ltb x 3 hx, le-ltb y 3 h)

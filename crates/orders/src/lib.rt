@@ -1,0 +1,86 @@
+// Literal codes by themselves: the third of two codes, and the six orders of the codes 0, 1, 2. Each rule is a small constant table.
+ghost use mathlib.Core.Path.{_≡_};
+ghost use Rattle.orders.specs.Codes.{thirdOf};
+ghost use Rattle.orders.specs.Orders.{image, follow, inverse};
+
+// Row x, column y: the remaining one of the codes 0, 1, 2.
+const THIRD: [[u8; 3]; 3] = [[1, 2, 1], [2, 0, 0], [1, 0, 0]];
+
+// Row o: what the order o makes of 0, 1 and 2.
+const IMAGE: [[u8; 3]; 6] = [
+    [0, 1, 2],
+    [0, 2, 1],
+    [1, 0, 2],
+    [1, 2, 0],
+    [2, 0, 1],
+    [2, 1, 0],
+];
+
+// Row p, column q: the order p followed by the order q.
+const FOLLOW: [[u8; 6]; 6] = [
+    [0, 1, 2, 3, 4, 5],
+    [1, 0, 3, 2, 5, 4],
+    [2, 4, 0, 5, 1, 3],
+    [3, 5, 1, 4, 0, 2],
+    [4, 2, 5, 0, 3, 1],
+    [5, 3, 4, 1, 2, 0],
+];
+
+// The order that takes each order back.
+const INVERSE: [u8; 6] = [0, 1, 2, 4, 3, 5];
+
+// The third of two different codes; 0 where one of them is no code.
+pub fn third(x: u8, y: u8) -> u8
+    ensures { λ r. ⌜ r ≡ thirdOf x y ⌝ }
+{
+    if 3 <= x {
+        return 0;
+    }
+    if 3 <= y {
+        return 0;
+    }
+    let row = x as usize;
+    let column = y as usize;
+    THIRD[row][column]
+}
+
+// What the order o makes of the code x; 0 where there is no such order or code.
+pub fn image(o: u8, x: u8) -> u8
+    ensures { λ r. ⌜ r ≡ image o x ⌝ }
+{
+    if 6 <= o {
+        return 0;
+    }
+    if 3 <= x {
+        return 0;
+    }
+    let row = o as usize;
+    let column = x as usize;
+    IMAGE[row][column]
+}
+
+// The order p followed by the order q; 0 where there is no such order.
+pub fn follow(p: u8, q: u8) -> u8
+    ensures { λ r. ⌜ r ≡ follow p q ⌝ }
+{
+    if 6 <= p {
+        return 0;
+    }
+    if 6 <= q {
+        return 0;
+    }
+    let row = p as usize;
+    let column = q as usize;
+    FOLLOW[row][column]
+}
+
+// The order that takes the order o back; 0 where there is no such order.
+pub fn inverse(o: u8) -> u8
+    ensures { λ r. ⌜ r ≡ inverse o ⌝ }
+{
+    if 6 <= o {
+        return 0;
+    }
+    let at = o as usize;
+    INVERSE[at]
+}
