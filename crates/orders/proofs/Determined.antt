@@ -11,6 +11,8 @@ use Rattle.orders.proofs.follow.Kinds as follow-kinds
 use Rattle.orders.proofs.follow.Reads as follow-reads
 use Rattle.orders.proofs.inverse.Kinds as inverse-kinds
 use Rattle.orders.proofs.inverse.Reads as inverse-reads
+use Rattle.orders.proofs.letter_order.Kinds as letter-order-kinds
+use Rattle.orders.proofs.letter_order.Reads as letter-order-reads
 
 pub third-determined : Determined 0 third-kinds.ps third-kinds.r third-reads.Learnt
 third-determined κs a z z′ ws ws′ p q = (same p q, refl)
@@ -23,3 +25,6 @@ follow-determined κs a z z′ ws ws′ p q = (same p q, refl)
 
 pub inverse-determined : Determined 0 inverse-kinds.ps inverse-kinds.r inverse-reads.Learnt
 inverse-determined κs a z z′ ws ws′ p q = (same p q, refl)
+
+pub letter-order-determined : Determined 0 letter-order-kinds.ps letter-order-kinds.r letter-order-reads.Learnt
+letter-order-determined κs a z z′ ws ws′ p q = (same p q, refl)

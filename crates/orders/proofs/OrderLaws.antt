@@ -1,9 +1,9 @@
 -- The six orders are the permutations of the codes 0, 1, 2, and the table of following one by another is their group: each fact one computed test.
 -- Assumes nothing.
-use mathlib.Core.Path.{_≡_, refl, sym, ap, _∙_}
+use mathlib.Core.Path.{_≡_, refl, ap}
 use mathlib.Core.Logic.{_≢_}
 use mathlib.Core.Bool.{Bool, true, false, not, cond, _&&_, _||_}
-use Prim.Native.Nat.{ℕ, zero, suc, _+_, _*_, _≤_, _<_}
+use Prim.Native.Nat.{ℕ, zero, suc, _+_, _*_, _<_}
 use native.Mathlib.Omega.{arith}
 use lib.Dec.{eqb, ltb}
 use borrow.Author.Tests.{eqb-true, eq-eqb, ne-eqb, ltb-true}
@@ -37,7 +37,7 @@ orders-distinct p q hp hq h =
     same p q = allBelow 3 (λ x. eqb (image p x) (image q x))
 
 -- and there are no others
-pub record IsOrder (σ : ℕ → ℕ) (o : ℕ) : Type 0 where
+pub record IsImage (σ : ℕ → ℕ) (o : ℕ) : Type 0 where
   pub order : o < orderCount
   pub images : (x : ℕ) → x < 3 → σ x ≡ image o x
 
@@ -52,7 +52,7 @@ permutation-named x y z hx hy hz d e f =
     (or-right (eqb y x) (eqb z x || (eqb z y || named (orderOf x y z) x y z)) (ne-eqb y x d)
     (all-at₃ 3 3 3 (λ x y z. eqb y x || (eqb z x || (eqb z y || named (orderOf x y z) x y z))) refl x y z hx hy hz)))
 
-pub permutation-order : (σ : ℕ → ℕ) → Permutes σ → IsOrder σ (orderOf (σ 0) (σ 1) (σ 2))
+pub permutation-order : (σ : ℕ → ℕ) → Permutes σ → IsImage σ (orderOf (σ 0) (σ 1) (σ 2))
 unfolding named
 permutation-order σ s =
     let lt = s .bound in

@@ -1,7 +1,7 @@
 // Literal codes by themselves: the third of two codes, and the six orders of the codes 0, 1, 2. Each rule is a small constant table.
 ghost use mathlib.Core.Path.{_≡_};
 ghost use Rattle.orders.specs.Codes.{thirdOf};
-ghost use Rattle.orders.specs.Orders.{image, follow, inverse};
+ghost use Rattle.orders.specs.Orders.{image, follow, inverse, letterOrder};
 
 // Row x, column y: the remaining one of the codes 0, 1, 2.
 const THIRD: [[u8; 3]; 3] = [[1, 2, 1], [2, 0, 0], [1, 0, 0]];
@@ -83,4 +83,14 @@ pub fn inverse(o: u8) -> u8
     }
     let at = o as usize;
     INVERSE[at]
+}
+
+// The order of an L step: its literal's code and 2 exchanged.
+pub fn letter_order(literal: u8) -> u8
+    ensures { λ r. ⌜ r ≡ letterOrder literal ⌝ }
+{
+    if literal == 0 {
+        return 5;
+    }
+    1
 }

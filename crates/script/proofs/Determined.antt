@@ -1,0 +1,39 @@
+-- Two outcomes that satisfy the contract of a public function of this crate are equal.
+-- Assumes nothing.
+use mathlib.Core.Path.{_≡_, refl, sym, ap, _∙_}
+use mathlib.Core.List.{List, [], _∷_}
+use Prim.Native.Nat.{ℕ}
+use lib.ListN.{getD}
+use Rattle.bits.specs.Outcomes.{Determined}
+use Rattle.bits.proofs.Determined.{same, same-told}
+use Rattle.records.specs.Answers.{Outcome, accepted, refused, counted}
+use Rattle.records.proofs.Answering.{counted-back, counted-known}
+use Rattle.script.specs.declared.Finished.{Finished}
+use Rattle.script.specs.declared.Finished.the-variants as finished-is
+use Rattle.script.specs.Calls.{finished}
+use Rattle.script.proofs.check.step_at.Kinds as step-at-kinds
+use Rattle.script.proofs.check.step_at.Reads as step-at-reads
+use Rattle.script.proofs.check.check_script.Kinds as check-script-kinds
+use Rattle.script.proofs.check.check_script.Reads as check-script-reads
+use Rattle.script.proofs.run.run.Kinds as run-kinds
+use Rattle.script.proofs.run.run.Reads as run-reads
+
+-- the run's answer, read back
+pub finished-back : Outcome → Finished
+finished-back (accepted v) = finished-is.Done (getD v 0 0) (getD v 1 0)
+finished-back (refused r) = finished-is.Refused r
+
+pub finished-known : (a : Finished) → finished-back (finished a) ≡ a
+unfolding finished-back
+finished-known (finished-is.Done count peak) = refl
+finished-known (finished-is.Refused r) = refl
+
+pub step-at-determined : Determined 1 step-at-kinds.ps step-at-kinds.r step-at-reads.Learnt
+step-at-determined κs a z z′ ws ws′ p q = (same p q, refl)
+
+pub check-script-determined : Determined 1 check-script-kinds.ps check-script-kinds.r check-script-reads.Learnt
+check-script-determined κs a z z′ ws ws′ p q = (same-told counted counted-back counted-known p q, refl)
+
+pub run-determined : Determined 3 run-kinds.ps run-kinds.r run-reads.Learnt
+run-determined κs a z z′ ws ws′ p q =
+    (same-told finished finished-back finished-known (p .0) (q .0), ap (λ (b : List ℕ). (tt, (tt, (tt, (b, tt))))) (same (p .1) (q .1)))

@@ -1,0 +1,10 @@
+pub mod Pending
+pub mod Value
+pub mod Counting
+pub mod Codec
+pub mod Stopping
+pub mod Reading
+pub mod Running
+pub mod Undoing
+pub mod RunLaws
+pub mod Determined

@@ -1,0 +1,49 @@
+-- `run::check_run` meets its contract.
+-- Assumes nothing.
+use mathlib.Core.Path.{_≡_, sym, ap, _∙_}
+use Rattle.records.specs.Answers.{counted}
+use Rattle.script.proofs.RunLaws.{run-list-refused, run-short, run-script}
+use borrow.Author.Needs.{needs}
+use Rattle.script.proofs.run.check_run.Statement.{statement}
+use Rattle.script.proofs.run.check_run.Tie as tie
+
+check-requires : tie.Need-check-requires
+check-requires c κs = search needs
+
+enum-known-r : tie.Need-enum-known-r
+enum-known-r c = search needs
+
+enum-told : tie.Need-enum-told
+enum-told c = search needs
+
+capacity-requires : tie.Need-capacity-requires
+capacity-requires c κs = search needs
+
+new-requires : tie.Need-new-requires
+new-requires c κs = search needs
+
+returns : tie.Need-returns
+returns c = run-short _ _ _ _ _ (sym (c .before .before .before .before .before .check .ensures) ∙ ap counted (c .before .before .before .enum-told .given .1)) _ (c .before .before .capacity .ensures) _ (c .new .ensures) (c .before .if1 .taken)
+
+check-script-requires : tie.Need-check-script-requires
+check-script-requires c κs = search needs
+
+returns-2 : tie.Need-returns-2
+returns-2 c = run-list-refused _ _ _ _ _ (sym (c .before .before .before .check .ensures) ∙ ap counted (c .before .r .given .1))
+
+returns-3 : tie.Need-returns-3
+returns-3 c = c .check-script .ensures ∙ run-script _ _ _ _ _ (sym (c .before .before .before .before .before .check .ensures) ∙ ap counted (c .before .before .before .enum-told .given .1)) _ (c .before .before .capacity .ensures) (c .before .if1 .left)
+
+pub check-run-spec : {M : Type 1} → statement M
+check-run-spec =
+    tie.close
+    (tie.spec
+    check-requires
+    enum-known-r
+    enum-told
+    capacity-requires
+    new-requires
+    returns
+    check-script-requires
+    returns-2
+    returns-3)

@@ -1,0 +1,59 @@
+-- The call `run`: what it answers, and what it leaves in the work buffer. Document 01, "Refusal numbers and places".
+-- Assumes nothing.
+use Prim.Native.Nat.{ℕ, _/_, _%_}
+use mathlib.Core.List.{List, [], _∷_}
+use lib.Dec.{leb, eqb}
+use lib.ListN.{length}
+use Rattle.records.specs.Records.{listOf, image, zeros}
+use Rattle.records.specs.Answers.{Outcome, accepted, refused, refusal, unless, unlessAt, andThen}
+use Rattle.cube.specs.Lists.{mostVariables, cubes, cubesOf, cubeCapacity}
+use Rattle.cube.specs.Calls.{checkList}
+use Rattle.script.specs.declared.Finished.{Finished}
+use Rattle.script.specs.declared.Finished.the-variants as finished-is
+use Rattle.script.specs.Run.{Ran, stopped, ended, run}
+use Rattle.script.specs.Scripts.{stepRecords, stepWidth, mostSteps, fits, stepsOf}
+
+-- 7, 8, and 9 at the "lowest such step": a script over n variables; accepted, it has so many steps
+unfoldable pub checkScript : ℕ → List ℕ → Outcome
+checkScript n b =
+    unless (eqb (length b % stepWidth) 0) 7 0
+    (unless (leb (length b / stepWidth) mostSteps) 8 0
+    (unlessAt (fits n) 9 (listOf stepRecords b)
+    (accepted (length (listOf stepRecords b) ∷ []))))
+
+-- "Run: 1 to 5, 7, 8, 9", before any step, in a work buffer of so many bytes
+unfoldable pub checkRun : ℕ → List ℕ → List ℕ → ℕ → Outcome
+checkRun n list script size =
+    andThen (checkList mostVariables n list)
+    (unless (leb (length (cubesOf list)) (cubeCapacity size)) 5 0
+    (checkScript n script))
+
+-- "then steps in turn, each 10, 11, 12, 13": the run of an accepted list and script
+unfoldable pub runOf : ℕ → List ℕ → List ℕ → ℕ → Ran
+runOf n list script size = run n (cubeCapacity size) (stepsOf script) (cubesOf list)
+
+abbrev pub ranOutcome : Ran → Outcome
+ranOutcome (stopped number step) = refused (refusal number step)
+ranOutcome (ended l peak) = accepted (length l ∷ peak ∷ [])
+
+-- "run, count and peak"
+unfoldable pub runOutcome : ℕ → List ℕ → List ℕ → ℕ → Outcome
+runOutcome n list script size = andThen (checkRun n list script size) (ranOutcome (runOf n list script size))
+
+-- "One found at a step leaves every byte of the work buffer zero"; "An accepted run fills the front of the work buffer with its list and clears the rest"
+abbrev pub ranWork : ℕ → Ran → List ℕ
+ranWork size (stopped number step) = zeros size
+ranWork size (ended l peak) = image cubes size l
+
+-- "A refusal found before the first step writes nothing"
+abbrev pub workAfter : Outcome → List ℕ → Ran → List ℕ
+workAfter (accepted values) work r = ranWork (length work) r
+workAfter (refused r) work ran = work
+
+unfoldable pub runAfter : ℕ → List ℕ → List ℕ → List ℕ → List ℕ
+runAfter n list script work = workAfter (checkRun n list script (length work)) work (runOf n list script (length work))
+
+-- document 01's number and values for each case of the answer
+abbrev pub finished : Finished → Outcome
+finished (finished-is.Done count peak) = accepted (count ∷ peak ∷ [])
+finished (finished-is.Refused r) = refused r

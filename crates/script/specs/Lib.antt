@@ -1,0 +1,6 @@
+pub mod Run
+pub mod Counts
+pub mod Pending
+pub mod Scripts
+pub mod Calls
+pub mod Progress

@@ -1,0 +1,145 @@
+// The records of a script, and their check: refusals 7, 8 and 9.
+use records::Counted;
+use records::Refusal;
+use steps::StepRecord;
+ghost use mathlib.Core.Path.{_≡_};
+ghost use mathlib.Core.Bool.{true};
+ghost use lib.ListN.{length, getD};
+ghost use Rattle.bits.specs.Sums.{firstBad};
+ghost use Rattle.records.specs.Words.{wordOf};
+ghost use Rattle.records.specs.Records.{listOf};
+ghost use Rattle.records.specs.Answers.{counted};
+ghost use Rattle.script.specs.Scripts.{stepRecords, known, usesV, usesI, usesJ, usesLiteral, field, fits};
+ghost use Rattle.script.specs.Calls.{checkScript};
+
+// Bytes of a step's record.
+pub const STEP_WIDTH: usize = 8;
+
+// Steps of a script, at most.
+pub const MOST_STEPS: usize = 1024;
+
+// The number of two bytes, as a place.
+fn place(low: u8, high: u8) -> usize
+    ensures { λ r. ⌜ r ≡ wordOf low high ⌝ }
+{
+    records::words::word(low, high) as usize
+}
+
+// The record of step k, or one that is all zero past the end.
+pub fn step_at(script: &[u8], k: usize) -> StepRecord
+    ensures { λ r. ⌜ r ≡ getD (listOf stepRecords (now (script .entry))) k (stepRecords .none) ⌝ }
+{
+    if script.len() / STEP_WIDTH <= k {
+        return StepRecord {
+            op: 0,
+            v: 0,
+            i: 0,
+            j: 0,
+            literal: 0,
+            zero: 0,
+        };
+    }
+    let at = STEP_WIDTH * k;
+    let i = place(script[at + 2], script[at + 3]);
+    let j = place(script[at + 4], script[at + 5]);
+    StepRecord {
+        op: script[at],
+        v: script[at + 1],
+        i,
+        j,
+        literal: script[at + 6],
+        zero: script[at + 7],
+    }
+}
+
+// An operation from 1 to 5.
+fn known(op: u8) -> bool
+    ensures { λ r. ⌜ r ≡ known op ⌝ }
+{
+    1 <= op && op <= 5
+}
+
+// Which operations use j: drop, join and turn.
+fn uses_j(op: u8) -> bool
+    ensures { λ r. ⌜ r ≡ usesJ op ⌝ }
+{
+    op <= 2 || op == 4
+}
+
+// A field that is used passes its test, and one that is not is zero.
+fn field(used: bool, test: bool, x: usize) -> bool
+    ensures { λ r. ⌜ r ≡ field used test x ⌝ }
+{
+    if used {
+        return test;
+    }
+    x == 0
+}
+
+// Whether the place j is zero where the operation does not use it.
+fn j_fits(op: u8, j: usize) -> bool
+    ensures { λ r. ⌜ r ≡ field (usesJ op) true j ⌝ }
+{
+    field(uses_j(op), true, j)
+}
+
+// Whether a step passes rule 9 over n variables.
+fn fits(n: usize, x: StepRecord) -> bool
+    ensures { λ r. ⌜ r ≡ fits n x ⌝ }
+{
+    let op = x.op;
+    let v = x.v as usize;
+    let literal = x.literal as usize;
+    if !known(op) {
+        return false;
+    }
+    if !field(3 <= op, v < n, v) {
+        return false;
+    }
+    if !field(op <= 4, true, x.i) {
+        return false;
+    }
+    if !j_fits(op, x.j) {
+        return false;
+    }
+    if !field(op == 5, literal <= 1, literal) {
+        return false;
+    }
+    x.zero == 0
+}
+
+// The lowest step that breaks rule 9, or the number of steps.
+fn first_bad(n: usize, script: &[u8]) -> usize
+    ensures { λ r. ⌜ r ≡ firstBad (fits n) (listOf stepRecords (now (script .entry))) ⌝ }
+{
+    let count = script.len() / STEP_WIDTH;
+    let mut k: usize = 0;
+    let found = loop {
+        if count <= k {
+            break count;
+        }
+        if !fits(n, step_at(script, k)) {
+            break k;
+        }
+        k += 1;
+    };
+    found
+}
+
+// Checking a script over n variables: refusals 7, 8 and 9, or the number of its steps.
+pub fn check_script(n: usize, script: &[u8]) -> Counted
+    ensures { λ r. ⌜ counted r ≡ checkScript n (now (script .entry)) ⌝ }
+{
+    if script.len() % STEP_WIDTH != 0 {
+        return Counted::Refused(Refusal::new(7, 0));
+    }
+    let count = script.len() / STEP_WIDTH;
+    if MOST_STEPS < count {
+        return Counted::Refused(Refusal::new(8, 0));
+    }
+    let bad = first_bad(n, script);
+    if bad != count {
+        return Counted::Refused(Refusal::new(9, bad));
+    }
+    Counted::Count(count)
+}

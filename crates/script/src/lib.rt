@@ -1,0 +1,21 @@
+// Running a script on a list of cubes, in a lent work buffer.
+pub mod check;
+pub mod run;
+
+use records::Refusal;
+
+// What a run answers: the count and the peak, or a refusal.
+pub enum Finished {
+    Done(usize, usize),
+    Refused(Refusal),
+}
+
+// How far the steps went: to the end, with the count, the peak and an order pending for each variable; or to a refusal.
+pub struct Progress {
+    pub done: bool,
+    pub number: u8,
+    pub place: usize,
+    pub count: usize,
+    pub peak: usize,
+    pub pending: [u8; 16],
+}

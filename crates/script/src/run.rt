@@ -1,0 +1,173 @@
+// Running a script: the steps in turn, and then the undoing of what is pending.
+use crate::Finished;
+use crate::Progress;
+use crate::check;
+use records::Counted;
+use records::Refusal;
+use steps::StepRecord;
+use steps::Stepped;
+ghost use mathlib.Core.Path.{_≡_};
+ghost use mathlib.Core.Bool.{true};
+ghost use mathlib.Core.List.{map};
+ghost use Prim.Native.Nat.{_≤_, _<_, max};
+ghost use lib.ListN.{length};
+ghost use Rattle.bits.specs.Sums.{All};
+ghost use Rattle.records.specs.Records.{Held, records, listOf, image};
+ghost use Rattle.records.specs.Answers.{counted};
+ghost use Rattle.cube.specs.Cubes.{Good};
+ghost use Rattle.cube.specs.Lists.{cubes, mostVariables};
+ghost use Rattle.orders.specs.Orders.{orderCount, inverse};
+ghost use Rattle.steps.specs.Steps.{meaning, reordered};
+ghost use Rattle.steps.specs.Calls.{Ready};
+ghost use Rattle.script.specs.Pending.{pendStep, restored};
+ghost use Rattle.script.specs.Scripts.{stepRecords, fits, stepsOf};
+ghost use Rattle.script.specs.Progress.{Stepping, Passed, Answered};
+ghost use Rattle.script.specs.Calls.{checkRun, runOutcome, runAfter, finished};
+
+// No order is pending at any variable.
+const NONE_PENDING: [u8; 16] = [0; 16];
+
+fn larger(a: usize, b: usize) -> usize
+    ensures { λ r. ⌜ r ≡ max a b ⌝ }
+{
+    if a < b {
+        return b;
+    }
+    a
+}
+
+// What is pending after one more step: the order of an L step follows that of its variable.
+fn pended(pending: [u8; 16], x: StepRecord) -> [u8; 16]
+    ensures { λ r. ⌜ r ≡ pendStep pending (meaning x) ⌝ }
+{
+    let op = x.op;
+    let v = x.v as usize;
+    if op < 5 {
+        return pending;
+    }
+    if 16 <= v {
+        return pending;
+    }
+    let mut next = pending;
+    let before = next[v];
+    next[v] = orders::follow(before, orders::letter_order(x.literal));
+    next
+}
+
+// The steps of a script in turn, on the first records of the work buffer; a refusal clears it.
+fn run_steps(work: &mut [u8], n: usize, first: usize, cap: usize, script: &[u8]) -> Progress
+    requires { ⌜ Ready n first cap (now work) ⌝ }
+    requires { ⌜ All (λ r. fits n r ≡ true) (listOf stepRecords (now script)) ⌝ }
+    ensures { λ r. ⌜ Stepping n cap first (stepsOf (now (script .entry))) (now (work .entry)) (now (work .exit)) r ⌝ }
+{
+    let steps = script.len() / check::STEP_WIDTH;
+    let mut count = first;
+    let mut peak = first;
+    let mut pending = [0u8; 16];
+    let mut k = 0;
+    while k < steps {
+        let x = check::step_at(script, k);
+        let stepped = steps::step::do_step(work, n, count, cap, x);
+        match stepped {
+            Stepped::Refused(number) => {
+                records::clear(work);
+                return Progress {
+                    done: false,
+                    number,
+                    place: k,
+                    count: 0,
+                    peak: 0,
+                    pending: [0u8; 16],
+                };
+            }
+            Stepped::Count(next) => {
+                count = next;
+            }
+        }
+        peak = larger(peak, count);
+        let after = pended(pending, x);
+        pending = after;
+        k += 1;
+    }
+    Progress {
+        done: true,
+        number: 0,
+        place: 0,
+        count,
+        peak,
+        pending,
+    }
+}
+
+// The order o, pending at the variable v, taken back in every record; nothing to do where it is no order.
+fn undo_at(work: &mut [u8], count: usize, v: u8, o: u8)
+    requires { ⌜ Held cubes count (now work) ⌝ }
+    requires { ⌜ All (Good mostVariables) (records cubes count (now work)) ⌝ }
+    requires { ⌜ (v < mostVariables) × (o < orderCount) ⌝ }
+    ensures { λ _. ⌜ now (work .exit) ≡ image cubes (length (now (work .entry))) (map (reordered v (inverse o)) (records cubes count (now (work .entry)))) ⌝ }
+{
+    if o == 0 {
+        return;
+    }
+    steps::reorder::reorder(work, count, v, orders::inverse(o));
+}
+
+// What is pending at the n variables taken back in every record.
+fn undo(work: &mut [u8], n: usize, count: usize, pending: [u8; 16])
+    requires { ⌜ Held cubes count (now work) ⌝ }
+    requires { ⌜ All (Good mostVariables) (records cubes count (now work)) ⌝ }
+    requires { ⌜ n ≤ mostVariables ⌝ }
+    requires { ⌜ All (λ o. o < orderCount) pending ⌝ }
+    ensures { λ _. ⌜ now (work .exit) ≡ image cubes (length (now (work .entry))) (map (restored n pending) (records cubes count (now (work .entry)))) ⌝ }
+{
+    let mut v: usize = 0;
+    while v < n {
+        let o = pending[v];
+        undo_at(work, count, v as u8, o);
+        v += 1;
+    }
+}
+
+// Refusals 1 to 5, 7, 8 and 9, or the count of the list's records.
+fn check_run(n: usize, list: &[u8], script: &[u8], size: usize) -> Counted
+    ensures { λ r. ⌜ counted r ≡ checkRun n (now (list .entry)) (now (script .entry)) size ⌝ }
+{
+    match cube::list::check(n, list) {
+        Counted::Refused(r) => Counted::Refused(r),
+        Counted::Count(_) => {
+            if cube::list::capacity(size) < list.len() / cube::list::RECORD_WIDTH {
+                return Counted::Refused(Refusal::new(5, 0));
+            }
+            check::check_script(n, script)
+        }
+    }
+}
+
+// The run of an accepted list and script.
+fn run_accepted(n: usize, list: &[u8], script: &[u8], work: &mut [u8]) -> Finished
+    requires { ⌜ Passed (checkRun n (now list) (now script) (length (now work))) ⌝ }
+    ensures { λ r. ⌜ Answered n (now (list .entry)) (now (script .entry)) (now (work .entry)) (now (work .exit)) r ⌝ }
+{
+    let first = list.len() / cube::list::RECORD_WIDTH;
+    let cap = cube::list::capacity(work.len());
+    records::fill(work, list);
+    let p = run_steps(work, n, first, cap, script);
+    let done = p.done;
+    if done {
+        let pending = p.pending;
+        undo(work, n, p.count, pending);
+        return Finished::Done(p.count, p.peak);
+    }
+    Finished::Refused(Refusal::new(p.number, p.place))
+}
+
+// Runs a script on a list: refusals 1 to 5, 7, 8, 9 before anything is written, then 10 to 13 at a step; or the count and the peak.
+pub fn run(n: usize, list: &[u8], script: &[u8], work: &mut [u8]) -> Finished
+    ensures { λ r. ⌜ finished r ≡ runOutcome n (now (list .entry)) (now (script .entry)) (length (now (work .entry))) ⌝ }
+    ensures { λ _. ⌜ now (work .exit) ≡ runAfter n (now (list .entry)) (now (script .entry)) (now (work .entry)) ⌝ }
+{
+    match check_run(n, list, script, work.len()) {
+        Counted::Refused(r) => Finished::Refused(r),
+        Counted::Count(_) => run_accepted(n, list, script, work),
+    }
+}

@@ -1,0 +1,16 @@
+pub mod Linear
+pub mod Places
+pub mod Balanced
+pub mod Inversion
+pub mod Decisions
+pub mod Kept
+pub mod ApartFrom
+pub mod Rules
+pub mod Transformation
+pub mod Commute
+pub mod Deciding
+pub mod Making
+pub mod Performing
+pub mod Reordering
+pub mod Stepping
+pub mod Determined

@@ -1,0 +1,196 @@
+-- A step on the work buffer, put together: what each call asks, what the step answers and leaves, and that the buffer is ready for the next step.
+-- Assumes nothing.
+use mathlib.Core.Path.{_≡_, sym, ap, _∙_, subst}
+use mathlib.Core.List.{List, [], _∷_, map}
+use Prim.Native.Nat.{ℕ, _*_, _/_, _≤_, _<_}
+use native.Mathlib.Nat.{lt-of-lt-of-le}
+use native.Mathlib.Omega.{arith}
+use lib.ListN.{length, getD, length-map}
+use Rattle.bits.specs.Sums.{All}
+use Rattle.records.specs.Records.{Held, Holds, records, image}
+use Rattle.records.proofs.Images.{length-image}
+use Rattle.records.proofs.Holding.{length-records, held-fits, holds-held, holds-records, image-holds}
+use Rattle.cube.specs.declared.Cube.{Cube}
+use Rattle.cube.specs.Cubes.{code, put, one, Good}
+use Rattle.cube.specs.Lists.{cubes, recordWidth, mostVariables}
+use Rattle.cube.proofs.Codes.{code-lt, good-more}
+use Rattle.cube.proofs.ListLaws.{lawful, good-narrow, good-at}
+use Rattle.orders.specs.Orders.{orderCount, letterOrder}
+use Rattle.orders.proofs.OrderLaws.{image-letter, letter-lt}
+use Rattle.steps.specs.declared.Change.{Change}
+use Rattle.steps.specs.declared.StepRecord.{StepRecord}
+use Rattle.steps.specs.declared.Stepped.{Stepped}
+use Rattle.steps.specs.declared.Stepped.the-variants as stepped-is
+use Rattle.steps.specs.Moves.{Move, refuse, drops, joins, splits, turns, After, next, applied, dropAt, joinAt, splitAt, turnAt}
+use Rattle.steps.specs.Steps.{Step, drop, join, split, turn, L, meaning, exchanged, reordered, dropMove, joinMove, splitMove, turnMove, step, cubeAt}
+use Rattle.steps.specs.Calls.{Ready, Known, workStepped}
+use Rattle.steps.specs.Changes.{moveOf, Placed, Writes, Narrow, Decided, Done}
+use Rattle.steps.proofs.Performing.{length-drop, length-join, length-split, length-turn}
+use Rattle.steps.proofs.Reordering.{reordered-good}
+use Rattle.steps.proofs.Making.{means, means-fits, drop-placed, join-placed, turn-placed, split-placed}
+
+-- ---- L
+
+-- "that literal's code and 2 are exchanged" is one of the six orders
+pub exchanged-is : (v b : ℕ) (c : Cube) → b < 2 → exchanged v b c ≡ reordered v (letterOrder b) c
+unfolding exchanged reordered
+exchanged-is v b c h = ap (put c v) (sym (image-letter b (code c v) h (code-lt c v)))
+
+all-more : (m n : ℕ) (l : List Cube) → m ≤ n → All (Good m) l → All (Good n) l
+all-more m n [] h a = tt {0}
+all-more m n (c ∷ l) h a = (good-more m n c h (a .0), all-more m n l h (a .1))
+
+all-reordered : (n v o : ℕ) → v < n → o < orderCount → (l : List Cube) → All (Good n) l → All (Good n) (map (reordered v o) l)
+all-reordered n v o hv ho [] a = tt {0}
+all-reordered n v o hv ho (c ∷ l) a = (reordered-good n v o c (a .0) hv ho, all-reordered n v o hv ho l (a .1))
+
+module _ (n count cap : ℕ) (b : List ℕ) (ready : Ready n count cap b) where
+  pub ready-good : All (Good mostVariables) (records cubes count b)
+  ready-good = all-more n mostVariables (records cubes count b) (ready .few) (ready .good)
+
+  pub look-good : (i : ℕ) (c : Cube) → c ≡ getD (records cubes count b) i one → Good n c
+  look-good i c e = subst (Good n) (sym e) (good-at n (records cubes count b) (ready .good) i)
+
+  module _ (x : StepRecord) (known : Known n x) where
+    pub not-letter : (x .op ≡ 5 → ⊥) → x .op < 5
+    not-letter ne = omega (arith, known .most)
+
+    module _ (op : x .op ≡ 5) where
+      letter-fits : (x .v < n) × (x .literal < 2)
+      letter-fits = means-fits x n 5 op known
+
+      pub letter-variable : x .v < mostVariables
+      letter-variable = lt-of-lt-of-le (letter-fits .0) (ready .few)
+
+      pub letter-order : (o : ℕ) → o ≡ letterOrder (x .literal) → o < orderCount
+      letter-order o e = subst (λ (p : ℕ). p < orderCount) (sym e) (letter-lt (x .literal))
+
+      pub letter-done : (o : ℕ) (b′ : List ℕ) → o ≡ letterOrder (x .literal) → b′ ≡ image cubes (length b) (map (reordered (x .v) o) (records cubes count b))
+          → Done b b′ (step n cap (meaning x) (records cubes count b)) (stepped-is.Count count)
+      unfolding step
+      letter-done o b′ eo e =
+          let l : List Cube = records cubes count b in
+          let same : map (reordered (x .v) o) l ≡ map (exchanged (x .v) (x .literal)) l =
+          ap (λ (p : ℕ). map (reordered (x .v) p) l) eo ∙ sym (λ t. map (λ c. exchanged-is (x .v) (x .literal) c (letter-fits .1) t) l) in
+          subst (λ (y : Step). Done b b′ (step n cap y l) (stepped-is.Count count)) (sym (means x 5 op)) (record {
+            answer = ap stepped-is.Count (sym (length-map l (exchanged (x .v) (x .literal)) ∙ length-records cubes count b));
+            buffer = e ∙ ap (image cubes (length b)) same;
+          })
+
+  -- ---- a drop, join, split or turn
+
+  module _ (x : StepRecord) (c d : Cube) (change : Change) (made : Decided n count cap x c d change) where
+    placed-more : (i j room : ℕ) (m : Move Cube) → cap ≤ room → Placed count cap i j m → Placed count room i j m
+    unfolding Placed
+    placed-more i j room (refuse number) h p = tt {0}
+    placed-more i j room drops h p = p
+    placed-more i j room (joins y) h p = p
+    placed-more i j room (splits y z) h p = record { inside = p .inside; more = lt-of-lt-of-le (p .more) h }
+    placed-more i j room (turns y z) h p = p
+
+    pub step-placed : Placed count (length b / recordWidth) (x .i) (x .j) (moveOf change)
+    step-placed = placed-more (x .i) (x .j) (length b / recordWidth) (moveOf change) (omega (arith, ready .room)) (made .placed)
+
+    writes-narrow : (m : Move Cube) → Writes (Good n) m → Writes Narrow m
+    unfolding Writes Narrow
+    writes-narrow (refuse number) w = tt {0}
+    writes-narrow drops w = tt {0}
+    writes-narrow (joins y) w = good-narrow n y (ready .few) w
+    writes-narrow (splits y z) w = (good-narrow n y (ready .few) (w .0), good-narrow n z (ready .few) (w .1))
+    writes-narrow (turns y z) w = (good-narrow n y (ready .few) (w .0), good-narrow n z (ready .few) (w .1))
+
+    pub step-narrow : Writes Narrow (moveOf change)
+    step-narrow = writes-narrow (moveOf change) (made .good)
+
+    pub step-done : c ≡ getD (records cubes count b) (x .i) one → d ≡ getD (records cubes count b) (x .j) one → (b′ : List ℕ) (r : Stepped)
+        → Done b b′ (applied one (x .i) (x .j) (records cubes count b) (moveOf change)) r
+        → Done b b′ (step n cap (meaning x) (records cubes count b)) r
+    step-done ec ed b′ r done =
+        subst (λ (e : After Cube). Done b b′ e r) (sym (made .makes (records cubes count b) (length-records cubes count b) ec ed)) done
+
+-- ---- the next list fits the buffer, which is then ready for the next step
+
+module _ (cap room : ℕ) (l m : List Cube) (many : length l ≤ room) (most : cap ≤ room) where
+  applied-fits : (i j : ℕ) (x : Move Cube) → Placed (length l) cap i j x → applied one i j l x ≡ next m → length m ≤ room
+  unfolding applied Placed
+  applied-fits i j (refuse number) p e = let z : _≡_ {A = ℕ} 0 1 = cc in absurd (omega arith)
+  applied-fits i j drops p e = let q : dropAt one l i j ≡ m = cc in omega (arith, ap length q, length-drop one l i j)
+  applied-fits i j (joins x) p e = let q : joinAt one l i j x ≡ m = cc in omega (arith, ap length q, length-join one l i j x)
+  applied-fits i j (splits x y) p e = let q : splitAt l i x y ≡ m = cc in omega (arith, ap length q, length-split one l i j x y, p .more)
+  applied-fits i j (turns x y) p e = let q : turnAt l i j x y ≡ m = cc in omega (arith, ap length q, length-turn one l i j x y)
+
+  pub step-fits : (n : ℕ) (x : Step) → step n cap x l ≡ next m → length m ≤ room
+  unfolding step
+  step-fits n (drop i j) e = applied-fits i j (dropMove n (length l) i j (cubeAt l i) (cubeAt l j)) (drop-placed (length l) cap i j n (cubeAt l i) (cubeAt l j)) e
+  step-fits n (join i j) e = applied-fits i j (joinMove n (length l) i j (cubeAt l i) (cubeAt l j)) (join-placed (length l) cap i j n (cubeAt l i) (cubeAt l j)) e
+  step-fits n (split v i) e = applied-fits i 0 (splitMove (length l) cap v i (cubeAt l i)) (split-placed (length l) cap i 0 v (cubeAt l i)) e
+  step-fits n (turn v i j) e =
+      applied-fits i j (turnMove n (length l) v i j (cubeAt l i) (cubeAt l j)) (turn-placed (length l) cap i j n v (cubeAt l i) (cubeAt l j)) e
+  step-fits n (L v b) e = let q : map (exchanged v b) l ≡ m = cc in omega (arith, ap length q, length-map l (exchanged v b))
+
+-- a buffer in which the next list was put
+module _ (n count cap : ℕ) (b b′ : List ℕ) (m : List Cube) (ready : Ready n count cap b) (fits : recordWidth * length m ≤ length b)
+    (e : b′ ≡ image cubes (length b) m) where
+  next-holds : Holds cubes b′ m
+  next-holds = subst (λ (t : List ℕ). Holds cubes t m) (sym e) (image-holds cubes lawful (length b) m fits)
+
+  next-records : records cubes (length m) b′ ≡ m
+  next-records = holds-records cubes lawful b′ m next-holds
+
+  next-long : length b′ ≡ length b
+  unfolding image
+  next-long = ap length e ∙ length-image (cubes .enc) recordWidth (lawful .len) (length b) m fits
+
+  next-ready : All (Good n) m → Ready n (length m) cap b′
+  next-ready good = record {
+    held = holds-held cubes lawful b′ m next-holds;
+    good = subst (All (Good n)) (sym next-records) good;
+    few = ready .few;
+    room = subst (λ (k : ℕ). recordWidth * cap ≤ k) (sym next-long) (ready .room);
+  }
+
+-- after an accepted step
+module _ (n count cap : ℕ) (b b′ : List ℕ) (x : Step) (m : List Cube) (ready : Ready n count cap b)
+    (e : step n cap x (records cubes count b) ≡ next m) (e′ : b′ ≡ workStepped b (step n cap x (records cubes count b))) where
+  step-room : recordWidth * length m ≤ length b
+  step-room =
+      let h : length m ≤ length b / recordWidth =
+      step-fits cap (length b / recordWidth) (records cubes count b) m
+      (omega (arith, length-records cubes count b, held-fits cubes lawful count b (ready .held))) (omega (arith, ready .room)) n x e in
+      omega arith
+
+  step-image : b′ ≡ image cubes (length b) m
+  step-image = e′ ∙ ap (workStepped b) e
+
+  -- the records of the buffer are the next list, and zeros stand after them
+  pub step-records : records cubes (length m) b′ ≡ m
+  step-records = next-records n count cap b b′ m ready step-room step-image
+
+  pub step-held : Held cubes (length m) b′
+  step-held = holds-held cubes lawful b′ m (next-holds n count cap b b′ m ready step-room step-image)
+
+  pub step-long : length b′ ≡ length b
+  step-long = next-long n count cap b b′ m ready step-room step-image
+
+  -- where the next list is good, the buffer is ready again
+  pub step-ready : All (Good n) m → Ready n (length m) cap b′
+  step-ready good = next-ready n count cap b b′ m ready step-room step-image good
+
+-- after the codes at a variable were moved by an order
+module _ (n count cap v o : ℕ) (b b′ : List ℕ) (ready : Ready n count cap b) (e : b′ ≡ image cubes (length b) (map (reordered v o) (records cubes count b))) where
+  reordered-many : length (map (reordered v o) (records cubes count b)) ≡ count
+  reordered-many = length-map (records cubes count b) (reordered v o) ∙ length-records cubes count b
+
+  reordered-room : recordWidth * length (map (reordered v o) (records cubes count b)) ≤ length b
+  reordered-room = rw reordered-many (held-fits cubes lawful count b (ready .held))
+
+  pub reordered-records : records cubes count b′ ≡ map (reordered v o) (records cubes count b)
+  reordered-records =
+      ap (λ (k : ℕ). records cubes k b′) (sym reordered-many)
+      ∙ next-records n count cap b b′ (map (reordered v o) (records cubes count b)) ready reordered-room e
+
+  pub reordered-ready : v < n → o < orderCount → Ready n count cap b′
+  reordered-ready hv ho =
+      subst (λ (k : ℕ). Ready n k cap b′) reordered-many
+      (next-ready n count cap b b′ (map (reordered v o) (records cubes count b)) ready reordered-room e
+      (all-reordered n v o hv ho (records cubes count b) (ready .good)))

@@ -1,0 +1,25 @@
+-- `steps::decide::decide_drop` meets its contract.
+-- Assumes nothing.
+use borrow.Author.Needs.{needs}
+use Rattle.steps.proofs.Deciding.{drop-places, drop-unlike, drop-equal}
+use Rattle.steps.proofs.decide.decide_drop.Statement.{statement}
+use Rattle.steps.proofs.decide.decide_drop.Tie as tie
+
+two-places-requires : tie.Need-two-places-requires
+two-places-requires c κs = search needs
+
+returns : tie.Need-returns
+returns c = search drop-places
+
+differing-requires : tie.Need-differing-requires
+differing-requires c κs = search needs
+
+returns-2 : tie.Need-returns-2
+returns-2 c = search drop-unlike
+
+returns-3 : tie.Need-returns-3
+returns-3 c = search drop-equal
+
+pub decide-drop-spec : {M : Type 1} → statement M
+decide-drop-spec =
+    tie.close (tie.spec two-places-requires returns differing-requires returns-2 returns-3)

@@ -1,0 +1,29 @@
+-- `steps::decide::decide_join` meets its contract.
+-- Assumes nothing.
+use borrow.Author.Needs.{needs}
+use Rattle.steps.proofs.Deciding.{join-places, join-unlike, join-third}
+use Rattle.steps.proofs.decide.decide_join.Statement.{statement}
+use Rattle.steps.proofs.decide.decide_join.Tie as tie
+
+two-places-requires : tie.Need-two-places-requires
+two-places-requires c κs = search needs
+
+returns : tie.Need-returns
+returns c = search join-places
+
+differing-requires : tie.Need-differing-requires
+differing-requires c κs = search needs
+
+returns-2 : tie.Need-returns-2
+returns-2 c = search join-unlike
+
+third-at-requires : tie.Need-third-at-requires
+third-at-requires c κs = search needs
+
+returns-3 : tie.Need-returns-3
+returns-3 c = search join-third
+
+pub decide-join-spec : {M : Type 1} → statement M
+decide-join-spec =
+    tie.close
+    (tie.spec two-places-requires returns differing-requires returns-2 third-at-requires returns-3)

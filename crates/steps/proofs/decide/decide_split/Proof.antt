@@ -1,0 +1,43 @@
+-- `steps::decide::decide_split` meets its contract.
+-- Assumes nothing.
+use borrow.Author.Needs.{needs}
+use Rattle.steps.proofs.Deciding.{split-place, split-full, split-halves}
+use Rattle.steps.proofs.decide.decide_split.Statement.{statement}
+use Rattle.steps.proofs.decide.decide_split.Tie as tie
+
+returns : tie.Need-returns
+returns c = search split-place
+
+returns-2 : tie.Need-returns-2
+returns-2 c = search split-full
+
+code-at-requires : tie.Need-code-at-requires
+code-at-requires c κs = search needs
+
+lower-requires : tie.Need-lower-requires
+lower-requires c κs = search needs
+
+with-code-requires : tie.Need-with-code-requires
+with-code-requires c κs = search needs
+
+higher-requires : tie.Need-higher-requires
+higher-requires c κs = search needs
+
+with-code-requires-2 : tie.Need-with-code-requires-2
+with-code-requires-2 c κs = search needs
+
+returns-3 : tie.Need-returns-3
+returns-3 c = search split-halves
+
+pub decide-split-spec : {M : Type 1} → statement M
+decide-split-spec =
+    tie.close
+    (tie.spec
+    returns
+    returns-2
+    code-at-requires
+    lower-requires
+    with-code-requires
+    higher-requires
+    with-code-requires-2
+    returns-3)

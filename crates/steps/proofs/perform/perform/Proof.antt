@@ -1,0 +1,132 @@
+-- `steps::perform::perform` meets its contract.
+-- Assumes nothing.
+use Prim.Native.Nat.{_/_, _<_}
+use native.Mathlib.Omega.{arith}
+use lib.ListN.{length}
+use denote.Ref.{now}
+use borrow.Author.Needs.{needs}
+use Rattle.cube.specs.Lists.{recordWidth}
+use Rattle.cube.proofs.ListLaws.{lawful}
+use Rattle.steps.proofs.Performing.{removed-held, perform-refuse, drop-larger, drop-smaller, drop-one, drop-two, perform-drop, join-one, join-below, join-held, perform-join, split-room, perform-split, perform-turn}
+use Rattle.steps.proofs.perform.perform.Statement.{statement}
+use Rattle.steps.proofs.perform.perform.Tie as tie
+
+enum-known-change : tie.Need-enum-known-change
+enum-known-change c = search needs
+
+enum-told : tie.Need-enum-told
+enum-told c = search needs
+
+larger-requires : tie.Need-larger-requires
+larger-requires c κs = search needs
+
+remove-requires : tie.Need-remove-requires
+remove-requires c κs = (search needs, search drop-larger)
+
+sub-remove : tie.Need-sub-remove
+sub-remove c = search drop-one
+
+smaller-requires : tie.Need-smaller-requires
+smaller-requires c κs = search needs
+
+remove-requires-2 : tie.Need-remove-requires-2
+remove-requires-2 c κs = (search (removed-held, lawful), search drop-smaller)
+
+sub-t16 : tie.Need-sub-t16
+sub-t16 c = search drop-two
+
+enum-known-change-2 : tie.Need-enum-known-change-2
+enum-known-change-2 c = search needs
+
+put-cube-requires : tie.Need-put-cube-requires
+put-cube-requires c κs = search needs
+
+remove-requires-3 : tie.Need-remove-requires-3
+remove-requires-3 c κs = (search join-held, search join-below)
+
+sub-t25 : tie.Need-sub-t25
+sub-t25 c = search join-one
+
+enum-known-change-3 : tie.Need-enum-known-change-3
+enum-known-change-3 c = search needs
+
+put-cube-requires-2 : tie.Need-put-cube-requires-2
+put-cube-requires-2 c κs = search needs
+
+put-cube-requires-3 : tie.Need-put-cube-requires-3
+put-cube-requires-3 c κs = search needs
+
+add-t31 : tie.Need-add-t31
+add-t31 c =
+    let start = c .before .before .before .before .before .before .before .before .before .before .before .before in
+    let room : start .args .count < length (now (start .args .work)) / recordWidth = search split-room in
+    omega arith
+
+enum-known-change-4 : tie.Need-enum-known-change-4
+enum-known-change-4 c = search needs
+
+put-cube-requires-4 : tie.Need-put-cube-requires-4
+put-cube-requires-4 c κs = search needs
+
+put-cube-requires-5 : tie.Need-put-cube-requires-5
+put-cube-requires-5 c κs = search needs
+
+returns : tie.Need-returns
+returns c = search perform-refuse
+
+same-length : tie.Need-same-length
+same-length c = search needs
+
+returns-2 : tie.Need-returns-2
+returns-2 c = search perform-drop
+
+same-length-2 : tie.Need-same-length-2
+same-length-2 c = search needs
+
+returns-3 : tie.Need-returns-3
+returns-3 c = search perform-join
+
+same-length-3 : tie.Need-same-length-3
+same-length-3 c = search needs
+
+returns-4 : tie.Need-returns-4
+returns-4 c = search perform-split
+
+same-length-4 : tie.Need-same-length-4
+same-length-4 c = search needs
+
+returns-5 : tie.Need-returns-5
+returns-5 c = search perform-turn
+
+pub perform-spec : {M : Type 1} → statement M
+perform-spec =
+    tie.close
+    (tie.spec
+    enum-known-change
+    enum-told
+    larger-requires
+    remove-requires
+    sub-remove
+    smaller-requires
+    remove-requires-2
+    sub-t16
+    enum-known-change-2
+    put-cube-requires
+    remove-requires-3
+    sub-t25
+    enum-known-change-3
+    put-cube-requires-2
+    put-cube-requires-3
+    add-t31
+    enum-known-change-4
+    put-cube-requires-4
+    put-cube-requires-5
+    returns
+    same-length
+    returns-2
+    same-length-2
+    returns-3
+    same-length-3
+    returns-4
+    same-length-4
+    returns-5)

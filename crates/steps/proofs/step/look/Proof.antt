@@ -1,0 +1,20 @@
+-- `steps::step::look` meets its contract.
+-- Assumes nothing.
+use borrow.Author.Needs.{needs}
+use Rattle.cube.specs.Lists.{cubes}
+use Rattle.cube.proofs.ListLaws.{lawful}
+use Rattle.steps.proofs.Performing.{look-past, look-in}
+use Rattle.steps.proofs.step.look.Statement.{statement}
+use Rattle.steps.proofs.step.look.Tie as tie
+
+returns : tie.Need-returns
+returns c = look-past cubes _ _ _ (c .if1 .taken)
+
+cube-at-requires : tie.Need-cube-at-requires
+cube-at-requires c κs = search needs
+
+returns-2 : tie.Need-returns-2
+returns-2 c = search (look-in, lawful)
+
+pub look-spec : {M : Type 1} → statement M
+look-spec = tie.close (tie.spec returns cube-at-requires returns-2)

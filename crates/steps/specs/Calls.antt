@@ -1,0 +1,38 @@
+-- One step on a work buffer: what it needs, answers and leaves.
+-- Assumes nothing.
+use Prim.Native.Nat.{ℕ, _*_, _≤_}
+use mathlib.Core.List.{List}
+use lib.ListN.{length}
+use Rattle.bits.specs.Sums.{All}
+use Rattle.records.specs.Records.{Held, records, image}
+use Rattle.cube.specs.declared.Cube.{Cube}
+use Rattle.cube.specs.Cubes.{Good}
+use Rattle.cube.specs.Lists.{cubes, recordWidth, mostVariables}
+use Rattle.steps.specs.declared.StepRecord.{StepRecord}
+use Rattle.steps.specs.declared.Stepped.{Stepped}
+use Rattle.steps.specs.declared.Stepped.the-variants as stepped-is
+use Rattle.steps.specs.Moves.{After, stop, next}
+use Rattle.steps.specs.Steps.{Fits, meaning}
+
+-- the work buffer holds `count` good cubes over n variables, zeros after them, and has room for cap
+pub record Ready (n count cap : ℕ) (work : List ℕ) : Type 0 where
+  pub held : Held cubes count work
+  pub good : All (Good n) (records cubes count work)
+  pub few : n ≤ mostVariables
+  pub room : recordWidth * cap ≤ length work
+
+-- what refusal 9 leaves of a step's record: a known operation, with "a used v" below n and "a used literal" at most 1
+pub record Known (n : ℕ) (x : StepRecord) : Type 0 where
+  pub least : 1 ≤ x .op
+  pub most : x .op ≤ 5
+  pub fits : Fits n (meaning x)
+
+-- the answer of a step
+abbrev pub stepped : After Cube → Stepped
+stepped (stop number) = stepped-is.Refused number
+stepped (next l) = stepped-is.Count (length l)
+
+-- the work buffer after it: the next list and zeros after it; refused, it is as it was
+abbrev pub workStepped : List ℕ → After Cube → List ℕ
+workStepped work (stop number) = work
+workStepped work (next l) = image cubes (length work) l

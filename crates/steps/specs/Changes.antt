@@ -1,0 +1,93 @@
+-- What the functions of this crate promise one another: a change as a move, the places of a move, and what is done to the work buffer.
+-- Assumes nothing.
+use mathlib.Core.Path.{_≡_}
+use mathlib.Core.Bool.{Bool, cond, _&&_}
+use mathlib.Core.List.{List}
+use Prim.Native.Nat.{ℕ, _^_, _<_}
+use lib.Dec.{eqb, ltb}
+use lib.ListN.{length}
+use Rattle.bits.specs.Bits.{withBit}
+use Rattle.bits.specs.Sums.{oneIf}
+use Rattle.cube.specs.declared.Cube.{Cube}
+use Rattle.cube.specs.Cubes.{Good, one}
+use Rattle.cube.specs.Lists.{narrow}
+use Rattle.orders.specs.Orders.{image}
+use Rattle.steps.specs.declared.Change.{Change}
+use Rattle.steps.specs.declared.Change.the-variants as change-is
+use Rattle.steps.specs.declared.reorder.Masks.{Masks}
+use Rattle.steps.specs.declared.StepRecord.{StepRecord}
+use Rattle.steps.specs.declared.Stepped.{Stepped}
+use Rattle.steps.specs.Moves.{Move, refuse, drops, joins, splits, turns, After, applied}
+use Rattle.steps.specs.Steps.{cubeAt, meaning, step}
+use Rattle.steps.specs.Calls.{stepped, workStepped}
+
+-- the move that a change is
+unfoldable pub moveOf : Change → Move Cube
+moveOf (change-is.Refuse number) = refuse number
+moveOf change-is.Drop = drops
+moveOf (change-is.Join c) = joins c
+moveOf (change-is.Split c d) = splits c d
+moveOf (change-is.Turn c d) = turns c d
+
+-- the number that two places are refused by, 10 or 11, or 0
+unfoldable pub placesNumber : ℕ → ℕ → ℕ → ℕ
+placesNumber count i j = cond (ltb i count && ltb j count) (cond (eqb i j) 11 0) 10
+
+-- two places of so many records, and not the same
+pub record TwoPlaces (count i j : ℕ) : Type 0 where
+  pub first : i < count
+  pub second : j < count
+  pub unlike : i ≡ j → ⊥
+
+-- a place of so many records, and room for one record more
+pub record OnePlace (count room i : ℕ) : Type 0 where
+  pub inside : i < count
+  pub more : count < room
+
+-- the places of a move are places of the list, and where it adds a record there is room
+unfoldable pub Placed : {A : Type 0} → ℕ → ℕ → ℕ → ℕ → Move A → Type 0
+Placed count room i j (refuse number) = Unit {0}
+Placed count room i j drops = TwoPlaces count i j
+Placed count room i j (joins x) = TwoPlaces count i j
+Placed count room i j (splits x y) = OnePlace count room i
+Placed count room i j (turns x y) = TwoPlaces count i j
+
+-- P holds of every record that a move writes
+unfoldable pub Writes : {A : Type 0} → (A → Type 0) → Move A → Type 0
+Writes P (refuse number) = Unit {0}
+Writes P drops = Unit {0}
+Writes P (joins x) = P x
+Writes P (splits x y) = P x × P y
+Writes P (turns x y) = P x × P y
+
+-- a cube that fits its record
+unfoldable pub Narrow : Cube → Type 0
+Narrow c = narrow c ≡ c
+
+-- what is decided of a step, from the cubes a and b at its places: the step makes this change, at places of the list, with good cubes
+pub record Decided (n count cap : ℕ) (x : StepRecord) (a b : Cube) (change : Change) : Type 0 where
+  pub makes : (l : List Cube) → length l ≡ count → a ≡ cubeAt l (x .i) → b ≡ cubeAt l (x .j)
+      → step n cap (meaning x) l ≡ applied one (x .i) (x .j) l (moveOf change)
+  pub placed : Placed count cap (x .i) (x .j) (moveOf change)
+  pub good : Writes (Good n) (moveOf change)
+
+-- what a step does: its answer, and the work buffer after it
+pub record Done (work work′ : List ℕ) (e : After Cube) (r : Stepped) : Type 0 where
+  pub answer : r ≡ stepped e
+  pub buffer : work′ ≡ workStepped work e
+
+-- bit v where the test passes
+abbrev pub flag : ℕ → Bool → ℕ
+flag v t = withBit 0 v (oneIf t)
+
+-- the order o at the variable v, as masks
+unfoldable pub masksAt : ℕ → ℕ → Masks
+masksAt v o = record {
+  at = 2 ^ v;
+  seen0 = flag v (ltb (image o 0) 2);
+  seen1 = flag v (ltb (image o 1) 2);
+  seen2 = flag v (ltb (image o 2) 2);
+  value0 = flag v (eqb (image o 0) 1);
+  value1 = flag v (eqb (image o 1) 1);
+  value2 = flag v (eqb (image o 2) 1);
+}

@@ -1,0 +1,4 @@
+pub mod Moves
+pub mod Steps
+pub mod Calls
+pub mod Changes

@@ -1,0 +1,44 @@
+-- A step is a decision, and then a change of the list: what is written where, for any kind of record. Document 01, "The steps of a script".
+-- Assumes nothing.
+use Prim.Native.Nat.{ℕ, min, max}
+use mathlib.Core.List.{List, [], _∷_, _++_}
+use lib.ListN.{set}
+use Rattle.records.specs.Places.{removeAt}
+
+-- what is decided: refused by a number; both removed; one record for two; two for one; two for two
+pub data Move (A : Type 0) : Type 0 where
+  refuse : ℕ → Move A
+  drops : Move A
+  joins : A → Move A
+  splits : A → A → Move A
+  turns : A → A → Move A
+
+-- what comes of it: refused by a number, or the next list
+pub data After (A : Type 0) : Type 0 where
+  stop : ℕ → After A
+  next : List A → After A
+
+module _ {A : Type 0} (d : A) where
+  -- "both removed"; "Drop removes the greater place first"
+  unfoldable pub dropAt : List A → ℕ → ℕ → List A
+  dropAt l i j = removeAt d (removeAt d l (max i j)) (min i j)
+
+  -- "Join writes i first and then removes j"
+  unfoldable pub joinAt : List A → ℕ → ℕ → A → List A
+  joinAt l i j x = removeAt d (set l i x) j
+
+-- one "stays at i", the other "is appended"
+unfoldable pub splitAt : {A : Type 0} → List A → ℕ → A → A → List A
+splitAt l i x y = set l i x ++ (y ∷ [])
+
+-- one is written at i, the other at j
+unfoldable pub turnAt : {A : Type 0} → List A → ℕ → ℕ → A → A → List A
+turnAt l i j x y = set (set l i x) j y
+
+-- the move made at places i and j
+unfoldable pub applied : {A : Type 0} → A → ℕ → ℕ → List A → Move A → After A
+applied d i j l (refuse r) = stop r
+applied d i j l drops = next (dropAt d l i j)
+applied d i j l (joins x) = next (joinAt d l i j x)
+applied d i j l (splits x y) = next (splitAt l i x y)
+applied d i j l (turns x y) = next (turnAt l i j x y)

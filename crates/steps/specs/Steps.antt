@@ -1,0 +1,106 @@
+-- The five steps of a script on a list of cubes. Document 01, "The steps of a script"; 000's rules S1 to S6, 1S, 2S and definition 4.1.
+-- Assumes nothing.
+use Prim.Native.Nat.{ℕ, zero, suc, _<_}
+use mathlib.Core.Bool.{Bool, true, false, cond, _&&_}
+use mathlib.Core.List.{List, [], _∷_, map}
+use lib.Dec.{eqb, ltb}
+use lib.ListN.{length, getD}
+use Rattle.cube.specs.declared.Cube.{Cube}
+use Rattle.cube.specs.Cubes.{code, put, one, apart}
+use Rattle.orders.specs.Codes.{third, lower, higher, exchange}
+use Rattle.orders.specs.Orders.{image}
+use Rattle.steps.specs.declared.StepRecord.{StepRecord}
+use Rattle.steps.specs.Moves.{Move, refuse, drops, joins, splits, turns, After, stop, next, applied}
+
+pub data Step : Type 0 where
+  drop : ℕ → ℕ → Step
+  join : ℕ → ℕ → Step
+  split : ℕ → ℕ → Step
+  turn : ℕ → ℕ → ℕ → Step
+  L : ℕ → ℕ → Step
+
+-- what refusal 9 leaves: "a used v" below n, "a used literal" at most 1
+abbrev pub Fits : ℕ → Step → Type 0
+Fits n (drop i j) = Unit {0}
+Fits n (join i j) = Unit {0}
+Fits n (split v i) = v < n
+Fits n (turn v i j) = v < n
+Fits n (L v b) = (v < n) × (b < 2)
+
+-- the step of a record, by its operation: 1 drop, 2 join, 3 split, 4 turn, 5 L
+abbrev pub meaningBy : ℕ → StepRecord → Step
+meaningBy zero r = drop (r .i) (r .j)
+meaningBy (suc zero) r = drop (r .i) (r .j)
+meaningBy (suc (suc zero)) r = join (r .i) (r .j)
+meaningBy (suc (suc (suc zero))) r = split (r .v) (r .i)
+meaningBy (suc (suc (suc (suc zero)))) r = turn (r .v) (r .i) (r .j)
+meaningBy (suc (suc (suc (suc (suc op))))) r = L (r .v) (r .literal)
+
+unfoldable pub meaning : StepRecord → Step
+meaning r = meaningBy (r .op) r
+
+-- the cube at a place; past the end the product with no literal
+abbrev pub cubeAt : List Cube → ℕ → Cube
+cubeAt l i = getD l i one
+
+-- c with the third of c's and d's codes at v
+abbrev pub thirdAt : Cube → Cube → ℕ → Cube
+thirdAt c d v = put c v (third (code c v) (code d v))
+
+-- ---- decisions: from the count, the places and the cubes as they stand
+
+-- 10: "a used i or j not below the present count"; 11: "i equals j in a step with two cubes"
+abbrev pub twoPlaces : ℕ → ℕ → ℕ → Move Cube → Move Cube
+twoPlaces count i j m = cond (ltb i count && ltb j count) (cond (eqb i j) (refuse 11) m) (refuse 10)
+
+-- drop needs "equal cubes": by the variables in which they differ
+abbrev pub dropped : List ℕ → Move Cube
+dropped [] = drops
+dropped (v ∷ vs) = refuse 12
+
+unfoldable pub dropMove : ℕ → ℕ → ℕ → ℕ → Cube → Cube → Move Cube
+dropMove n count i j a b = twoPlaces count i j (dropped (apart n a b))
+
+-- join needs cubes that "differ in exactly one variable": "i gets the third there"
+abbrev pub joined : Cube → Cube → List ℕ → Move Cube
+joined a b [] = refuse 12
+joined a b (v ∷ []) = joins (thirdAt a b v)
+joined a b (v ∷ u ∷ vs) = refuse 12
+
+unfoldable pub joinMove : ℕ → ℕ → ℕ → ℕ → Cube → Cube → Move Cube
+joinMove n count i j a b = twoPlaces count i j (joined a b (apart n a b))
+
+-- split: 10, then 13: "split with the count at capacity"
+unfoldable pub splitMove : ℕ → ℕ → ℕ → ℕ → Cube → Move Cube
+splitMove count cap v i a =
+    cond (ltb i count) (cond (ltb count cap) (splits (put a v (lower (code a v))) (put a v (higher (code a v)))) (refuse 13)) (refuse 10)
+
+-- turn needs cubes that "differ in exactly two variables, v one of them": "i gets the third at v; j gets the third at the other variable"
+abbrev pub turned : Cube → Cube → ℕ → List ℕ → Move Cube
+turned a b v [] = refuse 12
+turned a b v (p ∷ []) = refuse 12
+turned a b v (p ∷ q ∷ []) =
+    cond (eqb v p) (turns (thirdAt a b p) (thirdAt b a q)) (cond (eqb v q) (turns (thirdAt a b q) (thirdAt b a p)) (refuse 12))
+turned a b v (p ∷ q ∷ r ∷ vs) = refuse 12
+
+unfoldable pub turnMove : ℕ → ℕ → ℕ → ℕ → ℕ → Cube → Cube → Move Cube
+turnMove n count v i j a b = twoPlaces count i j (turned a b v (apart n a b))
+
+-- ---- L
+
+-- "in every cube, at v, that literal's code and 2 are exchanged" (000, definition 4.1)
+unfoldable pub exchanged : ℕ → ℕ → Cube → Cube
+exchanged v b c = put c v (exchange b (code c v))
+
+-- a cube with its code at v moved by one of the six orders
+unfoldable pub reordered : ℕ → ℕ → Cube → Cube
+reordered v o c = put c v (image o (code c v))
+
+-- ---- one step on a list of cubes over n variables, with room for cap of them
+
+unfoldable pub step : ℕ → ℕ → Step → List Cube → After Cube
+step n cap (drop i j) l = applied one i j l (dropMove n (length l) i j (cubeAt l i) (cubeAt l j))
+step n cap (join i j) l = applied one i j l (joinMove n (length l) i j (cubeAt l i) (cubeAt l j))
+step n cap (split v i) l = applied one i 0 l (splitMove (length l) cap v i (cubeAt l i))
+step n cap (turn v i j) l = applied one i j l (turnMove n (length l) v i j (cubeAt l i) (cubeAt l j))
+step n cap (L v b) l = next (map (exchanged v b) l)

@@ -1,0 +1,150 @@
+// Decisions, on values alone: from the count, the places and the cubes at them, what a step does.
+use crate::Change;
+use crate::StepRecord;
+use cube::Cube;
+ghost use mathlib.Core.Path.{_≡_};
+ghost use Prim.Native.Nat.{_^_, _<_, _≤_};
+ghost use Rattle.cube.specs.Cubes.{code, withCode, Good};
+ghost use Rattle.cube.specs.Lists.{mostVariables};
+ghost use Rattle.orders.specs.Codes.{third, lower, higher};
+ghost use Rattle.steps.specs.Steps.{dropMove, joinMove, splitMove, turnMove};
+ghost use Rattle.steps.specs.Calls.{Known};
+ghost use Rattle.steps.specs.Changes.{moveOf, placesNumber, Decided};
+
+// The number that two places are refused by, 10 or 11, or 0.
+fn two_places(count: usize, i: usize, j: usize) -> u8
+    ensures { λ r. ⌜ r ≡ placesNumber count i j ⌝ }
+{
+    if count <= i {
+        return 10;
+    }
+    if count <= j {
+        return 10;
+    }
+    if i == j {
+        return 11;
+    }
+    0
+}
+
+// The set of one variable.
+fn only(v: u32) -> u32
+    requires { ⌜ v < 32 ⌝ }
+    ensures { λ r. ⌜ r ≡ 2 ^ v ⌝ }
+{
+    1 << v
+}
+
+// c with the third of c's and d's codes at v.
+fn third_at(c: Cube, d: Cube, v: u32) -> Cube
+    ensures { λ r. ⌜ r ≡ withCode c v (third (code c v) (code d v)) ⌝ }
+{
+    c.with_code(v, orders::third(c.code_at(v), d.code_at(v)))
+}
+
+// The lower of the two codes that are not x.
+fn lower(x: u8) -> u8
+    ensures { λ r. ⌜ r ≡ lower x ⌝ }
+{
+    if x == 0 {
+        return 1;
+    }
+    0
+}
+
+// The higher of them.
+fn higher(x: u8) -> u8
+    ensures { λ r. ⌜ r ≡ higher x ⌝ }
+{
+    if x == 2 {
+        return 1;
+    }
+    2
+}
+
+// Drop: 10, 11; 12 unless the cubes are equal.
+fn decide_drop(n: usize, count: usize, i: usize, j: usize, a: Cube, b: Cube) -> Change
+    requires { ⌜ Good n a × Good n b ⌝ }
+    ensures { λ r. ⌜ moveOf r ≡ dropMove n count i j a b ⌝ }
+{
+    let number = two_places(count, i, j);
+    if number != 0 {
+        return Change::Refuse(number);
+    }
+    if a.differing(b) != 0 {
+        return Change::Refuse(12);
+    }
+    Change::Drop
+}
+
+// Join: 10, 11; 12 unless they differ in exactly one variable.
+fn decide_join(n: usize, count: usize, i: usize, j: usize, a: Cube, b: Cube) -> Change
+    requires { ⌜ Good n a × Good n b ⌝ }
+    requires { ⌜ n ≤ mostVariables ⌝ }
+    ensures { λ r. ⌜ moveOf r ≡ joinMove n count i j a b ⌝ }
+{
+    let number = two_places(count, i, j);
+    if number != 0 {
+        return Change::Refuse(number);
+    }
+    let set = a.differing(b);
+    if u32::count_ones(set) != 1 {
+        return Change::Refuse(12);
+    }
+    let v = u32::trailing_zeros(set);
+    Change::Join(third_at(a, b, v))
+}
+
+// Split: 10; 13 at capacity.
+fn decide_split(count: usize, cap: usize, v: u32, i: usize, a: Cube) -> Change
+    requires { ⌜ v < 32 ⌝ }
+    ensures { λ r. ⌜ moveOf r ≡ splitMove count cap v i a ⌝ }
+{
+    if count <= i {
+        return Change::Refuse(10);
+    }
+    if cap <= count {
+        return Change::Refuse(13);
+    }
+    let x = a.code_at(v);
+    Change::Split(a.with_code(v, lower(x)), a.with_code(v, higher(x)))
+}
+
+// Turn: 10, 11; 12 unless they differ in exactly two variables, v one of them.
+fn decide_turn(n: usize, count: usize, v: u32, i: usize, j: usize, a: Cube, b: Cube) -> Change
+    requires { ⌜ Good n a × Good n b ⌝ }
+    requires { ⌜ (v < n) × (n ≤ mostVariables) ⌝ }
+    ensures { λ r. ⌜ moveOf r ≡ turnMove n count v i j a b ⌝ }
+{
+    let number = two_places(count, i, j);
+    if number != 0 {
+        return Change::Refuse(number);
+    }
+    let set = a.differing(b);
+    if u32::count_ones(set) != 2 {
+        return Change::Refuse(12);
+    }
+    if bits::bit(set, v) == 0 {
+        return Change::Refuse(12);
+    }
+    let other = u32::trailing_zeros(set ^ only(v));
+    Change::Turn(third_at(a, b, v), third_at(b, a, other))
+}
+
+// What a drop, join, split or turn does, from the cubes at its places.
+pub(crate) fn decide(n: usize, count: usize, cap: usize, x: StepRecord, a: Cube, b: Cube) -> Change
+    requires { ⌜ Good n a × Good n b ⌝ }
+    requires { ⌜ n ≤ mostVariables ⌝ }
+    requires { ⌜ Known n x ⌝ }
+    requires { ⌜ x .op < 5 ⌝ }
+    ensures { λ r. ⌜ Decided n count cap x a b r ⌝ }
+{
+    let op = x.op;
+    let v = x.v as u32;
+    match op {
+        1 => decide_drop(n, count, x.i, x.j, a, b),
+        2 => decide_join(n, count, x.i, x.j, a, b),
+        3 => decide_split(count, cap, v, x.i, a),
+        _ => decide_turn(n, count, v, x.i, x.j, a, b),
+    }
+}

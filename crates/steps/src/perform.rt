@@ -1,0 +1,76 @@
+// A change made to the records of the work buffer. Nothing else writes a drop, join, split or turn.
+use crate::Change;
+use crate::Stepped;
+use cube::Cube;
+use cube::list;
+ghost use mathlib.Core.Path.{_≡_};
+ghost use Prim.Native.Nat.{_/_, _<_, max, min};
+ghost use lib.ListN.{length};
+ghost use Rattle.records.specs.Places.{removeAt};
+ghost use Rattle.records.specs.Records.{Held, records, image};
+ghost use Rattle.cube.specs.Cubes.{one};
+ghost use Rattle.cube.specs.Lists.{cubes, recordWidth};
+ghost use Rattle.steps.specs.Moves.{applied};
+ghost use Rattle.steps.specs.Changes.{moveOf, Placed, Writes, Narrow, Done};
+
+fn smaller(i: usize, j: usize) -> usize
+    ensures { λ r. ⌜ r ≡ min i j ⌝ }
+{
+    if i < j {
+        return i;
+    }
+    j
+}
+
+fn larger(i: usize, j: usize) -> usize
+    ensures { λ r. ⌜ r ≡ max i j ⌝ }
+{
+    if i < j {
+        return j;
+    }
+    i
+}
+
+// Place i of count removed: the last record copied there, and its own place cleared.
+fn remove(work: &mut [u8], count: usize, i: usize)
+    requires { ⌜ Held cubes count (now work) ⌝ }
+    requires { ⌜ i < count ⌝ }
+    ensures { λ _. ⌜ now (work .exit) ≡ image cubes (length (now (work .entry))) (removeAt one (records cubes count (now (work .entry))) i) ⌝ }
+{
+    let last = count - 1;
+    let c = list::cube_at(work, last);
+    list::put_cube(work, i, c);
+    list::put_cube(work, last, Cube::ONE);
+}
+
+// The change made to the count records, at places i and j.
+pub(crate) fn perform(work: &mut [u8], count: usize, i: usize, j: usize, change: Change) -> Stepped
+    requires { ⌜ Held cubes count (now work) ⌝ }
+    requires { ⌜ Placed count (length (now work) / recordWidth) i j (moveOf change) ⌝ }
+    requires { ⌜ Writes Narrow (moveOf change) ⌝ }
+    ensures { λ r. ⌜ Done (now (work .entry)) (now (work .exit)) (applied one i j (records cubes count (now (work .entry))) (moveOf change)) r ⌝ }
+{
+    match change {
+        Change::Refuse(number) => Stepped::Refused(number),
+        Change::Drop => {
+            remove(work, count, larger(i, j));
+            remove(work, count - 1, smaller(i, j));
+            Stepped::Count(count - 2)
+        }
+        Change::Join(c) => {
+            list::put_cube(work, i, c);
+            remove(work, count, j);
+            Stepped::Count(count - 1)
+        }
+        Change::Split(c, d) => {
+            list::put_cube(work, i, c);
+            list::put_cube(work, count, d);
+            Stepped::Count(count + 1)
+        }
+        Change::Turn(c, d) => {
+            list::put_cube(work, i, c);
+            list::put_cube(work, j, d);
+            Stepped::Count(count)
+        }
+    }
+}
