@@ -1,0 +1,12 @@
+pub mod Subsets
+pub mod Parities
+pub mod Passing
+pub mod Moving
+pub mod Checks
+pub mod Listing
+pub mod Writing
+pub mod Choosing
+pub mod Theorems
+pub mod Uniqueness
+pub mod Examples
+pub mod Determined

@@ -1,0 +1,204 @@
+-- The list of a form: its products one by one, how many they are, and its cubes.
+-- Assumes nothing.
+use mathlib.Core.Path.{_≡_, refl, sym, ap, ap₂, _∙_, subst}
+use mathlib.Core.Bool.{Bool, true, false, cond, Bool·beq}
+use mathlib.Core.List.{List, [], _∷_, map}
+use Prim.Native.Nat.{ℕ, zero, suc, _+_, _-_, _%_, _^_, _<_, _≤_, min}
+use native.Mathlib.Nat.{add-zero, zero-add, le-refl, min-le-left, lt-of-le-of-lt}
+use native.Mathlib.Numerals.{add-one, one-add}
+use native.Mathlib.Omega.{arith}
+use lib.Bits.{bitAnd, bitXor, differ, and-le-l}
+use lib.Dec.{eqb, ltb}
+use lib.ListN.{length, drop}
+use lib.Pow.{suc-ones}
+use borrow.Author.Tests.{eqb-true, ne-eqb}
+use Rattle.bits.specs.Bits.{bit, within}
+use Rattle.bits.specs.Below.{those, sumBelow}
+use Rattle.bits.specs.Sums.{tally, oneIf, All}
+use Rattle.bits.proofs.Bools.{all-at₂, all-at₃, all-ext, beq-eq}
+use Rattle.bits.proofs.Bits.{bit-lt, bit-and, bit-xor, bit-high}
+use Rattle.bits.proofs.Below.{eqb-bits, sum-parts, sum-cong, sum-none}
+use Rattle.bits.proofs.Sums.{tally-on, tally-end}
+use Rattle.cube.specs.Cubes.{codeOf, code, met, holds, Good}
+use Rattle.cube.specs.Lists.{trues, listValue}
+use Rattle.polarity.specs.Forms.{parityWithin, valueBack, product, formFrom, countsOf}
+use Rattle.polarity.specs.Vectors.{byteAt}
+use Rattle.polarity.specs.Passes.{nonzero, countsFrom}
+
+-- ---- those of the numbers that pass a test, from the front
+
+module _ (f : ℕ → Bool) (m k : ℕ) where
+  -- the next one is one of them, or not
+  those-on : k < m → those f (m - k) k ≡ cond (f k) (k ∷ those f (m - (k + 1)) (k + 1)) (those f (m - (k + 1)) (k + 1))
+  unfolding those
+  those-on h =
+      let e : m - k ≡ suc (m - (k + 1)) = omega arith in
+      ap (λ (j : ℕ). those f j k) e ∙ ap (λ (j : ℕ). cond (f k) (k ∷ those f (m - (k + 1)) j) (those f (m - (k + 1)) j)) (sym (add-one k))
+
+  pub those-next : k < m → f k ≡ true → those f (m - k) k ≡ k ∷ those f (m - (k + 1)) (k + 1)
+  those-next h e = those-on h ∙ ap (λ (b : Bool). cond b (k ∷ those f (m - (k + 1)) (k + 1)) (those f (m - (k + 1)) (k + 1))) e
+
+  pub those-skip : k < m → f k ≡ false → those f (m - k) k ≡ those f (m - (k + 1)) (k + 1)
+  those-skip h e = those-on h ∙ ap (λ (b : Bool). cond b (k ∷ those f (m - (k + 1)) (k + 1)) (those f (m - (k + 1)) (k + 1))) e
+
+  pub those-end : m ≤ k → those f (m - k) k ≡ []
+  unfolding those
+  those-end h = let e : m - k ≡ 0 = omega arith in ap (λ (j : ℕ). those f j k) e
+
+pub those-same : (f g : ℕ → Bool) (m k : ℕ) → ((s : ℕ) → k ≤ s → s < k + m → f s ≡ g s) → those f m k ≡ those g m k
+unfolding those
+those-same f g zero k h = refl
+those-same f g (suc m) k h = ap₂ (λ (b : Bool) (l : List ℕ). cond b (k ∷ l) l) (h k (le-refl k) (omega arith)) (those-same f g m (suc k) (λ s g l. h s (omega arith) (omega arith)))
+
+-- what holds of each that passes
+pub all-those : {A : Type 0} (P : A → Type 0) (h : ℕ → A) (f : ℕ → Bool) (m k : ℕ) → ((s : ℕ) → k ≤ s → s < k + m → P (h s)) → All P (map h (those f m k))
+unfolding those
+all-those P h f zero k a = tt
+all-those P h f (suc m) k a = go (f k) (all-those P h f m (suc k) (λ s l u. a s (omega arith) (omega arith)))
+  where
+    go : (b : Bool) → All P (map h (those f m (suc k))) → All P (map h (cond b (k ∷ those f m (suc k)) (those f m (suc k))))
+    go true r = (a k (le-refl k) (omega arith), r)
+    go false r = r
+
+-- a tally of them is a sum
+tally-step : {A : Type 0} (w : A → Bool) (h : ℕ → A) (b : Bool) (k : ℕ) (l : List ℕ)
+    → tally w (map h (cond b (k ∷ l) l)) ≡ cond b (oneIf (w (h k))) 0 + tally w (map h l)
+unfolding tally
+tally-step w h true k l = refl
+tally-step w h false k l = sym (zero-add (tally w (map h l)))
+
+pub tally-those : {A : Type 0} (w : A → Bool) (h : ℕ → A) (f : ℕ → Bool) (m k : ℕ)
+    → tally w (map h (those f m k)) ≡ sumBelow m (λ t. cond (f (k + t)) (oneIf (w (h (k + t)))) 0)
+unfolding those tally sumBelow
+tally-those w h f zero k = refl
+tally-those w h f (suc m) k =
+    let F : ℕ → ℕ = λ t. cond (f t) (oneIf (w (h t))) 0 in
+    let G : ℕ → ℕ = λ t. F (k + t) in
+    tally-step w h (f k) k (those f m (suc k))
+    ∙ ap (λ (x : ℕ). F k + x)
+    (tally-those w h f m (suc k)
+    ∙ sum-cong m (λ t. F (suc k + t)) (λ t. G (1 + t)) (λ t b. let e : suc k + t ≡ k + (1 + t) = omega arith in ap F e))
+    ∙ sym (ap (λ (x : ℕ). sumBelow x G) (sym (one-add m)) ∙ sum-parts 1 m G
+    ∙ ap (λ (x : ℕ). x + sumBelow m (λ t. G (1 + t))) (zero-add (G 0) ∙ ap F (add-zero k)))
+
+-- ---- how many products
+
+length-map : {A B : Type 0} (h : A → B) (l : List A) → length (map h l) ≡ length l
+length-map h [] = refl
+length-map h (x ∷ l) = ap suc (length-map h l)
+
+module _ (w : ℕ → Bool) (l : List ℕ) where
+  length-those : (m k : ℕ) → m + k ≡ length l → length (those (λ s. w (byteAt l s)) m k) ≡ tally w (drop k l)
+  unfolding those
+  length-those zero k e = sym (tally-end w 0 l k (omega arith))
+  length-those (suc m) k e =
+      let le : k < length l = omega arith in
+      step (w (byteAt l k)) (those (λ s. w (byteAt l s)) m (suc k))
+      ∙ ap (λ (x : ℕ). oneIf (w (byteAt l k)) + x) (length-those m (suc k) (omega arith) ∙ ap (λ (j : ℕ). tally w (drop j l)) (sym (add-one k)))
+      ∙ sym (tally-on w 0 l k le)
+    where
+      step : (b : Bool) (r : List ℕ) → length (cond b (k ∷ r) r) ≡ oneIf b + length r
+      step true r = omega arith
+      step false r = omega arith
+
+-- no product but that of the empty set is without literals
+module _ (f : ℕ → Bool) (p m : ℕ) where
+  none-later : (k : ℕ) → tally (λ c. eqb (c .seen) 0) (map (product p) (those f m (suc k))) ≡ 0
+  none-later k =
+      tally-those (λ c. eqb (c .seen) 0) (product p) f m (suc k)
+      ∙ sum-none m _ (λ t b. at (f (suc k + t)) (suc k + t) (λ e. omega arith))
+    where
+      at : (b : Bool) (s : ℕ) → (s ≡ 0 → ⊥) → cond b (oneIf (eqb s 0)) 0 ≡ 0
+      at true s d = ap oneIf (ne-eqb s 0 d)
+      at false s d = refl
+
+  constant-is : ltb 0 (tally (λ c. eqb (c .seen) 0) (map (product p) (those f (suc m) 0))) ≡ f 0
+  unfolding those
+  constant-is = ap (λ (x : ℕ). ltb 0 x) (tally-step (λ c. eqb (c .seen) 0) (product p) (f 0) 0 (those f m 1)) ∙ at (f 0) (none-later 0)
+    where
+      at : (b : Bool) → tally (λ c. eqb (c .seen) 0) (map (product p) (those f m 1)) ≡ 0
+          → ltb 0 (cond b 1 0 + tally (λ c. eqb (c .seen) 0) (map (product p) (those f m 1))) ≡ b
+      at true e = rw e
+      at false e = rw e
+
+-- the counts of a form, from the bytes of its coefficients
+pub form-counts : (n p : ℕ) (l : List ℕ) → length l ≡ 2 ^ n → countsFrom l ≡ countsOf (formFrom n p (byteAt l))
+unfolding countsFrom countsOf formFrom
+form-counts n p l e = λ i. record { products = sym products-is i; constant = sym constant i }
+  where
+    products-is : length (map (product p) (those (λ s. nonzero (byteAt l s)) (2 ^ n) 0)) ≡ tally nonzero l
+    products-is = length-map (product p) (those (λ s. nonzero (byteAt l s)) (2 ^ n) 0) ∙ length-those nonzero l (2 ^ n) 0 (add-zero (2 ^ n) ∙ sym e)
+
+    constant : ltb 0 (tally (λ c. eqb (c .seen) 0) (map (product p) (those (λ s. nonzero (byteAt l s)) (2 ^ n) 0))) ≡ nonzero (byteAt l 0)
+    constant =
+        ap (λ (m : ℕ). ltb 0 (tally (λ c. eqb (c .seen) 0) (map (product p) (those (λ s. nonzero (byteAt l s)) m 0)))) (sym (suc-ones n))
+        ∙ constant-is (λ s. nonzero (byteAt l s)) p (2 ^ n - 1)
+
+-- ---- the product of a set
+
+-- at one variable, computed over all bits
+code-test : ℕ → ℕ → Bool
+code-test s p = eqb (codeOf s (min s (differ s p))) (codeOf s (1 - p))
+
+met-test : ℕ → ℕ → ℕ → Bool
+met-test s p a = Bool·beq (met (codeOf s (min s (differ s p))) a) (eqb (min s (differ a p)) s)
+
+module _ (p s : ℕ) where
+  value-bit : (k : ℕ) → bit (bitAnd s (bitXor s p)) k ≡ min (bit s k) (differ (bit s k) (bit p k))
+  value-bit k = bit-and s (bitXor s p) k ∙ ap (min (bit s k)) (bit-xor s p k)
+
+  -- absent where s has not the variable, else plain where p has it not, and complemented where p has it
+  pub product-code : (k : ℕ) → code (product p s) k ≡ codeOf (bit s k) (1 - bit p k)
+  unfolding code code-test
+  product-code k =
+      ap (codeOf (bit s k)) (value-bit k)
+      ∙ eqb-true _ _ (all-at₂ 2 2 code-test refl (bit s k) (bit p k) (bit-lt s k) (bit-lt p k))
+
+  pub product-good : (n : ℕ) → s < 2 ^ n → Good n (product p s)
+  product-good n h = record {
+    inside = λ k. subst (λ (x : ℕ). x ≤ bit s k) (sym (value-bit k)) (min-le-left (bit s k) (differ (bit s k) (bit p k)));
+    below = λ k l. bit-high n s k h l;
+  }
+
+  -- true at a just where s is within a EXOR p
+  pub product-holds : (n a : ℕ) → s < 2 ^ n → holds n (product p s) a ≡ within s (bitXor a p)
+  unfolding holds code met-test
+  product-holds n a h =
+      all-ext n _ _ (λ k l.
+      ap (λ (x : ℕ). met (codeOf (bit s k) x) (bit a k)) (value-bit k)
+      ∙ beq-eq _ _ (all-at₃ 2 2 2 met-test refl (bit s k) (bit p k) (bit a k) (bit-lt s k) (bit-lt p k) (bit-lt a k))
+      ∙ ap (λ (x : ℕ). eqb x (bit s k)) (sym (bit-and s (bitXor a p) k ∙ ap (min (bit s k)) (bit-xor a p k))))
+      ∙ eqb-bits n (bitAnd s (bitXor a p)) s (lt-of-le-of-lt (and-le-l s (bitXor a p)) h) h
+
+-- ---- the value of a form
+
+module _ (n p : ℕ) (c : ℕ → ℕ) (bits : (s : ℕ) → c s < 2) (a : ℕ) where
+  one-product : (s : ℕ) → s < 2 ^ n → cond (nonzero (c s)) (oneIf (holds n (product p s) a)) 0 ≡ cond (within s (bitXor a p)) (c s) 0
+  one-product s h = ap (λ (b : Bool). cond (nonzero (c s)) (oneIf b) 0) (product-holds p s n a h) ∙ at (within s (bitXor a p)) (c s) (bits s)
+    where
+      at : (b : Bool) (x : ℕ) → x < 2 → cond (nonzero x) (oneIf b) 0 ≡ cond b x 0
+      at true zero l = refl
+      at true (suc zero) l = refl
+      at true (suc (suc x)) l = absurd (omega arith)
+      at false zero l = refl
+      at false (suc zero) l = refl
+      at false (suc (suc x)) l = absurd (omega arith)
+
+  -- it is the value that the coefficients give back
+  pub form-value : listValue n (formFrom n p c) a ≡ valueBack n p c a
+  unfolding listValue trues formFrom parityWithin
+  form-value =
+      ap (λ (x : ℕ). x % 2)
+      (tally-those (λ d. holds n d a) (product p) (λ s. nonzero (c s)) (2 ^ n) 0
+      ∙ sum-cong (2 ^ n) _ (λ s. cond (within s (bitXor a p)) (c s) 0)
+      (λ s h. ap (λ (t : ℕ). cond (nonzero (c t)) (oneIf (holds n (product p t) a)) 0) (zero-add s) ∙ one-product s h))
+
+pub form-good : (n p : ℕ) (c : ℕ → ℕ) → All (Good n) (formFrom n p c)
+unfolding formFrom
+form-good n p c = all-those (Good n) (product p) (λ s. nonzero (c s)) (2 ^ n) 0 (λ s l h. product-good p s n (omega arith))
+
+-- forms with the same coefficients are the same
+pub form-cong : (n p : ℕ) (c d : ℕ → ℕ) → ((s : ℕ) → s < 2 ^ n → c s ≡ d s) → formFrom n p c ≡ formFrom n p d
+unfolding formFrom
+form-cong n p c d h =
+    ap (map (product p)) (those-same (λ s. nonzero (c s)) (λ s. nonzero (d s)) (2 ^ n) 0 (λ s g l. ap nonzero (h s (omega arith))))

@@ -1,0 +1,88 @@
+// The list of a form from its coefficients, and the rank that every choice goes by.
+use crate::Counts;
+use crate::vector;
+use cube::Cube;
+use cube::list;
+use records::Counted;
+use records::Refusal;
+ghost use mathlib.Core.Path.{_≡_};
+ghost use Prim.Native.Nat.{_<_, _^_};
+ghost use lib.ListN.{length};
+ghost use Rattle.records.specs.Answers.{counted};
+ghost use Rattle.records.specs.Records.{written};
+ghost use Rattle.cube.specs.Lists.{cubes};
+ghost use Rattle.polarity.specs.Forms.{product, formFrom, rankOf};
+ghost use Rattle.polarity.specs.Vectors.{byteAt, Vector};
+ghost use Rattle.polarity.specs.Calls.{formOutcome, formAfter};
+ghost use Rattle.polarity.specs.Passes.{countsFrom};
+
+// What every choice goes by, of polarities and of candidates: the fewest products.
+pub fn rank(counts: Counts) -> usize
+    ensures { λ r. ⌜ r ≡ rankOf counts ⌝ }
+{
+    counts.products
+}
+
+// The products of the form with these coefficients, and whether the one without literals is among them.
+pub(crate) fn count_products(coefficients: &[u8]) -> Counts
+    requires { ⌜ 0 < length (now coefficients) ⌝ }
+    ensures { λ r. ⌜ r ≡ countsFrom (now (coefficients .entry)) ⌝ }
+{
+    let mut products: usize = 0;
+    let mut i: usize = 0;
+    while i < coefficients.len() {
+        products += (coefficients[i] != 0) as usize;
+        i += 1;
+    }
+    Counts {
+        products,
+        constant: coefficients[0] != 0,
+    }
+}
+
+// The product of the variable set s under p: each variable of s, complemented where p has it.
+fn product_of(p: u32, s: u32) -> Cube
+    ensures { λ r. ⌜ r ≡ product p s ⌝ }
+{
+    Cube {
+        seen: s,
+        value: s & (s ^ p),
+    }
+}
+
+// The products of a form end to end, s ascending.
+fn put_form(n: usize, coefficients: &[u8], p: u32, out: &mut [u8])
+    requires { ⌜ Vector n (now coefficients) ⌝ }
+    ensures { λ _. ⌜ now (out .exit) ≡ written cubes 0 (formFrom n p (byteAt (now (coefficients .entry)))) (now (out .entry)) ⌝ }
+{
+    let mut place: usize = 0;
+    let mut s: usize = 0;
+    while s < coefficients.len() {
+        if coefficients[s] != 0 {
+            list::put_cube(out, place, product_of(p, s as u32));
+            place += 1;
+        }
+        s += 1;
+    }
+}
+
+// The list of a form from its coefficients: refusals 1, 14, 15 and 5, or its count.
+pub fn write_form(n: usize, coefficients: &[u8], p: u64, out: &mut [u8]) -> Counted
+    ensures { λ r. ⌜ counted r ≡ formOutcome n (now (coefficients .entry)) p (length (now (out .entry))) ⌝ }
+    ensures { λ _. ⌜ now (out .exit) ≡ formAfter n (now (coefficients .entry)) p (now (out .entry)) ⌝ }
+{
+    match vector::check_vector(n, coefficients) {
+        Counted::Refused(r) => Counted::Refused(r),
+        Counted::Count(m) => {
+            if m as u64 <= p {
+                return Counted::Refused(Refusal::new(15, 0));
+            }
+            let count = count_products(coefficients).products;
+            if list::capacity(out.len()) < count {
+                return Counted::Refused(Refusal::new(5, 0));
+            }
+            put_form(n, coefficients, p as u32, out);
+            Counted::Count(count)
+        }
+    }
+}

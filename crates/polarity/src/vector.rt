@@ -1,0 +1,45 @@
+// The check of a vector's bytes.
+use records::Counted;
+use records::Refusal;
+ghost use mathlib.Core.Path.{_≡_};
+ghost use Rattle.bits.specs.Sums.{firstBad};
+ghost use Rattle.records.specs.Answers.{counted};
+ghost use Rattle.polarity.specs.Vectors.{isBit, checkVector};
+
+// Variables of a vector, at most.
+pub const MOST_VARIABLES: usize = 8;
+
+// The lowest byte above 1, or the length.
+fn first_bad(bytes: &[u8]) -> usize
+    ensures { λ r. ⌜ r ≡ firstBad isBit (now (bytes .entry)) ⌝ }
+{
+    let mut i: usize = 0;
+    let found = loop {
+        if bytes.len() <= i {
+            break bytes.len();
+        }
+        if 1 < bytes[i] {
+            break i;
+        }
+        i += 1;
+    };
+    found
+}
+
+// Checking a vector: refusals 1 and 14, or its length.
+pub fn check_vector(n: usize, bytes: &[u8]) -> Counted
+    ensures { λ r. ⌜ counted r ≡ checkVector n (now (bytes .entry)) ⌝ }
+{
+    if MOST_VARIABLES < n {
+        return Counted::Refused(Refusal::new(1, 0));
+    }
+    let m: usize = 1 << n;
+    if bytes.len() != m {
+        return Counted::Refused(Refusal::new(14, m));
+    }
+    let bad = first_bad(bytes);
+    if bad != m {
+        return Counted::Refused(Refusal::new(14, bad));
+    }
+    Counted::Count(m)
+}
