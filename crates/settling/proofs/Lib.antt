@@ -1,0 +1,5 @@
+pub mod Winning
+pub mod Forming
+pub mod Written
+pub mod SettleLaws
+pub mod Settling
