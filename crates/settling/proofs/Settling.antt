@@ -140,8 +140,12 @@ module _ (n : ℕ) (list script work out : List ℕ) where
           fits-in =
               let t = ran-to in
               let few : length (t .result) ≤ cubeCapacity (length work) =
-              omega (arith, room-work, run-last n (cubeCapacity (length work)) (stepsOf script) (cubesOf list) (t .result) peak (t .is),
-              run-peak-capacity n (cubeCapacity (length work)) (stepsOf script) (cubesOf list) (t .result) peak (t .is)) in
+              omega (
+                arith,
+                room-work,
+                run-last n (cubeCapacity (length work)) (stepsOf script) (cubesOf list) (t .result) peak (t .is),
+                run-peak-capacity n (cubeCapacity (length work)) (stepsOf script) (cubesOf list) (t .result) peak (t .is),
+              ) in
               le-trans (mul-le-mul-left (cubes .width) few) (capacity-fits cubes mostRecords (length work))
 
           holds : Holds cubes work′ (ran-to .result)

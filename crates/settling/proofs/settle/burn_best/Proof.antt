@@ -8,7 +8,6 @@ use lib.Seq.{length-take-le}
 use Rattle.bits.proofs.Bits.{shl-one}
 use Rattle.cube.specs.Lists.{vectorVariables}
 use Rattle.settling.proofs.SettleLaws.{two-burnable, two-burned}
-
 use borrow.Author.Needs.{needs}
 use Rattle.settling.proofs.settle.burn_best.Statement.{statement}
 use Rattle.settling.proofs.settle.burn_best.Tie as tie
@@ -51,7 +50,7 @@ slice-aggregate-burn-three-2 : tie.Need-slice-aggregate-burn-three-2
 slice-aggregate-burn-three-2 c = sym (length-take-le _ _ (size-small _ (c .before .before .if1 .left)))
 
 burn-three-requires : tie.Need-burn-three-requires
-burn-three-requires c κs = 
+burn-three-requires c κs =
     let h = c .before .before .before .if1 .left in
     let long = length-take-le _ _ (size-small _ h) ∙ size-is _ h in
     (c .before .before .before .before .before .before .before .pre, (h, (long, long)))

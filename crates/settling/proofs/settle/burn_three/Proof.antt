@@ -12,7 +12,7 @@ winner-requires : tie.Need-winner-requires
 winner-requires c κs = search needs
 
 burn-requires : tie.Need-burn-requires
-burn-requires c κs = 
+burn-requires c κs =
     let s = c .before .before .before .before .before .before .before .before .before .before .before .before .before in
     three-burnable _ _ _ _ _ (s .pre .0) (s .pre .1 .0) _ (c .before .before .before .before .before .before .best-of .ensures .1) _ (c .before .before .before .before .before .before .best-of .ensures .0) _ (c .before .before .before .winner .ensures) _ (s .pre .1 .1 .1)
 
@@ -26,7 +26,7 @@ same-length-3 : tie.Need-same-length-3
 same-length-3 c = search needs
 
 returns : tie.Need-returns
-returns c = 
+returns c =
     let s = c .before .before .before .before .before .before .before .before .before .before .before .before .before .before .before .before .before .before in
     three-burned _ _ _ _ _ (s .pre .0) (s .pre .1 .0) _ (c .before .before .before .before .before .before .before .before .before .before .before .best-of .ensures .1) _ (c .before .before .before .before .before .before .before .before .before .before .before .best-of .ensures .0) _ (c .before .before .before .before .before .before .before .before .winner .ensures) _ _ (c .before .before .before .before .burn .ensures)
 

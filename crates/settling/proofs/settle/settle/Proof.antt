@@ -24,7 +24,7 @@ new-requires : tie.Need-new-requires
 new-requires c κs = search needs
 
 returns : tie.Need-returns
-returns c = 
+returns c =
     let r = work-short _ _ _ _ _ _ (sym (c .before .before .before .before .before .before .check .ensures) ∙ ap counted (c .before .before .before .before .given .given .1)) _ (c .before .before .capacity .ensures) (c .before .if1 .taken) _ (c .new .ensures) in
     (r .answer, (r .work-is, r .out-is))
 
@@ -35,7 +35,7 @@ new-requires-2 : tie.Need-new-requires-2
 new-requires-2 c κs = search needs
 
 returns-2 : tie.Need-returns-2
-returns-2 c = 
+returns-2 c =
     let r = out-short _ _ _ _ _ _ (sym (c .before .before .before .before .before .before .before .before .check .ensures) ∙ ap counted (c .before .before .before .before .before .before .given .given .1)) _ (c .before .before .before .before .capacity .ensures) (c .before .before .before .if1 .left) _ (c .before .before .capacity2 .ensures) (c .before .if2 .taken) _ (c .new2 .ensures) in
     (r .answer, (r .work-is, r .out-is))
 
@@ -49,7 +49,7 @@ enum-known-count : tie.Need-enum-known-count
 enum-known-count c = search needs
 
 burn-best-requires : tie.Need-burn-best-requires
-burn-best-requires c κs = 
+burn-best-requires c κs =
     run-burns _ _ _ _ _ _ (sym (c .before .before .before .before .before .before .before .before .before .before .before .before .before .before .before .before .check .ensures) ∙ ap counted (c .before .before .before .before .before .before .before .before .before .before .before .before .before .before .given .given .1)) _ (c .before .before .before .before .before .before .before .before .before .before .before .before .capacity .ensures) (c .before .before .before .before .before .before .before .before .before .before .before .if1 .left) _ (c .before .before .before .before .before .before .before .before .before .before .capacity2 .ensures) (c .before .before .before .before .before .before .before .before .before .if2 .left) _ _ _
     (sym (ap finished (c .before .before .before .count .given .1)) ∙ c .before .before .before .before .before .before .before .run .ensures .0) (c .before .before .before .before .before .before .before .run .ensures .1)
 
@@ -57,7 +57,7 @@ clear-requires : tie.Need-clear-requires
 clear-requires c κs = search needs
 
 returns-3 : tie.Need-returns-3
-returns-3 c = 
+returns-3 c =
     let r = list-refused _ _ _ _ _ _ (sym (c .before .before .before .check .ensures) ∙ ap counted (c .before .r .given .1)) in
     (r .answer, (r .work-is, r .out-is))
 
@@ -65,7 +65,7 @@ same-length : tie.Need-same-length
 same-length c = search needs
 
 returns-4 : tie.Need-returns-4
-returns-4 c = 
+returns-4 c =
     let r = run-refused _ _ _ _ _ _ (sym (c .before .before .before .before .before .before .before .before .before .before .before .before .before .before .check .ensures) ∙ ap counted (c .before .before .before .before .before .before .before .before .before .before .before .before .given .given .1)) _ (c .before .before .before .before .before .before .before .before .before .before .capacity .ensures) (c .before .before .before .before .before .before .before .before .before .if1 .left) _ (c .before .before .before .before .before .before .before .before .capacity2 .ensures) (c .before .before .before .before .before .before .before .if2 .left) _ _
     (sym (ap finished (c .before .r2 .given .1)) ∙ c .before .before .before .before .before .run .ensures .0) (c .before .before .before .before .before .run .ensures .1) in
     (r .answer, (r .work-is, r .out-is))
@@ -77,7 +77,7 @@ same-length-3 : tie.Need-same-length-3
 same-length-3 c = search needs
 
 returns-5 : tie.Need-returns-5
-returns-5 c = 
+returns-5 c =
     let r = run-settled _ _ _ _ _ _ (sym (c .before .before .before .before .before .before .before .before .before .before .before .before .before .before .before .before .before .before .before .before .before .before .before .check .ensures) ∙ ap counted (c .before .before .before .before .before .before .before .before .before .before .before .before .before .before .before .before .before .before .before .before .before .given .given .1)) _ (c .before .before .before .before .before .before .before .before .before .before .before .before .before .before .before .before .before .before .before .capacity .ensures) (c .before .before .before .before .before .before .before .before .before .before .before .before .before .before .before .before .before .before .if1 .left) _ (c .before .before .before .before .before .before .before .before .before .before .before .before .before .before .before .before .before .capacity2 .ensures) (c .before .before .before .before .before .before .before .before .before .before .before .before .before .before .before .before .if2 .left) _ _ _
     (sym (ap finished (c .before .before .before .before .before .before .before .before .before .before .count .given .1)) ∙ c .before .before .before .before .before .before .before .before .before .before .before .before .before .before .run .ensures .0) (c .before .before .before .before .before .before .before .before .before .before .before .before .before .before .run .ensures .1) _ _ (c .before .before .before .before .before .before .burn-best .ensures) _ (c .before .before .clear .ensures) (search needs) in
     (r .answer, (r .work-is, r .out-is))
