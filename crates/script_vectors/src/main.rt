@@ -67,12 +67,6 @@ fn scripts() {
         list,
         b"\x06\x00\x01\x00\x02\x00\x00",
     );
-    room_3(
-        b"script of 9 bytes",
-        2,
-        list,
-        b"\x02\x00\x01\x00\x02\x00\x00\x00\x02",
-    );
     room_3(b"op 0", 2, list, b"\x00\x00\x00\x00\x00\x00\x00\x00");
     room_3(
         b"join 1 2, op 6",
@@ -106,9 +100,7 @@ fn fields() {
     );
     room_3(b"L with i", 2, list, b"\x05\x00\x01\x00\x00\x00\x01\x00");
     room_3(b"last byte", 2, list, b"\x02\x00\x01\x00\x02\x00\x00\x01");
-    room_3(b"split v=2", 2, list, b"\x03\x02\x00\x00\x00\x00\x00\x00");
     room_3(b"turn v=2", 2, list, b"\x04\x02\x00\x00\x01\x00\x00\x00");
-    room_3(b"L v=2", 2, list, b"\x05\x02\x00\x00\x00\x00\x00\x00");
     room_3(b"L literal 2", 2, list, b"\x05\x00\x00\x00\x00\x00\x02\x00");
 }
 
@@ -131,7 +123,6 @@ fn places() {
         b"\x02\x00\x01\x00\x02\x00\x00\x00\x04\x00\x00\x00\x02\x00\x00\x00",
     );
     room_3(b"join 1 1", 2, list, b"\x02\x00\x01\x00\x01\x00\x00\x00");
-    room_3(b"drop 2 2", 2, list, b"\x01\x00\x02\x00\x02\x00\x00\x00");
     room_3(
         b"join 1 2, turn v=0 1 1",
         2,
@@ -256,22 +247,10 @@ fn drops() {
         b"\x01\x00\x00\x00\x01\x00\x00\x00",
     );
     room_4(
-        b"0 0 1 -, drop 1 0",
-        1,
-        list,
-        b"\x01\x00\x01\x00\x00\x00\x00\x00",
-    );
-    room_4(
         b"0 1 - 1, drop 1 3",
         1,
         b"\x01\x00\x00\x00\x01\x00\x01\x00\x00\x00\x00\x00\x01\x00\x01\x00",
         b"\x01\x00\x01\x00\x03\x00\x00\x00",
-    );
-    room_3(
-        b"1 1, drop 0 1",
-        1,
-        b"\x01\x00\x01\x00\x01\x00\x01\x00",
-        b"\x01\x00\x00\x00\x01\x00\x00\x00",
     );
     room_3(
         b"no variable, drop 0 1",
@@ -281,7 +260,7 @@ fn drops() {
     );
 }
 
-// Splits of each code, and runs with no step.
+// Splits of each code, and a run with no step.
 fn splits() {
     let script = b"\x03\x00\x00\x00\x00\x00\x00\x00";
     room_3(b"0, split v=0 0", 1, b"\x01\x00\x00\x00", script);
@@ -299,7 +278,6 @@ fn splits() {
         b"\x01\x00\x01\x00\x02\x00\x02\x00\x03\x00\x03\x00",
         b"",
     );
-    room_3(b"no record, no step", 0, b"", b"");
 }
 
 // L steps, which are undone: alone, two at one variable in both orders, and with a split while they are pending.
@@ -316,12 +294,6 @@ fn letters() {
         1,
         list,
         b"\x05\x00\x00\x00\x00\x00\x00\x00\x05\x00\x00\x00\x00\x00\x01\x00",
-    );
-    room_4(
-        b"0 1 -, L 1, L 0",
-        1,
-        list,
-        b"\x05\x00\x00\x00\x00\x00\x01\x00\x05\x00\x00\x00\x00\x00\x00\x00",
     );
     room_4(
         b"0 1 -, L 0, L 1, split v=0 0",
