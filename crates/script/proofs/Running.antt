@@ -26,9 +26,8 @@ use Rattle.steps.specs.declared.Stepped.the-variants as stepped-is
 use Rattle.steps.specs.Moves.{After, stop, next}
 use Rattle.steps.specs.Steps.{Step, meaning, step, Fits}
 use Rattle.steps.specs.Calls.{Ready, Known, stepped, workStepped}
-use Rattle.steps.proofs.Kept.{step-kept}
 use Rattle.steps.proofs.Places.{get-map}
-use Rattle.steps.proofs.Stepping.{step-records, step-long, step-ready}
+use Rattle.steps.proofs.Stepping.{step-records, step-long, ready-onward}
 use Rattle.script.specs.declared.Progress.{Progress}
 use Rattle.script.specs.Run.{Ran, stopped, ended, onward, stepsFrom}
 use Rattle.script.specs.Pending.{nonePending, pendStep, pend}
@@ -146,9 +145,9 @@ module _ (n cap first : ℕ) (script work : List ℕ) where
       running-more c es p ep os eo =
           let w = went (step n cap (meaning x) (records cubes count b)) c es in
           let m : List Cube = w .list in
-          let good : All (Good n) m = step-kept n cap (records cubes count b) m (r .ready .good) (meaning x) (step-known n script k x ex h fit .fits) (w .is) .good in
           record {
-            ready = subst (λ (t : ℕ). Ready n t cap b′) (sym (w .many)) (step-ready n count cap b b′ (meaning x) m (r .ready) (w .is) eb good);
+            ready = subst (λ (t : ℕ). Ready n t cap b′) (sym (w .many))
+                (ready-onward n count cap b b′ (meaning x) m (r .ready) (w .is) eb (step-known n script k x ex h fit .fits));
             long = step-long n count cap b b′ (meaning x) m (r .ready) (w .is) eb ∙ r .long;
             within = omega arith;
             so-far =
