@@ -3,18 +3,17 @@
 use mathlib.Core.Path.{_≡_, refl, sym, ap, ap₂, _∙_, subst}
 use mathlib.Core.Bool.{Bool, true, false, true≢false}
 use mathlib.Core.List.{List, [], _∷_, map}
-use Prim.Native.Nat.{ℕ, zero, suc, _+_, _*_, _/_, _%_, _≤_, _<_}
-use native.Mathlib.Nat.{le-trans, mul-le-mul-left}
+use Prim.Native.Nat.{ℕ, zero, suc, _*_, _/_, _≤_, _<_}
 use native.Mathlib.Omega.{arith}
 use borrow.Author.Tests.{le-leb, lt-leb, leb-true}
 use lib.Dec.{leb}
 use lib.ListN.{length, getD, set, length-map}
 use lib.Seq.{set-out}
 use Rattle.bits.specs.Sums.{All}
-use Rattle.bits.proofs.Sums.{all-map, all-get}
+use Rattle.bits.proofs.Sums.{all-map}
 use Rattle.records.specs.declared.Refusal.{Refusal}
-use Rattle.records.specs.Records.{Holds, Held, records, listOf, image, filledBy, filled, zeros, capacityOf, flat}
-use Rattle.records.specs.Answers.{Outcome, accepted, refused, refusal, unless, andThen}
+use Rattle.records.specs.Records.{Holds, Held, records, listOf, image, filledBy, flat}
+use Rattle.records.specs.Answers.{Outcome, accepted, refused, refusal, unless}
 use Rattle.records.proofs.Answering.{unless-accepted, both-accepted, and-then, and-not}
 use Rattle.records.proofs.Filling.{filled-by, length-filled-by}
 use Rattle.records.proofs.Holding.{length-records, length-list, capacity-fits, held-fits, holds-held, holds-records, filled-holds, image-holds}
@@ -26,7 +25,7 @@ use Rattle.cube.proofs.Codes.{good-more}
 use Rattle.cube.proofs.ListLaws.{lawful, Accepted, check-accepts, cubes-bytes}
 use Rattle.orders.specs.Orders.{orderCount, noOrder, follow, letterOrder}
 use Rattle.steps.specs.declared.StepRecord.{StepRecord}
-use Rattle.steps.specs.Steps.{Step, L, meaning, meaningBy, Fits}
+use Rattle.steps.specs.Steps.{Step, meaning, meaningBy, Fits}
 use Rattle.steps.specs.Calls.{Ready}
 use Rattle.script.specs.declared.Finished.{Finished}
 use Rattle.script.specs.declared.Finished.the-variants as finished-is
@@ -36,7 +35,7 @@ use Rattle.script.specs.Pending.{nonePending, pendStep, pend, restored}
 use Rattle.script.specs.Scripts.{stepRecords, stepsOf, fits}
 use Rattle.script.specs.Calls.{checkScript, checkRun, runOf, ranOutcome, runOutcome, ranWork, workAfter, runAfter, finished}
 use Rattle.script.specs.Progress.{progressOf, Stepping, Passed, Answered}
-use Rattle.script.proofs.Pending.{undo-pending, undo-map, pending-orders}
+use Rattle.script.proofs.Pending.{undo-pending, pending-orders}
 use Rattle.script.proofs.Codec.{meaning-fits}
 use Rattle.script.proofs.Reading.{AcceptedScript, script-accepts}
 

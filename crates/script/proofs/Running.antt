@@ -1,10 +1,9 @@
 -- The loop over the steps of a script: its invariant is one record, with the laws of its start, its turn, a refusal and its end.
 -- Assumes nothing.
 use mathlib.Core.Path.{_≡_, refl, sym, ap, ap₂, _∙_, subst}
-use mathlib.Core.Bool.{Bool, true, false, false≢true}
+use mathlib.Core.Bool.{true, false, false≢true}
 use mathlib.Core.List.{List, [], _∷_, map}
-use Prim.Native.Nat.{ℕ, suc, _+_, _*_, _/_, _≤_, _<_, max, zero-le}
-use native.Mathlib.Nat.{le-trans, le-of-eq}
+use Prim.Native.Nat.{ℕ, suc, _+_, _/_, _≤_, _<_, max, zero-le}
 use native.Mathlib.Numerals.{add-one}
 use native.Mathlib.Omega.{arith}
 use borrow.Author.Tests.{leb-true}
@@ -15,20 +14,16 @@ use Rattle.bits.specs.Sums.{All}
 use Rattle.bits.proofs.Bools.{both-true}
 use Rattle.bits.proofs.Sums.{all-get}
 use Rattle.records.specs.Records.{Holds, Held, records, listOf, image, zeros}
-use Rattle.records.proofs.Holding.{length-records, length-list, held-fits, holds-held, holds-records, image-holds}
+use Rattle.records.proofs.Holding.{length-records, length-list}
 use Rattle.cube.specs.declared.Cube.{Cube}
-use Rattle.cube.specs.Cubes.{Good, one}
-use Rattle.cube.specs.Lists.{cubes, recordWidth, mostVariables}
-use Rattle.cube.proofs.ListLaws.{lawful}
+use Rattle.cube.specs.Lists.{cubes}
 use Rattle.steps.specs.declared.StepRecord.{StepRecord}
-use Rattle.steps.specs.declared.Stepped.{Stepped}
 use Rattle.steps.specs.declared.Stepped.the-variants as stepped-is
 use Rattle.steps.specs.Moves.{After, stop, next}
-use Rattle.steps.specs.Steps.{Step, meaning, step, Fits}
+use Rattle.steps.specs.Steps.{Step, meaning, step}
 use Rattle.steps.specs.Calls.{Ready, Known, stepped, workStepped}
 use Rattle.steps.proofs.Places.{get-map}
 use Rattle.steps.proofs.Stepping.{step-records, step-long, ready-onward}
-use Rattle.script.specs.declared.Progress.{Progress}
 use Rattle.script.specs.Run.{Ran, stopped, ended, onward, stepsFrom}
 use Rattle.script.specs.Pending.{nonePending, pendStep, pend}
 use Rattle.script.specs.Scripts.{stepRecords, stepWidth, fits, stepsOf}

@@ -2,12 +2,12 @@
 -- Assumes nothing.
 use mathlib.Core.Path.{_≡_, refl, sym, ap, ap₂, _∙_, subst}
 use mathlib.Core.List.{List, [], _∷_, map}
-use Prim.Native.Nat.{ℕ, suc, _+_, _*_, _≤_, _<_, zero-le}
+use Prim.Native.Nat.{ℕ, _+_, _*_, _≤_, _<_, zero-le}
 use native.Mathlib.Numerals.{add-one}
 use native.Mathlib.Omega.{arith}
 use lib.ListN.{length, getD, length-map}
 use Rattle.bits.specs.Sums.{All}
-use Rattle.bits.proofs.Sums.{all-get, all-map}
+use Rattle.bits.proofs.Sums.{all-map}
 use Rattle.records.specs.Records.{Holds, Held, records, image}
 use Rattle.records.proofs.Images.{length-image}
 use Rattle.records.proofs.Holding.{length-records, holds-held, holds-records, holds-fits, image-holds}

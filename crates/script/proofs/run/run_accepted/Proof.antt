@@ -1,6 +1,5 @@
 -- `run::run_accepted` meets its contract.
 -- Assumes nothing.
-use mathlib.Core.Path.{_≡_, sym, _∙_}
 use native.Mathlib.Omega.{arith}
 use borrow.Author.Needs.{needs}
 use Rattle.script.proofs.RunLaws.{run-ready, run-fit, run-undo-held, run-undo-good, run-undo-few, run-undo-orders, run-done, run-stopped}
