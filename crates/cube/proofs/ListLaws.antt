@@ -1,26 +1,25 @@
 -- Laws of lists of cubes: their records, the check of a list by its tests, and how many products are true.
 -- Assumes nothing.
-use mathlib.Core.Path.{_≡_, refl, sym, ap, ap₂, _∙_, subst}
-use mathlib.Core.Bool.{Bool, true, false}
-use mathlib.Core.List.{List, [], _∷_, _++_}
-use Prim.Native.Nat.{ℕ, zero, suc, _+_, _*_, _/_, _%_, _^_, _≤_, _<_, min}
+use mathlib.Core.Path.{_≡_, refl, sym, ap, ap₂, _∙_}
+use mathlib.Core.Bool.{true}
+use mathlib.Core.List.{List, [], _∷_}
+use Prim.Native.Nat.{ℕ, zero, suc, _+_, _*_, _/_, _%_, _≤_, _<_}
 use native.Mathlib.Nat.{add-zero, lt-of-lt-of-le, mod-eq-of-lt, min-eq-left, min-eq-right, le-of-lt}
 use native.Mathlib.Omega.{arith}
 use lib.Dec.{lit<, eqb, leb}
 use lib.ListN.{length, getD, set}
 use lib.Pow.{pow-mono}
-use lib.Seq.{sets}
 use borrow.Author.Tests.{le-leb, lt-leb, eq-eqb, ne-eqb, leb-true, eqb-true}
 use native.Mathlib.Numerals.{add-one, add-two, add-three}
 use Rattle.bits.specs.Sums.{All, firstBad}
 use Rattle.bits.proofs.Sums.{all-get-or}
-use Rattle.records.specs.Words.{word, wordOf, wordAt, wordSize}
-use Rattle.records.specs.Records.{flat, image, filled, Codec, records, listOf, stored, capacityOf}
+use Rattle.records.specs.Words.{wordOf, wordAt}
+use Rattle.records.specs.Records.{flat, image, filled, records, stored, capacityOf}
 use Rattle.records.specs.declared.Refusal.{Refusal}
-use Rattle.records.specs.Answers.{Outcome, accepted, refused, refusal, unless, unlessAt}
+use Rattle.records.specs.Answers.{accepted, refused, refusal, unlessAt}
 use Rattle.records.proofs.WordLaws.{word-back, word-low, word-high, cut-low, cut-high}
 use Rattle.records.proofs.Images.{image-get, flat-listBelow}
-use Rattle.records.proofs.Holding.{Lawful, length-list, list-at, list-past, stored-in, stored-out, place-room}
+use Rattle.records.proofs.Holding.{Lawful, length-list, list-at, list-past, stored-in, stored-out}
 use Rattle.records.proofs.Answering.{unless-accepted, unless-at-accepted, unless-at-refused, unless-at-passed}
 use Rattle.cube.specs.declared.Cube.{Cube}
 use Rattle.cube.specs.Cubes.{one, good, Good}
