@@ -10,7 +10,6 @@ use lib.Dec.{leb}
 use lib.ListN.{length, getD, set, length-map}
 use lib.Seq.{set-out}
 use Rattle.bits.specs.Sums.{All}
-use Rattle.bits.proofs.Sums.{all-map}
 use Rattle.records.specs.declared.Refusal.{Refusal}
 use Rattle.records.specs.Records.{Holds, Held, records, listOf, image, filledBy, flat}
 use Rattle.records.specs.Answers.{Outcome, accepted, refused, refusal, unless}
@@ -21,8 +20,7 @@ use Rattle.cube.specs.declared.Cube.{Cube}
 use Rattle.cube.specs.Cubes.{Good}
 use Rattle.cube.specs.Lists.{cubes, cubesOf, cubeCapacity, recordWidth, mostRecords, mostVariables}
 use Rattle.cube.specs.Calls.{checkList}
-use Rattle.cube.proofs.Codes.{good-more}
-use Rattle.cube.proofs.ListLaws.{lawful, Accepted, check-accepts, cubes-bytes}
+use Rattle.cube.proofs.ListLaws.{lawful, Accepted, check-accepts, cubes-bytes, all-good-more}
 use Rattle.orders.specs.Orders.{orderCount, noOrder, follow, letterOrder}
 use Rattle.steps.specs.declared.StepRecord.{StepRecord}
 use Rattle.steps.specs.Steps.{Step, meaning, meaningBy, Fits}
@@ -36,7 +34,7 @@ use Rattle.script.specs.Scripts.{stepRecords, stepsOf, fits}
 use Rattle.script.specs.Calls.{checkScript, checkRun, runOf, ranOutcome, runOutcome, ranWork, workAfter, runAfter, finished}
 use Rattle.script.specs.Progress.{progressOf, Stepping, Passed, Answered}
 use Rattle.script.proofs.Pending.{undo-pending, pending-orders}
-use Rattle.script.proofs.Codec.{meaning-fits}
+use Rattle.script.proofs.Codec.{script-fits}
 use Rattle.script.proofs.Reading.{AcceptedScript, script-accepts}
 
 -- ---- what is pending after a step
@@ -108,10 +106,6 @@ module _ (n : ℕ) (list script : List ℕ) (size : ℕ) where
 
 -- ---- the run of an accepted list and script
 
-all-good-more : {n : ℕ} (l : List Cube) → n ≤ mostVariables → All (Good n) l → All (Good mostVariables) l
-all-good-more [] h a = tt
-all-good-more {n} (c ∷ l) h a = (good-more n mostVariables c h (a .0), all-good-more l h (a .1))
-
 module _ (n : ℕ) (list script work : List ℕ) (p : Passed (checkRun n list script (length work))) (small : (i : ℕ) → getD list i 0 < 256)
     (cap : ℕ) (ec : cap ≡ cubeCapacity (length work)) where
   ok : Runnable n list script (length work)
@@ -153,10 +147,6 @@ module _ (n : ℕ) (list script work : List ℕ) (p : Passed (checkRun n list sc
 
     pub run-fit : All (λ r. fits n r ≡ true) (listOf stepRecords script)
     run-fit = ok .script-is .fit
-
-    step-fit : All (Fits n) (stepsOf script)
-    unfolding stepsOf
-    step-fit = all-map (λ r. fits n r ≡ true) (Fits n) meaning (λ r e. meaning-fits n r e) (listOf stepRecords script) run-fit
 
     module _ (w₂ : List ℕ) (r : Progress) (s : Stepping n cap (length list / recordWidth) (stepsOf script) w₁ w₂ r) where
       xs : List Step
@@ -224,7 +214,7 @@ module _ (n : ℕ) (list script work : List ℕ) (p : Passed (checkRun n list sc
 
         pub run-undo-good : All (Good mostVariables) (records cubes (r .count) w₂)
         run-undo-good =
-            all-good-more (records cubes (r .count) w₂) (s .ready f .few) (s .ready f .good)
+            all-good-more n mostVariables (records cubes (r .count) w₂) (s .ready f .few) (s .ready f .good)
 
         pub run-undo-few : n ≤ mostVariables
         run-undo-few = ok .list-is .few
@@ -244,7 +234,7 @@ module _ (n : ℕ) (list script work : List ℕ) (p : Passed (checkRun n list sc
 
         step-fit-here : All (Fits n) xs
         unfolding xs
-        step-fit-here = step-fit
+        step-fit-here = script-fits n script run-fit
 
         pub run-done : (w₃ : List ℕ) → w₃ ≡ image cubes (length w₂) (map (restored n (r .pending)) (records cubes (r .count) w₂))
             → Answered n list script work w₃ (finished-is.Done (r .count) (r .peak))

@@ -1,7 +1,7 @@
 -- A step on the work buffer, put together: what each call asks, what the step answers and leaves, and that the buffer is ready for the next step.
 -- Assumes nothing.
 use mathlib.Core.Path.{_≡_, sym, ap, _∙_, subst}
-use mathlib.Core.List.{List, [], _∷_, map}
+use mathlib.Core.List.{List, map}
 use Prim.Native.Nat.{ℕ, _*_, _/_, _≤_, _<_}
 use native.Mathlib.Nat.{lt-of-lt-of-le}
 use native.Mathlib.Omega.{arith}
@@ -14,8 +14,8 @@ use Rattle.records.proofs.Holding.{length-records, held-fits, holds-held, holds
 use Rattle.cube.specs.declared.Cube.{Cube}
 use Rattle.cube.specs.Cubes.{code, put, one, Good}
 use Rattle.cube.specs.Lists.{cubes, recordWidth, mostVariables}
-use Rattle.cube.proofs.Codes.{code-lt, good-more}
-use Rattle.cube.proofs.ListLaws.{lawful, good-narrow, good-at}
+use Rattle.cube.proofs.Codes.{code-lt}
+use Rattle.cube.proofs.ListLaws.{lawful, good-narrow, good-at, all-good-more}
 use Rattle.orders.specs.Orders.{orderCount, letterOrder}
 use Rattle.orders.proofs.OrderLaws.{image-letter, letter-lt}
 use Rattle.steps.specs.declared.Change.{Change}
@@ -38,13 +38,9 @@ pub exchanged-is : (v b : ℕ) (c : Cube) → b < 2 → exchanged v b c ≡ reor
 unfolding exchanged reordered
 exchanged-is v b c h = ap (put c v) (sym (image-letter b (code c v) h (code-lt c v)))
 
-all-more : (m n : ℕ) (l : List Cube) → m ≤ n → All (Good m) l → All (Good n) l
-all-more m n [] h a = tt {0}
-all-more m n (c ∷ l) h a = (good-more m n c h (a .0), all-more m n l h (a .1))
-
 module _ (n count cap : ℕ) (b : List ℕ) (ready : Ready n count cap b) where
   pub ready-good : All (Good mostVariables) (records cubes count b)
-  ready-good = all-more n mostVariables (records cubes count b) (ready .few) (ready .good)
+  ready-good = all-good-more n mostVariables (records cubes count b) (ready .few) (ready .good)
 
   pub look-good : (i : ℕ) (c : Cube) → c ≡ getD (records cubes count b) i one → Good n c
   look-good i c e = subst (Good n) (sym e) (good-at n (records cubes count b) (ready .good) i)
