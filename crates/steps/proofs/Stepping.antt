@@ -7,8 +7,7 @@ use native.Mathlib.Nat.{lt-of-lt-of-le}
 use native.Mathlib.Omega.{arith}
 use lib.ListN.{length, getD, length-map}
 use Rattle.bits.specs.Sums.{All}
-use Rattle.bits.proofs.Sums.{all-map}
-use Rattle.records.specs.Records.{Held, Holds, records, image}
+use Rattle.records.specs.Records.{Holds, records, image}
 use Rattle.records.proofs.Images.{length-image}
 use Rattle.records.proofs.Holding.{length-records, held-fits, holds-held, holds-records, image-holds}
 use Rattle.cube.specs.declared.Cube.{Cube}
@@ -26,7 +25,6 @@ use Rattle.steps.specs.Moves.{Move, refuse, drops, joins, splits, turns,
 use Rattle.steps.specs.Steps.{Step, drop, join, split, turn, L, Fits, meaning, exchanged, reordered, step}
 use Rattle.steps.specs.Calls.{Ready, Known, workStepped}
 use Rattle.steps.specs.Changes.{moveOf, Placed, Writes, Narrow, Decided, Done}
-use Rattle.steps.proofs.Linear.{reordered-good}
 use Rattle.steps.proofs.Inversion.{split-accepted}
 use Rattle.steps.proofs.Kept.{step-count, step-kept}
 use Rattle.steps.proofs.Making.{means, means-fits}
@@ -111,27 +109,6 @@ step-fits n cap room (split v i) l m h k e = omega (arith, step-count n cap (spl
 step-fits n cap room (turn v i j) l m h k e = omega (arith, step-count n cap (turn v i j) l m e)
 step-fits n cap room (L v b) l m h k e = omega (arith, step-count n cap (L v b) l m e)
 
--- a buffer in which the next list was put
-module _ (n count cap : ℕ) (b b′ : List ℕ) (m : List Cube) (ready : Ready n count cap b) (fits : recordWidth * length m ≤ length b)
-    (e : b′ ≡ image cubes (length b) m) where
-  next-holds : Holds cubes b′ m
-  next-holds = subst (λ (t : List ℕ). Holds cubes t m) (sym e) (image-holds cubes lawful (length b) m fits)
-
-  next-records : records cubes (length m) b′ ≡ m
-  next-records = holds-records cubes lawful b′ m next-holds
-
-  next-long : length b′ ≡ length b
-  unfolding image
-  next-long = ap length e ∙ length-image (cubes .enc) recordWidth (lawful .len) (length b) m fits
-
-  next-ready : All (Good n) m → Ready n (length m) cap b′
-  next-ready good = record {
-    held = holds-held cubes lawful b′ m next-holds;
-    good = subst (All (Good n)) (sym next-records) good;
-    few = ready .few;
-    room = subst (λ (k : ℕ). recordWidth * cap ≤ k) (sym next-long) (ready .room);
-  }
-
 -- after an accepted step
 module _ (n count cap : ℕ) (b b′ : List ℕ) (x : Step) (m : List Cube) (ready : Ready n count cap b)
     (e : step n cap x (records cubes count b) ≡ next m) (e′ : b′ ≡ workStepped b (step n cap x (records cubes count b))) where
@@ -145,35 +122,22 @@ module _ (n count cap : ℕ) (b b′ : List ℕ) (x : Step) (m : List Cube) (rea
   step-image : b′ ≡ image cubes (length b) m
   step-image = e′ ∙ ap (workStepped b) e
 
-  -- the records of the buffer are the next list, and zeros stand after them
-  pub step-records : records cubes (length m) b′ ≡ m
-  step-records = next-records n count cap b b′ m ready step-room step-image
+  step-holds : Holds cubes b′ m
+  step-holds = subst (λ (t : List ℕ). Holds cubes t m) (sym step-image) (image-holds cubes lawful (length b) m step-room)
 
-  pub step-held : Held cubes (length m) b′
-  step-held = holds-held cubes lawful b′ m (next-holds n count cap b b′ m ready step-room step-image)
+  -- the records of the buffer are the next list
+  pub step-records : records cubes (length m) b′ ≡ m
+  step-records = holds-records cubes lawful b′ m step-holds
 
   pub step-long : length b′ ≡ length b
-  step-long = next-long n count cap b b′ m ready step-room step-image
+  unfolding image
+  step-long = ap length step-image ∙ length-image (cubes .enc) recordWidth (lawful .len) (length b) m step-room
 
-  -- the buffer is ready again
+  -- and it is ready for the next step
   pub ready-onward : Fits n x → Ready n (length m) cap b′
-  ready-onward fits = next-ready n count cap b b′ m ready step-room step-image (step-kept n cap (records cubes count b) m (ready .good) x fits e .good)
-
--- after the codes at a variable were moved by an order
-module _ (n count cap v o : ℕ) (b b′ : List ℕ) (ready : Ready n count cap b) (e : b′ ≡ image cubes (length b) (map (reordered v o) (records cubes count b))) where
-  reordered-many : length (map (reordered v o) (records cubes count b)) ≡ count
-  reordered-many = length-map (records cubes count b) (reordered v o) ∙ length-records cubes count b
-
-  reordered-room : recordWidth * length (map (reordered v o) (records cubes count b)) ≤ length b
-  reordered-room = rw reordered-many (held-fits cubes lawful count b (ready .held))
-
-  pub reordered-records : records cubes count b′ ≡ map (reordered v o) (records cubes count b)
-  reordered-records =
-      ap (λ (k : ℕ). records cubes k b′) (sym reordered-many)
-      ∙ next-records n count cap b b′ (map (reordered v o) (records cubes count b)) ready reordered-room e
-
-  pub reordered-ready : v < n → o < orderCount → Ready n count cap b′
-  reordered-ready hv ho =
-      subst (λ (k : ℕ). Ready n k cap b′) reordered-many
-      (next-ready n count cap b b′ (map (reordered v o) (records cubes count b)) ready reordered-room e
-      (all-map (Good n) (Good n) (reordered v o) (reordered-good n v o hv ho) (records cubes count b) (ready .good)))
+  ready-onward fits = record {
+    held = holds-held cubes lawful b′ m step-holds;
+    good = subst (All (Good n)) (sym step-records) (step-kept n cap (records cubes count b) m (ready .good) x fits e .good);
+    few = ready .few;
+    room = subst (λ (k : ℕ). recordWidth * cap ≤ k) (sym step-long) (ready .room);
+  }
