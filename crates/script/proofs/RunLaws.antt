@@ -104,6 +104,12 @@ module _ (n : ℕ) (list script : List ℕ) (size : ℕ) where
         script-is = script-accepts n script (p .values) (c .1);
       }
 
+  pub run-few : Passed (checkRun n list script size) → n ≤ mostVariables
+  run-few p = runnable p .list-is .few
+
+  pub run-fit : Passed (checkRun n list script size) → All (λ r. fits n r ≡ true) (listOf stepRecords script)
+  run-fit p = runnable p .script-is .fit
+
 -- ---- the run of an accepted list and script
 
 module _ (n : ℕ) (list script work : List ℕ) (p : Passed (checkRun n list script (length work))) (small : (i : ℕ) → getD list i 0 < 256)
@@ -144,9 +150,6 @@ module _ (n : ℕ) (list script work : List ℕ) (p : Passed (checkRun n list sc
       few = ok .list-is .few;
       room = omega (arith, long, capacity-fits cubes mostRecords (length work));
     }
-
-    pub run-fit : All (λ r. fits n r ≡ true) (listOf stepRecords script)
-    run-fit = ok .script-is .fit
 
     module _ (w₂ : List ℕ) (r : Progress) (s : Stepping n cap (length list / recordWidth) (stepsOf script) w₁ w₂ r) where
       xs : List Step
@@ -216,9 +219,6 @@ module _ (n : ℕ) (list script work : List ℕ) (p : Passed (checkRun n list sc
         run-undo-good =
             all-good-more n mostVariables (records cubes (r .count) w₂) (s .ready f .few) (s .ready f .good)
 
-        pub run-undo-few : n ≤ mostVariables
-        run-undo-few = ok .list-is .few
-
         pub run-undo-orders : All (λ o. o < orderCount) (r .pending)
         run-undo-orders = subst (All (λ o. o < orderCount)) (sym (t .orders)) (pending-orders xs)
 
@@ -234,7 +234,7 @@ module _ (n : ℕ) (list script work : List ℕ) (p : Passed (checkRun n list sc
 
         step-fit-here : All (Fits n) xs
         unfolding xs
-        step-fit-here = script-fits n script run-fit
+        step-fit-here = script-fits n script (ok .script-is .fit)
 
         pub run-done : (w₃ : List ℕ) → w₃ ≡ image cubes (length w₂) (map (restored n (r .pending)) (records cubes (r .count) w₂))
             → Answered n list script work w₃ (finished-is.Done (r .count) (r .peak))
@@ -242,7 +242,7 @@ module _ (n : ℕ) (list script work : List ℕ) (p : Passed (checkRun n list sc
         run-done w₃ e₃ =
             let undone : map (restored n (r .pending)) (records cubes (r .count) w₂) ≡ undo xs l =
             ap (λ (os : List ℕ). map (restored n os) (records cubes (r .count) w₂)) (t .orders)
-            ∙ sym (undo-pending n run-undo-few xs step-fit-here (records cubes (r .count) w₂) (s .ready f .good))
+            ∙ sym (undo-pending n (ok .list-is .few) xs step-fit-here (records cubes (r .count) w₂) (s .ready f .good))
             ∙ ap (undo xs) list-is-last in
             let many-undone : r .count ≡ length (undo xs l) =
             sym (length-records cubes (r .count) w₂) ∙ sym (length-map (records cubes (r .count) w₂) (restored n (r .pending))) ∙ ap length undone in

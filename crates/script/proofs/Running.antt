@@ -18,6 +18,7 @@ use Rattle.records.proofs.Holding.{length-records, length-list}
 use Rattle.cube.specs.declared.Cube.{Cube}
 use Rattle.cube.specs.Lists.{cubes}
 use Rattle.steps.specs.declared.StepRecord.{StepRecord}
+use Rattle.steps.specs.declared.Stepped.{Stepped}
 use Rattle.steps.specs.declared.Stepped.the-variants as stepped-is
 use Rattle.steps.specs.Moves.{After, stop, next}
 use Rattle.steps.specs.Steps.{Step, meaning, step}
@@ -119,10 +120,11 @@ module _ (n cap first : ℕ) (script work : List ℕ) where
       onto = r .so-far ∙ ap (λ (xs : List Step). stepsFrom n cap k peak xs (records cubes count b)) (steps-on n script k x ex h fit)
 
       -- a step that is refused
-      pub running-stop : (number : ℕ) → stepped-is.Refused number ≡ stepped (step n cap (meaning x) (records cubes count b)) → (b″ : List ℕ) → b″ ≡ zeros (length b′)
+      pub running-stop : (s : Stepped) → s ≡ stepped (step n cap (meaning x) (records cubes count b)) → (number : ℕ) → s ≡ stepped-is.Refused number
+          → (b″ : List ℕ) → b″ ≡ zeros (length b′)
           → Stepping n cap first (stepsOf script) work b″ (record { done = false; number = number; place = k; count = 0; peak = 0; pending = nonePending })
-      running-stop number es b″ ez =
-          let e = halted (step n cap (meaning x) (records cubes count b)) number es in
+      running-stop s es number en b″ ez =
+          let e = halted (step n cap (meaning x) (records cubes count b)) number (sym en ∙ es) in
           let whole : stepsFrom n cap 0 first (stepsOf script) (records cubes first work) ≡ stopped number k =
           onto ∙ ap (onward k (λ m. stepsFrom n cap (suc k) (max peak (length m)) (drop (k + 1) (stepsOf script)) m)) e in
           let same : b′ ≡ b = eb ∙ ap (workStepped b) e in
@@ -133,12 +135,12 @@ module _ (n cap first : ℕ) (script work : List ℕ) where
           }
 
       -- one that is done
-      pub running-more : (next-count : ℕ) → stepped-is.Count next-count ≡ stepped (step n cap (meaning x) (records cubes count b))
+      pub running-more : (s : Stepped) → s ≡ stepped (step n cap (meaning x) (records cubes count b)) → (next-count : ℕ) → s ≡ stepped-is.Count next-count
           → (next-peak : ℕ) → next-peak ≡ max peak next-count → (next-pending : List ℕ) → next-pending ≡ pendStep pending (meaning x)
           → Running n cap first script work (k + 1) b′ next-count next-peak next-pending
       unfolding pend
-      running-more c es p ep os eo =
-          let w = went (step n cap (meaning x) (records cubes count b)) c es in
+      running-more s es c en p ep os eo =
+          let w = went (step n cap (meaning x) (records cubes count b)) c (sym en ∙ es) in
           let m : List Cube = w .list in
           record {
             ready = subst (λ (t : ℕ). Ready n t cap b′) (sym (w .many))

@@ -39,6 +39,10 @@ unfolding Held Holds
 undo-none b count v o e h a l =
     h ∙ ap (image cubes (length b)) (none-all v (records cubes count b) l a ∙ ap (λ (p : ℕ). map (reordered v (inverse p)) (records cubes count b)) (sym e))
 
+pub undo-done : (b b′ : List ℕ) (count v o p : ℕ) → p ≡ inverse o → b′ ≡ image cubes (length b) (map (reordered v p) (records cubes count b))
+    → b′ ≡ image cubes (length b) (map (reordered v (inverse o)) (records cubes count b))
+undo-done b b′ count v o p e f = f ∙ ap (λ (q : ℕ). image cubes (length b) (map (reordered v q) (records cubes count b))) e
+
 -- ---- the loop
 
 -- the orders of the first v variables are taken back
