@@ -3,3 +3,4 @@ pub mod Forming
 pub mod Written
 pub mod SettleLaws
 pub mod Settling
+pub mod Determined
