@@ -4,5 +4,6 @@ pub mod Written
 pub mod Fewest
 pub mod Calling
 pub mod DemandOne
+pub mod DemandTwo
 pub mod DemandThree
 pub mod Examples
