@@ -1,11 +1,11 @@
 -- Laws of the tests, sums and lists over the numbers below a bound, and of the set bits of a number.
 -- Assumes nothing.
 use mathlib.Core.Path.{_≡_, refl, sym, ap, ap₂, _∙_, subst}
-use mathlib.Core.Logic.{_≢_, _⊎_, inl, inr}
-use mathlib.Core.Bool.{Bool, true, false, not, cond, _&&_}
+use mathlib.Core.Logic.{inl, inr}
+use mathlib.Core.Bool.{Bool, true, false, not, cond}
 use mathlib.Core.List.{List, [], _∷_, _++_, append-assoc, map, List·Memᴰ, List·Memᴰ·head, List·Memᴰ·tail, List·Memᴰ·not-nil, List·Memᴰ·cases-cons}
-use Prim.Native.Nat.{ℕ, zero, suc, _+_, _*_, _/_, _%_, _^_, _≤_, _<_, suc-le-suc}
-use native.Mathlib.Nat.{mod-lt, zero-lt-suc, pow-suc, add-zero, add-suc, suc-add, zero-add, add-assoc, le-refl, le-of-suc-le-suc, not-suc-le-zero}
+use Prim.Native.Nat.{ℕ, zero, suc, _+_, _/_, _%_, _^_, _≤_, _<_, suc-le-suc}
+use native.Mathlib.Nat.{mod-lt, zero-lt-suc, add-zero, add-suc, add-assoc, le-refl, le-of-suc-le-suc, not-suc-le-zero}
 use native.Mathlib.Decide.{ℕ-discrete}
 use native.Mathlib.Numerals.{add-one}
 use native.Mathlib.Omega.{arith}
@@ -17,8 +17,8 @@ use lib.ListN.{length, getD, drop, set}
 use lib.Seq.{ext-getD, drop-cons, set-at}
 use Rattle.bits.specs.Bits.{bit}
 use Rattle.bits.specs.Below.{allBelow, those, sumBelow, listBelow}
-use Rattle.bits.proofs.Bools.{both-true, true-both, same-bool, all-at, all-true}
-use Rattle.bits.proofs.Bits.{bit-zero, bit-suc, bit-lt, half-lt, bit-ext-below}
+use Rattle.bits.proofs.Bools.{same-bool, all-at, all-true}
+use Rattle.bits.proofs.Bits.{bit-zero, bit-suc, half-lt, bit-ext-below}
 
 -- two numbers below 2 ^ n are equal where their bits are
 pub eqb-bits : (n a b : ℕ) → a < 2 ^ n → b < 2 ^ n → allBelow n (λ k. eqb (bit a k) (bit b k)) ≡ eqb a b

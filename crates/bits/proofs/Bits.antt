@@ -2,15 +2,15 @@
 -- Assumes nothing.
 use mathlib.Core.Path.{_≡_, refl, sym, ap, ap₂, _∙_, subst}
 use mathlib.Core.Logic.{_≢_}
-use mathlib.Core.Bool.{Bool, true, false}
-use Prim.Native.Nat.{ℕ, zero, suc, _+_, _-_, _*_, _/_, _%_, _^_, _≤_, _<_, min, max, zero-le, suc-le-suc}
-use native.Mathlib.Nat.{mod-lt, mod-le, div-one, mul-one, mul-assoc, pow-suc, div-eq-of-lt, lt-of-lt-of-le, lt-of-not-le, le-trans, le-antisymm, le-of-eq, mul-le-mul-right, div-mul-le-self, zero-lt-suc, not-suc-le-zero, le-of-suc-le-suc, div-add-mod', div-lt-iff-lt-mul, one-mul, min-zero, max-zero, min-eq-left}
+use mathlib.Core.Bool.{true}
+use Prim.Native.Nat.{ℕ, zero, suc, _+_, _*_, _/_, _%_, _^_, _≤_, _<_, min, max, zero-le, suc-le-suc}
+use native.Mathlib.Nat.{mod-lt, mod-le, div-one, mul-one, mul-assoc, pow-suc, div-eq-of-lt, lt-of-lt-of-le, lt-of-not-le, le-trans, mul-le-mul-right, div-mul-le-self, zero-lt-suc, div-add-mod', div-lt-iff-lt-mul, one-mul, min-zero, max-zero, min-eq-left}
 use native.Mathlib.Decide.{ℕ-discrete, decLe}
 use native.Mathlib.Numerals.{add-one, one-add}
 use native.Mathlib.Omega.{arith}
 use borrow.Author.Tests.{eqb-true, eq-eqb}
-use lib.Arith.{digits-mod, digits-div, lt-one, bin-ind}
-use lib.Dec.{lit<, eqb}
+use lib.Arith.{digits-mod, digits-div, bin-ind}
+use lib.Dec.{lit<}
 use lib.Pow.{pow-pos, pow-mono, shr-shr, shr-lt, shl-exact}
 use lib.Bits.{bitAnd, bitOr, bitXor, differ, and-shr, or-shr, xor-shr, and-step, or-step, xor-step}
 use Rattle.bits.specs.Bits.{bit, withBit, within}

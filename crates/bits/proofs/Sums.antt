@@ -1,11 +1,10 @@
--- Laws of lists of any kind of element: what changes at a place do to a sum modulo 2 and to what holds of every element, and the first that fails.
+-- Laws of lists of any kind of element: what changes at a place do to a sum modulo 2 and to what holds of every element, maps, and the first that fails.
 -- Assumes nothing.
-use mathlib.Core.Path.{_≡_, refl, sym, ap, ap₂, _∙_, subst}
-use mathlib.Core.Logic.{_≢_}
-use mathlib.Core.Bool.{Bool, true, false, not, cond}
+use mathlib.Core.Path.{_≡_, refl, sym, ap, ap₂, _∙_}
+use mathlib.Core.Bool.{Bool, true, false, cond}
 use mathlib.Core.List.{List, [], _∷_, _++_, map}
-use Prim.Native.Nat.{ℕ, zero, suc, _+_, _-_, _%_, _≤_, _<_, suc-le-suc, zero-le}
-use native.Mathlib.Nat.{not-suc-le-zero, le-of-suc-le-suc, add-zero, add-suc, zero-add, suc-add}
+use Prim.Native.Nat.{ℕ, zero, suc, _+_, _%_, _≤_, _<_, suc-le-suc, zero-le}
+use native.Mathlib.Nat.{not-suc-le-zero, le-of-suc-le-suc, add-zero, zero-add}
 use native.Mathlib.Numerals.{add-one}
 use native.Mathlib.Omega.{arith}
 use lib.ListN.{length, getD, set, take, drop, drop-of-length-le}
@@ -112,9 +111,34 @@ module _ {A : Type 0} (P : A → Type 0) where
   all-map Q f h [] a = tt
   all-map Q f h (x ∷ l) a = (h x (a .0), all-map Q f h l (a .1))
 
+  pub all-each : (Q : A → Type 0) → ((x : A) → P x → Q x) → (l : List A) → All P l → All Q l
+  all-each Q h [] a = tt
+  all-each Q h (x ∷ l) a = (h x (a .0), all-each Q h l (a .1))
+
   pub all-of : (d : A) (l : List A) → ((i : ℕ) → i < length l → P (getD l i d)) → All P l
   all-of d [] h = tt
   all-of d (x ∷ l) h = (h 0 (omega arith), all-of d l (λ i b. h (suc i) (suc-le-suc b)))
+
+-- ---- maps
+
+pub map-same : {A : Type 0} (l : List A) → l ≡ map (λ x. x) l
+map-same [] = refl
+map-same (x ∷ l) = ap (λ (r : List _). x ∷ r) (map-same l)
+
+pub map-map : {A B C : Type 0} (g : B → C) (f : A → B) (l : List A) → map g (map f l) ≡ map (λ x. g (f x)) l
+map-map g f [] = refl
+map-map g f (x ∷ l) = ap (λ (r : List _). g (f x) ∷ r) (map-map g f l)
+
+module _ {A B : Type 0} (P : A → Type 0) (f : A → B) where
+  -- functions that agree where P holds
+  pub map-each : (g : A → B) → ((x : A) → P x → f x ≡ g x) → (l : List A) → All P l → map f l ≡ map g l
+  map-each g h [] a = refl
+  map-each g h (x ∷ l) a = ap₂ (λ (y : B) (r : List B). y ∷ r) (h x (a .0)) (map-each g h l (a .1))
+
+  -- there and back
+  pub map-back : (g : B → A) → ((x : A) → P x → g (f x) ≡ x) → (l : List A) → All P l → map g (map f l) ≡ l
+  map-back g h [] a = refl
+  map-back g h (x ∷ l) a = ap₂ (λ (y : A) (r : List A). y ∷ r) (h x (a .0)) (map-back g h l (a .1))
 
 -- ---- the first element that fails
 

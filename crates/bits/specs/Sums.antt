@@ -1,6 +1,6 @@
 -- Lists of any kind of element: how many pass a test, the sum modulo 2 of a weight, and the first that fails.
 -- Assumes nothing.
-use Prim.Native.Nat.{ℕ, zero, suc, _+_}
+use Prim.Native.Nat.{ℕ, suc, _+_}
 use mathlib.Core.Bool.{Bool, true, false, cond, not}
 use mathlib.Core.List.{List, [], _∷_}
 

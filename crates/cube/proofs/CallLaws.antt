@@ -9,9 +9,8 @@ use borrow.Author.Tests.{lt-ltb, le-ltb, le-leb, lt-leb}
 use Rattle.bits.specs.Below.{listBelow}
 use Rattle.bits.proofs.Below.{filling-none, filling-more}
 use Rattle.records.specs.declared.Refusal.{Refusal}
-use Rattle.records.specs.Answers.{Outcome, accepted, refused, refusal, unless, andThen, afterCall}
+use Rattle.records.specs.Answers.{Outcome, accepted, refused, refusal}
 use Rattle.records.proofs.Answering.{and-then, and-not, after-accepted, after-refused}
-use Rattle.cube.specs.declared.Cube.{Cube}
 use Rattle.cube.specs.Lists.{cubesOf, trues, listValue, truthVector, mostVariables, vectorVariables}
 use Rattle.cube.specs.Calls.{checkList, valueOutcome, vectorOutcome, vectorAfter}
 

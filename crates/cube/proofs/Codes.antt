@@ -2,17 +2,15 @@
 -- Assumes nothing.
 use mathlib.Core.Path.{_≡_, refl, sym, ap, ap₂, _∙_, subst}
 use mathlib.Core.Logic.{_≢_}
-use mathlib.Core.Bool.{Bool, true, false, not, cond, _&&_}
-use Prim.Native.Nat.{ℕ, zero, suc, _+_, _/_, _^_, _≤_, _<_, zero-le}
-use native.Mathlib.Nat.{not-suc-le-zero, le-of-suc-le-suc, le-refl, le-trans, lt-of-lt-of-le, div-eq-of-lt}
+use mathlib.Core.Bool.{true, false, cond, _&&_}
+use Prim.Native.Nat.{ℕ, zero, suc, _/_, _^_, _≤_, _<_, zero-le}
+use native.Mathlib.Nat.{le-refl, le-trans, lt-of-lt-of-le, div-eq-of-lt}
 use native.Mathlib.Decide.{ℕ-discrete, decLt}
 use native.Mathlib.Omega.{arith}
 use borrow.Author.Tests.{eqb-true, eq-eqb, ltb-true, lt-ltb, le-ltb, leb-true, le-leb}
 use lib.Dec.{eqb, ltb, leb}
 use lib.Pow.{pow-mono}
 use Rattle.bits.specs.Bits.{bit, withBit, within}
-use Rattle.bits.specs.Below.{allBelow}
-use Rattle.bits.specs.Sums.{oneIf}
 use Rattle.bits.proofs.Bools.{both-true, true-both, same-bool, all-at, all-at₂, one-lt}
 use Rattle.bits.proofs.Bits.{bit-lt, bit-ext, bit-high, below-pow, with-same, with-other, with-with, with-comm, within-bit, bit-within, lt-of-shift}
 use Rattle.cube.specs.declared.Cube.{Cube}

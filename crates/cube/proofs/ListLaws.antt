@@ -1,32 +1,31 @@
 -- Laws of lists of cubes: their records, the check of a list by its tests, and how many products are true.
 -- Assumes nothing.
-use mathlib.Core.Path.{_≡_, refl, sym, ap, ap₂, _∙_, subst}
-use mathlib.Core.Bool.{Bool, true, false}
-use mathlib.Core.List.{List, [], _∷_, _++_}
-use Prim.Native.Nat.{ℕ, zero, suc, _+_, _*_, _/_, _%_, _^_, _≤_, _<_, min}
+use mathlib.Core.Path.{_≡_, refl, sym, ap, ap₂, _∙_}
+use mathlib.Core.Bool.{true}
+use mathlib.Core.List.{List, [], _∷_}
+use Prim.Native.Nat.{ℕ, zero, suc, _+_, _*_, _/_, _%_, _≤_, _<_}
 use native.Mathlib.Nat.{add-zero, lt-of-lt-of-le, mod-eq-of-lt, min-eq-left, min-eq-right, le-of-lt}
 use native.Mathlib.Omega.{arith}
 use lib.Dec.{lit<, eqb, leb}
 use lib.ListN.{length, getD, set}
 use lib.Pow.{pow-mono}
-use lib.Seq.{sets}
 use borrow.Author.Tests.{le-leb, lt-leb, eq-eqb, ne-eqb, leb-true, eqb-true}
 use native.Mathlib.Numerals.{add-one, add-two, add-three}
 use Rattle.bits.specs.Sums.{All, firstBad}
-use Rattle.bits.proofs.Sums.{all-get-or}
-use Rattle.records.specs.Words.{word, wordOf, wordAt, wordSize}
-use Rattle.records.specs.Records.{flat, image, filled, Codec, records, listOf, stored, capacityOf}
+use Rattle.bits.proofs.Sums.{all-get-or, all-each}
+use Rattle.records.specs.Words.{wordOf, wordAt}
+use Rattle.records.specs.Records.{flat, image, filled, records, stored, capacityOf}
 use Rattle.records.specs.declared.Refusal.{Refusal}
-use Rattle.records.specs.Answers.{Outcome, accepted, refused, refusal, unless, unlessAt}
+use Rattle.records.specs.Answers.{accepted, refused, refusal, unlessAt}
 use Rattle.records.proofs.WordLaws.{word-back, word-low, word-high, cut-low, cut-high}
 use Rattle.records.proofs.Images.{image-get, flat-listBelow}
-use Rattle.records.proofs.Holding.{Lawful, length-list, list-at, list-past, stored-in, stored-out, place-room}
+use Rattle.records.proofs.Holding.{Lawful, length-list, list-at, list-past, stored-in, stored-out}
 use Rattle.records.proofs.Answering.{unless-accepted, unless-at-accepted, unless-at-refused, unless-at-passed}
 use Rattle.cube.specs.declared.Cube.{Cube}
 use Rattle.cube.specs.Cubes.{one, good, Good}
 use Rattle.cube.specs.Lists.{cubes, cubesOf, narrow, recordWidth, mostRecords, cubeCapacity}
 use Rattle.cube.specs.Calls.{checkList}
-use Rattle.cube.proofs.Codes.{good-parts, good-seen, good-value, one-good}
+use Rattle.cube.proofs.Codes.{good-parts, good-seen, good-value, good-more, one-good}
 
 -- ---- the record of a cube
 
@@ -156,10 +155,6 @@ pub record Accepted (limit n : ℕ) (b : List ℕ) : Type 0 where
   pub short : length b / recordWidth ≤ mostRecords
   pub good : All (Good n) (cubesOf b)
 
-all-good : (n : ℕ) (l : List Cube) → All (λ c. good n c ≡ true) l → All (Good n) l
-all-good n [] a = tt
-all-good n (c ∷ l) a = (good-parts n c (a .0), all-good n l (a .1))
-
 pub check-accepts : (limit n : ℕ) (b v : List ℕ) → checkList limit n b ≡ accepted v → Accepted limit n b
 unfolding checkList
 check-accepts limit n b v e =
@@ -171,9 +166,13 @@ check-accepts limit n b v e =
       few = leb-true n limit (p .0);
       whole = eqb-true (length b % 4) 0 (q .0);
       short = leb-true (length b / 4) 4096 (r .0);
-      good = all-good n (cubesOf b) (s .0);
+      good = all-each (λ c. good n c ≡ true) (Good n) (good-parts n) (cubesOf b) (s .0);
     }
 
 -- each place of a list of good cubes, also past its end, where the product with no literal stands
 pub good-at : (n : ℕ) (l : List Cube) → All (Good n) l → (i : ℕ) → Good n (getD l i one)
 good-at n l a i = all-get-or (Good n) l i one a (one-good n)
+
+-- good over some variables is good over more
+pub all-good-more : (m n : ℕ) (l : List Cube) → m ≤ n → All (Good m) l → All (Good n) l
+all-good-more m n l h a = all-each (Good m) (Good n) (λ c g. good-more m n c h g) l a

@@ -1,18 +1,16 @@
 -- From codes to masks: a product's truth by one masked comparison, and the set of the variables in which two cubes differ. Over n.
 -- Assumes nothing.
 use mathlib.Core.Path.{_≡_, refl, sym, ap, ap₂, _∙_}
-use mathlib.Core.Bool.{Bool, true, false, not, cond, _&&_, _||_, Bool·beq}
-use mathlib.Core.List.{List}
-use Prim.Native.Nat.{ℕ, zero, suc, _^_, _≤_, _<_, min, max}
+use mathlib.Core.Bool.{Bool, true, not, cond, Bool·beq}
+use Prim.Native.Nat.{ℕ, _^_, _≤_, _<_, min, max}
 use native.Mathlib.Nat.{lt-of-le-of-lt}
-use native.Mathlib.Omega.{arith}
 use borrow.Author.Tests.{le-leb}
-use lib.Bits.{bitAnd, bitOr, bitXor, differ, and-le-l, or-lt, xor-lt}
+use lib.Bits.{bitAnd, bitXor, differ, and-le-l, or-lt, xor-lt}
 use lib.Count.{ones, trailingZeros}
 use lib.Dec.{eqb, leb}
 use lib.ListN.{length}
 use Rattle.bits.specs.Bits.{bit}
-use Rattle.bits.specs.Below.{allBelow, those}
+use Rattle.bits.specs.Below.{allBelow}
 use Rattle.bits.proofs.Bools.{beq-eq, all-at₃, all-at, all-ext}
 use Rattle.bits.proofs.Bits.{bit-lt, bit-and, bit-or, bit-xor}
 use Rattle.bits.proofs.Below.{eqb-bits, those-cong, setBits, count-setBits, headOr, first-setBit}

@@ -1,21 +1,21 @@
 -- What the definitions mean, in document 01's words: theorems for readers.
 -- Assumes nothing.
-use mathlib.Core.Path.{_≡_, refl, sym, ap, _∙_}
-use mathlib.Core.Bool.{Bool, true, false}
+use mathlib.Core.Path.{_≡_}
+use mathlib.Core.Bool.{true}
 use mathlib.Core.List.{List}
-use Prim.Native.Nat.{ℕ, _*_, _^_, _≤_, _<_}
+use Prim.Native.Nat.{ℕ, _*_, _^_, _<_}
 use lib.Bits.{bitAnd}
 use lib.Count.{ones}
 use lib.Dec.{eqb}
 use lib.ListN.{length, getD}
 use Rattle.bits.specs.Bits.{bit}
-use Rattle.bits.specs.Sums.{sum, oneIf, tally, All}
+use Rattle.bits.specs.Sums.{sum, oneIf}
 use Rattle.bits.proofs.Bools.{all-at, all-true}
-use Rattle.bits.proofs.Sums.{tally-sum, first-le, first-fails, first-lowest}
+use Rattle.bits.proofs.Sums.{tally-sum}
 use Rattle.records.specs.Records.{flat, records, image}
 use Rattle.cube.specs.declared.Cube.{Cube}
-use Rattle.cube.specs.Cubes.{code, Good, good, met, holds, one, apart, differing}
-use Rattle.cube.specs.Lists.{cubes, cubesOf, recordWidth, trues, listValue}
+use Rattle.cube.specs.Cubes.{code, Good, met, holds, one, apart, differing}
+use Rattle.cube.specs.Lists.{cubes, recordWidth, trues, listValue}
 use Rattle.cube.proofs.Codes.{cube-ext}
 use Rattle.cube.proofs.Masks.{holds-mask, apart-count}
 use Rattle.cube.proofs.ListLaws.{lawful, cubes-bytes}

@@ -1,7 +1,7 @@
 -- A cube by its literal codes, and when it is true. Document 01, "Cubes and lists"; 002, definition 3.3. Nothing here knows the width of a record.
 -- Assumes nothing.
 use mathlib.Core.Path.{_≡_}
-use mathlib.Core.Bool.{Bool, true, false, not, cond, _&&_, _||_}
+use mathlib.Core.Bool.{Bool, not, cond, _&&_, _||_}
 use mathlib.Core.List.{List}
 use Prim.Native.Nat.{ℕ, zero, suc, _^_, _≤_}
 use lib.Dec.{eqb, ltb}

@@ -2,7 +2,6 @@
 -- Assumes nothing.
 use mathlib.Core.List.{List, _++_}
 use Prim.Native.Nat.{ℕ, _+_, _*_, _%_, _^_}
-use lib.ListN.{length}
 use Rattle.bits.specs.Below.{listBelow}
 use Rattle.bits.specs.Sums.{tally}
 use Rattle.records.specs.Words.{word, wordAt, wordSize}

@@ -5,9 +5,9 @@ use mathlib.Core.Bool.{Bool, true, false, cond}
 use Prim.Native.Nat.{ℕ, zero, suc, _+_, _-_, _≤_, _<_}
 use native.Mathlib.Numerals.{add-one}
 use native.Mathlib.Omega.{arith}
-use mathlib.Core.List.{List, [], _∷_, _++_, append-assoc, append-nil}
+use mathlib.Core.List.{List, _++_, append-assoc, append-nil}
 use lib.Dec.{leb}
-use lib.ListN.{length, take, drop, getD, set, replicate, length-set, length-append, length-replicate, length-take, length-drop, drop-of-length-le, List·getD-append}
+use lib.ListN.{length, take, drop, getD, set, replicate, length-set, length-append, length-replicate, drop-of-length-le, List·getD-append}
 use lib.Seq.{take-suc, take-all, drop-cons, drop-at, set-at, length-take-le, getD-append-add}
 use borrow.Author.Tests.{le-leb, lt-leb, leb-true}
 use Rattle.records.specs.Records.{filled, filledBy, zeros}

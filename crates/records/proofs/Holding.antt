@@ -2,20 +2,19 @@
 -- Assumes nothing.
 use mathlib.Core.Path.{_≡_, refl, sym, ap, ap₂, _∙_, subst}
 use mathlib.Core.Bool.{Bool, true, false, cond}
-use Prim.Native.Nat.{ℕ, zero, suc, _+_, _-_, _*_, _/_, _≤_, _<_, min}
-use native.Mathlib.Nat.{mul-suc, mul-comm, le-trans, le-of-eq, mul-le-mul-left, le-div-iff-mul-le, div-mul-le-self, min-le-left, min-le-right, add-zero, add-suc, suc-add, mul-zero}
+use Prim.Native.Nat.{ℕ, suc, _+_, _*_, _/_, _≤_, _<_}
+use native.Mathlib.Nat.{mul-suc, mul-comm, le-trans, mul-le-mul-left, le-div-iff-mul-le, div-mul-le-self, min-le-left, min-le-right, add-zero, add-suc, suc-add, mul-zero}
 use native.Mathlib.Omega.{arith}
 use mathlib.Core.List.{List, [], _∷_, _++_, append-assoc}
 use lib.Dec.{ltb}
-use lib.ListN.{length, take, drop, getD, set, replicate, length-append, length-set, length-replicate, length-drop, List·getD-eq-default}
+use lib.ListN.{length, drop, getD, set, replicate, length-append, length-replicate, length-drop, List·getD-eq-default}
 use lib.Seq.{sets, length-sets, sets-eq, drop-drop}
 use borrow.Author.Tests.{lt-ltb, le-ltb}
-use native.Mathlib.Decide.{decLt}
 use Rattle.bits.proofs.Below.{length-listBelow, getD-listBelow, is-listBelow}
 use Rattle.records.specs.Places.{removeAt}
 use Rattle.records.specs.Records.{flat, filled, Codec, stored, records, listOf, written, image, Holds, Held, capacityOf}
 use Rattle.records.proofs.Filling.{length-filled}
-use Rattle.records.proofs.Images.{length-flat, length-image, image-put, image-push, image-remove, length-remove, sets-past}
+use Rattle.records.proofs.Images.{length-flat, length-image, image-put, image-push, image-remove, sets-past}
 
 -- What has to be shown of a codec, once for each kind of record
 pub record Lawful {A : Type 0} (C : Codec A) : Type 0 where

@@ -1,8 +1,8 @@
 -- Laws of the bytes of a list of records and of its image in a buffer, over any kind of record and its width.
 -- Assumes nothing.
-use mathlib.Core.Path.{_≡_, refl, sym, ap, ap₂, _∙_, subst}
+use mathlib.Core.Path.{_≡_, refl, sym, ap, _∙_, subst}
 use Prim.Native.Nat.{ℕ, zero, suc, _+_, _-_, _*_, _≤_, _<_, suc-le-suc}
-use native.Mathlib.Nat.{mul-zero, mul-suc, add-comm, add-assoc, add-zero, zero-add, not-suc-le-zero, le-of-suc-le-suc, suc-add, zero-lt-suc, suc-ne-zero}
+use native.Mathlib.Nat.{mul-zero, mul-suc, add-comm, add-assoc, zero-add, not-suc-le-zero, le-of-suc-le-suc, suc-add, zero-lt-suc, suc-ne-zero}
 use native.Mathlib.Omega.{arith}
 use mathlib.Core.List.{List, [], _∷_, _++_, append-assoc, append-nil}
 use lib.ListN.{length, take, drop, getD, set, replicate, length-append, length-set, length-replicate, replicate-append-replicate, length-take, length-drop, take-append-drop, List·getD-append}

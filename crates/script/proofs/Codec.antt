@@ -2,16 +2,16 @@
 -- Assumes nothing.
 use mathlib.Core.Path.{_≡_, refl, sym, ap, ap₂, _∙_}
 use mathlib.Core.Bool.{true, false≢true}
-use mathlib.Core.List.{List, [], _∷_, _++_, map, append-nil}
+use mathlib.Core.List.{List, _++_, map, append-nil}
 use Prim.Native.Nat.{ℕ, zero, suc, _+_, _-_, _*_, _/_, _%_, _≤_, _<_}
 use native.Mathlib.Nat.{add-zero}
 use native.Mathlib.Omega.{arith}
 use lib.Dec.{eqb, ltb, leb}
 use lib.ListN.{length, getD, replicate}
 use borrow.Author.Tests.{eqb-true, eq-eqb, ltb-true, leb-true, lt-ltb, le-leb}
-use Rattle.bits.specs.Sums.{All, firstBad}
+use Rattle.bits.specs.Sums.{All}
 use Rattle.bits.proofs.Bools.{both-true, true-both}
-use Rattle.bits.proofs.Sums.{all-get-or, all-map, first-none}
+use Rattle.bits.proofs.Sums.{all-get-or, all-map, map-same, map-map, map-back}
 use Rattle.records.specs.Words.{wordOf, wordAt}
 use Rattle.records.specs.Records.{flat, filled, image, records, listOf, Holds}
 use Rattle.records.proofs.WordLaws.{word-back, word-low, word-high}
@@ -181,28 +181,20 @@ records-of-bytes l =
 abbrev pub scriptBytes : List Step → List ℕ
 scriptBytes xs = flat (stepRecords .enc) (map recordOf xs)
 
-map-back : {A B : Type 0} (f : A → B) (g : B → A) (P : A → Type 0) → ((x : A) → P x → g (f x) ≡ x) → (l : List A) → All P l → map g (map f l) ≡ l
-map-back f g P h [] a = refl
-map-back f g P h (x ∷ l) a = ap₂ _∷_ (h x (a .0)) (map-back f g P h l (a .1))
-
-all-true : {A : Type 0} (l : List A) → All (λ x. Unit {0}) l
-all-true [] = tt
-all-true (x ∷ l) = (tt, all-true l)
-
 -- a script that was written is read back
 pub script-read : (xs : List Step) → stepsOf (scriptBytes xs) ≡ xs
 unfolding stepsOf
-script-read xs = ap (map meaning) (records-of-bytes (map recordOf xs)) ∙ map-back recordOf meaning (λ x. Unit {0}) (λ x t. meaning-record x) xs (all-true xs)
+script-read xs =
+    ap (map meaning) (records-of-bytes (map recordOf xs)) ∙ map-map meaning recordOf xs ∙ (λ k. map (λ x. meaning-record x k) xs) ∙ sym (map-same xs)
 
 -- a script that is not refused, written again, has the same bytes
 pub script-written : (n : ℕ) (b : List ℕ) → All (λ x. x < 256) b → length b % stepWidth ≡ 0 → All (λ r. fits n r ≡ true) (listOf stepRecords b)
     → scriptBytes (stepsOf b) ≡ b
 unfolding stepsOf
 script-written n b bytes e a =
-    ap (flat (stepRecords .enc)) (map-back meaning recordOf (λ r. fits n r ≡ true) (record-meaning n) (listOf stepRecords b) a) ∙ bytes-of-records b bytes e
+    ap (flat (stepRecords .enc)) (map-back (λ r. fits n r ≡ true) meaning recordOf (record-meaning n) (listOf stepRecords b) a) ∙ bytes-of-records b bytes e
 
 -- the steps of a script that is not refused fit
-pub script-fits : (n : ℕ) (b : List ℕ) → firstBad (fits n) (listOf stepRecords b) ≡ length (listOf stepRecords b) → All (Fits n) (stepsOf b)
+pub script-fits : (n : ℕ) (b : List ℕ) → All (λ r. fits n r ≡ true) (listOf stepRecords b) → All (Fits n) (stepsOf b)
 unfolding stepsOf
-script-fits n b e =
-    all-map (λ r. fits n r ≡ true) (Fits n) meaning (meaning-fits n) (listOf stepRecords b) (first-none (fits n) (listOf stepRecords b) e)
+script-fits n b a = all-map (λ r. fits n r ≡ true) (Fits n) meaning (meaning-fits n) (listOf stepRecords b) a

@@ -10,7 +10,7 @@ use native.Mathlib.Omega.{arith}
 use lib.ListN.{length, getD, set, replicate, length-set}
 use lib.Seq.{getD-set-same, getD-set-other}
 use Rattle.bits.specs.Sums.{All}
-use Rattle.bits.proofs.Sums.{all-set, all-get-or}
+use Rattle.bits.proofs.Sums.{all-set, all-get-or, map-same, map-map, map-each}
 use Rattle.records.proofs.Filling.{zeros-at}
 use Rattle.cube.specs.declared.Cube.{Cube}
 use Rattle.cube.specs.Cubes.{code, Good}
@@ -31,14 +31,6 @@ use Rattle.script.specs.Pending.{nonePending, pendStep, pend, restored}
 unfoldable pub undone : List Step → Cube → Cube
 undone [] c = c
 undone (x ∷ xs) c = takenBack x (undone xs c)
-
-map-same : (l : List Cube) → l ≡ map (λ c. c) l
-map-same [] = refl
-map-same (c ∷ l) = ap (λ (r : List Cube). c ∷ r) (map-same l)
-
-map-map : {A B C : Type 0} (g : B → C) (f : A → B) (l : List A) → map g (map f l) ≡ map (λ x. g (f x)) l
-map-map g f [] = refl
-map-map g f (x ∷ l) = ap (λ (r : List _). g (f x) ∷ r) (map-map g f l)
 
 pub unstep-map : (x : Step) (l : List Cube) → unstep x l ≡ map (takenBack x) l
 unstep-map (drop i j) l = map-same l
@@ -201,8 +193,4 @@ module _ (n : ℕ) (few : n ≤ mostVariables) (xs : List Step) (fits : All (Fit
 
   -- the whole list
   pub undo-pending : (l : List Cube) → All (Good n) l → undo xs l ≡ map (restored n (pend nonePending xs)) l
-  undo-pending l a = undo-map xs l ∙ each l a
-    where
-      each : (l : List Cube) → All (Good n) l → map (undone xs) l ≡ map (restored n (pend nonePending xs)) l
-      each [] a = refl
-      each (c ∷ l) a = ap₂ (λ (x : Cube) (r : List Cube). x ∷ r) (undone-restored c (a .0)) (each l (a .1))
+  undo-pending l a = undo-map xs l ∙ map-each (Good n) (undone xs) (restored n (pend nonePending xs)) undone-restored l a

@@ -1,6 +1,6 @@
 -- The records of a script: what is read at a place, and rule 9 by the first of its tests that fails.
 -- Assumes nothing.
-use mathlib.Core.Path.{_≡_, refl, sym, ap, ap₂, _∙_}
+use mathlib.Core.Path.{_≡_, refl, sym, ap, _∙_}
 use mathlib.Core.Bool.{Bool, true, false, not, _&&_}
 use mathlib.Core.List.{List, [], _∷_}
 use Prim.Native.Nat.{ℕ, _+_, _*_, _/_, _%_, _≤_, _<_}
@@ -9,10 +9,10 @@ use borrow.Author.Tests.{not-true, not-false, le-leb, lt-leb, eq-eqb, ne-eqb, le
 use lib.Dec.{eqb, ltb, leb}
 use lib.ListN.{length, getD}
 use Rattle.bits.specs.Sums.{All, firstBad}
-use Rattle.records.specs.Words.{wordOf, wordAt}
+use Rattle.records.specs.Words.{wordOf}
 use Rattle.records.specs.Records.{listOf}
 use Rattle.records.specs.declared.Refusal.{Refusal}
-use Rattle.records.specs.Answers.{Outcome, accepted, refused, refusal, unless, unlessAt}
+use Rattle.records.specs.Answers.{accepted, refused, refusal, unlessAt}
 use Rattle.records.proofs.Holding.{length-list, list-at, list-past}
 use Rattle.records.proofs.Answering.{unless-accepted, unless-at-accepted, unless-at-refused, unless-at-passed}
 use Rattle.steps.specs.declared.StepRecord.{StepRecord}

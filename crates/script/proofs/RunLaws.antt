@@ -3,18 +3,16 @@
 use mathlib.Core.Path.{_≡_, refl, sym, ap, ap₂, _∙_, subst}
 use mathlib.Core.Bool.{Bool, true, false, true≢false}
 use mathlib.Core.List.{List, [], _∷_, map}
-use Prim.Native.Nat.{ℕ, zero, suc, _+_, _*_, _/_, _%_, _≤_, _<_}
-use native.Mathlib.Nat.{le-trans, mul-le-mul-left}
+use Prim.Native.Nat.{ℕ, zero, suc, _*_, _/_, _≤_, _<_}
 use native.Mathlib.Omega.{arith}
 use borrow.Author.Tests.{le-leb, lt-leb, leb-true}
 use lib.Dec.{leb}
 use lib.ListN.{length, getD, set, length-map}
 use lib.Seq.{set-out}
 use Rattle.bits.specs.Sums.{All}
-use Rattle.bits.proofs.Sums.{all-map, all-get}
 use Rattle.records.specs.declared.Refusal.{Refusal}
-use Rattle.records.specs.Records.{Holds, Held, records, listOf, image, filledBy, filled, zeros, capacityOf, flat}
-use Rattle.records.specs.Answers.{Outcome, accepted, refused, refusal, unless, andThen}
+use Rattle.records.specs.Records.{Holds, Held, records, listOf, image, filledBy, flat}
+use Rattle.records.specs.Answers.{Outcome, accepted, refused, refusal, unless}
 use Rattle.records.proofs.Answering.{unless-accepted, both-accepted, and-then, and-not}
 use Rattle.records.proofs.Filling.{filled-by, length-filled-by}
 use Rattle.records.proofs.Holding.{length-records, length-list, capacity-fits, held-fits, holds-held, holds-records, filled-holds, image-holds}
@@ -22,11 +20,10 @@ use Rattle.cube.specs.declared.Cube.{Cube}
 use Rattle.cube.specs.Cubes.{Good}
 use Rattle.cube.specs.Lists.{cubes, cubesOf, cubeCapacity, recordWidth, mostRecords, mostVariables}
 use Rattle.cube.specs.Calls.{checkList}
-use Rattle.cube.proofs.Codes.{good-more}
-use Rattle.cube.proofs.ListLaws.{lawful, Accepted, check-accepts, cubes-bytes}
+use Rattle.cube.proofs.ListLaws.{lawful, Accepted, check-accepts, cubes-bytes, all-good-more}
 use Rattle.orders.specs.Orders.{orderCount, noOrder, follow, letterOrder}
 use Rattle.steps.specs.declared.StepRecord.{StepRecord}
-use Rattle.steps.specs.Steps.{Step, L, meaning, meaningBy, Fits}
+use Rattle.steps.specs.Steps.{Step, meaning, meaningBy, Fits}
 use Rattle.steps.specs.Calls.{Ready}
 use Rattle.script.specs.declared.Finished.{Finished}
 use Rattle.script.specs.declared.Finished.the-variants as finished-is
@@ -36,8 +33,8 @@ use Rattle.script.specs.Pending.{nonePending, pendStep, pend, restored}
 use Rattle.script.specs.Scripts.{stepRecords, stepsOf, fits}
 use Rattle.script.specs.Calls.{checkScript, checkRun, runOf, ranOutcome, runOutcome, ranWork, workAfter, runAfter, finished}
 use Rattle.script.specs.Progress.{progressOf, Stepping, Passed, Answered}
-use Rattle.script.proofs.Pending.{undo-pending, undo-map, pending-orders}
-use Rattle.script.proofs.Codec.{meaning-fits}
+use Rattle.script.proofs.Pending.{undo-pending, pending-orders}
+use Rattle.script.proofs.Codec.{script-fits}
 use Rattle.script.proofs.Reading.{AcceptedScript, script-accepts}
 
 -- ---- what is pending after a step
@@ -107,11 +104,13 @@ module _ (n : ℕ) (list script : List ℕ) (size : ℕ) where
         script-is = script-accepts n script (p .values) (c .1);
       }
 
--- ---- the run of an accepted list and script
+  pub run-few : Passed (checkRun n list script size) → n ≤ mostVariables
+  run-few p = runnable p .list-is .few
 
-all-good-more : {n : ℕ} (l : List Cube) → n ≤ mostVariables → All (Good n) l → All (Good mostVariables) l
-all-good-more [] h a = tt
-all-good-more {n} (c ∷ l) h a = (good-more n mostVariables c h (a .0), all-good-more l h (a .1))
+  pub run-fit : Passed (checkRun n list script size) → All (λ r. fits n r ≡ true) (listOf stepRecords script)
+  run-fit p = runnable p .script-is .fit
+
+-- ---- the run of an accepted list and script
 
 module _ (n : ℕ) (list script work : List ℕ) (p : Passed (checkRun n list script (length work))) (small : (i : ℕ) → getD list i 0 < 256)
     (cap : ℕ) (ec : cap ≡ cubeCapacity (length work)) where
@@ -151,13 +150,6 @@ module _ (n : ℕ) (list script work : List ℕ) (p : Passed (checkRun n list sc
       few = ok .list-is .few;
       room = omega (arith, long, capacity-fits cubes mostRecords (length work));
     }
-
-    pub run-fit : All (λ r. fits n r ≡ true) (listOf stepRecords script)
-    run-fit = ok .script-is .fit
-
-    step-fit : All (Fits n) (stepsOf script)
-    unfolding stepsOf
-    step-fit = all-map (λ r. fits n r ≡ true) (Fits n) meaning (λ r e. meaning-fits n r e) (listOf stepRecords script) run-fit
 
     module _ (w₂ : List ℕ) (r : Progress) (s : Stepping n cap (length list / recordWidth) (stepsOf script) w₁ w₂ r) where
       xs : List Step
@@ -225,10 +217,7 @@ module _ (n : ℕ) (list script work : List ℕ) (p : Passed (checkRun n list sc
 
         pub run-undo-good : All (Good mostVariables) (records cubes (r .count) w₂)
         run-undo-good =
-            all-good-more (records cubes (r .count) w₂) (s .ready f .few) (s .ready f .good)
-
-        pub run-undo-few : n ≤ mostVariables
-        run-undo-few = ok .list-is .few
+            all-good-more n mostVariables (records cubes (r .count) w₂) (s .ready f .few) (s .ready f .good)
 
         pub run-undo-orders : All (λ o. o < orderCount) (r .pending)
         run-undo-orders = subst (All (λ o. o < orderCount)) (sym (t .orders)) (pending-orders xs)
@@ -245,7 +234,7 @@ module _ (n : ℕ) (list script work : List ℕ) (p : Passed (checkRun n list sc
 
         step-fit-here : All (Fits n) xs
         unfolding xs
-        step-fit-here = step-fit
+        step-fit-here = script-fits n script (ok .script-is .fit)
 
         pub run-done : (w₃ : List ℕ) → w₃ ≡ image cubes (length w₂) (map (restored n (r .pending)) (records cubes (r .count) w₂))
             → Answered n list script work w₃ (finished-is.Done (r .count) (r .peak))
@@ -253,7 +242,7 @@ module _ (n : ℕ) (list script work : List ℕ) (p : Passed (checkRun n list sc
         run-done w₃ e₃ =
             let undone : map (restored n (r .pending)) (records cubes (r .count) w₂) ≡ undo xs l =
             ap (λ (os : List ℕ). map (restored n os) (records cubes (r .count) w₂)) (t .orders)
-            ∙ sym (undo-pending n run-undo-few xs step-fit-here (records cubes (r .count) w₂) (s .ready f .good))
+            ∙ sym (undo-pending n (ok .list-is .few) xs step-fit-here (records cubes (r .count) w₂) (s .ready f .good))
             ∙ ap (undo xs) list-is-last in
             let many-undone : r .count ≡ length (undo xs l) =
             sym (length-records cubes (r .count) w₂) ∙ sym (length-map (records cubes (r .count) w₂) (restored n (r .pending))) ∙ ap length undone in

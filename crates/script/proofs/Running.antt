@@ -1,10 +1,9 @@
 -- The loop over the steps of a script: its invariant is one record, with the laws of its start, its turn, a refusal and its end.
 -- Assumes nothing.
 use mathlib.Core.Path.{_≡_, refl, sym, ap, ap₂, _∙_, subst}
-use mathlib.Core.Bool.{Bool, true, false, false≢true}
+use mathlib.Core.Bool.{true, false, false≢true}
 use mathlib.Core.List.{List, [], _∷_, map}
-use Prim.Native.Nat.{ℕ, suc, _+_, _*_, _/_, _≤_, _<_, max, zero-le}
-use native.Mathlib.Nat.{le-trans, le-of-eq}
+use Prim.Native.Nat.{ℕ, suc, _+_, _/_, _≤_, _<_, max, zero-le}
 use native.Mathlib.Numerals.{add-one}
 use native.Mathlib.Omega.{arith}
 use borrow.Author.Tests.{leb-true}
@@ -15,21 +14,17 @@ use Rattle.bits.specs.Sums.{All}
 use Rattle.bits.proofs.Bools.{both-true}
 use Rattle.bits.proofs.Sums.{all-get}
 use Rattle.records.specs.Records.{Holds, Held, records, listOf, image, zeros}
-use Rattle.records.proofs.Holding.{length-records, length-list, held-fits, holds-held, holds-records, image-holds}
+use Rattle.records.proofs.Holding.{length-records, length-list}
 use Rattle.cube.specs.declared.Cube.{Cube}
-use Rattle.cube.specs.Cubes.{Good, one}
-use Rattle.cube.specs.Lists.{cubes, recordWidth, mostVariables}
-use Rattle.cube.proofs.ListLaws.{lawful}
+use Rattle.cube.specs.Lists.{cubes}
 use Rattle.steps.specs.declared.StepRecord.{StepRecord}
 use Rattle.steps.specs.declared.Stepped.{Stepped}
 use Rattle.steps.specs.declared.Stepped.the-variants as stepped-is
 use Rattle.steps.specs.Moves.{After, stop, next}
-use Rattle.steps.specs.Steps.{Step, meaning, step, Fits}
+use Rattle.steps.specs.Steps.{Step, meaning, step}
 use Rattle.steps.specs.Calls.{Ready, Known, stepped, workStepped}
-use Rattle.steps.proofs.Kept.{step-kept}
 use Rattle.steps.proofs.Places.{get-map}
-use Rattle.steps.proofs.Stepping.{step-records, step-long, step-ready}
-use Rattle.script.specs.declared.Progress.{Progress}
+use Rattle.steps.proofs.Stepping.{step-records, step-long, ready-onward}
 use Rattle.script.specs.Run.{Ran, stopped, ended, onward, stepsFrom}
 use Rattle.script.specs.Pending.{nonePending, pendStep, pend}
 use Rattle.script.specs.Scripts.{stepRecords, stepWidth, fits, stepsOf}
@@ -125,10 +120,11 @@ module _ (n cap first : ℕ) (script work : List ℕ) where
       onto = r .so-far ∙ ap (λ (xs : List Step). stepsFrom n cap k peak xs (records cubes count b)) (steps-on n script k x ex h fit)
 
       -- a step that is refused
-      pub running-stop : (number : ℕ) → stepped-is.Refused number ≡ stepped (step n cap (meaning x) (records cubes count b)) → (b″ : List ℕ) → b″ ≡ zeros (length b′)
+      pub running-stop : (s : Stepped) → s ≡ stepped (step n cap (meaning x) (records cubes count b)) → (number : ℕ) → s ≡ stepped-is.Refused number
+          → (b″ : List ℕ) → b″ ≡ zeros (length b′)
           → Stepping n cap first (stepsOf script) work b″ (record { done = false; number = number; place = k; count = 0; peak = 0; pending = nonePending })
-      running-stop number es b″ ez =
-          let e = halted (step n cap (meaning x) (records cubes count b)) number es in
+      running-stop s es number en b″ ez =
+          let e = halted (step n cap (meaning x) (records cubes count b)) number (sym en ∙ es) in
           let whole : stepsFrom n cap 0 first (stepsOf script) (records cubes first work) ≡ stopped number k =
           onto ∙ ap (onward k (λ m. stepsFrom n cap (suc k) (max peak (length m)) (drop (k + 1) (stepsOf script)) m)) e in
           let same : b′ ≡ b = eb ∙ ap (workStepped b) e in
@@ -139,16 +135,16 @@ module _ (n cap first : ℕ) (script work : List ℕ) where
           }
 
       -- one that is done
-      pub running-more : (next-count : ℕ) → stepped-is.Count next-count ≡ stepped (step n cap (meaning x) (records cubes count b))
+      pub running-more : (s : Stepped) → s ≡ stepped (step n cap (meaning x) (records cubes count b)) → (next-count : ℕ) → s ≡ stepped-is.Count next-count
           → (next-peak : ℕ) → next-peak ≡ max peak next-count → (next-pending : List ℕ) → next-pending ≡ pendStep pending (meaning x)
           → Running n cap first script work (k + 1) b′ next-count next-peak next-pending
       unfolding pend
-      running-more c es p ep os eo =
-          let w = went (step n cap (meaning x) (records cubes count b)) c es in
+      running-more s es c en p ep os eo =
+          let w = went (step n cap (meaning x) (records cubes count b)) c (sym en ∙ es) in
           let m : List Cube = w .list in
-          let good : All (Good n) m = step-kept n cap (records cubes count b) m (r .ready .good) (meaning x) (step-known n script k x ex h fit .fits) (w .is) .good in
           record {
-            ready = subst (λ (t : ℕ). Ready n t cap b′) (sym (w .many)) (step-ready n count cap b b′ (meaning x) m (r .ready) (w .is) eb good);
+            ready = subst (λ (t : ℕ). Ready n t cap b′) (sym (w .many))
+                (ready-onward n count cap b b′ (meaning x) m (r .ready) (w .is) eb (step-known n script k x ex h fit .fits));
             long = step-long n count cap b b′ (meaning x) m (r .ready) (w .is) eb ∙ r .long;
             within = omega arith;
             so-far =

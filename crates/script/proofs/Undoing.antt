@@ -1,13 +1,13 @@
 -- Taking back what is pending, variable by variable: one pass, and the loop over the variables.
 -- Assumes nothing.
 use mathlib.Core.Path.{_≡_, refl, sym, ap, ap₂, _∙_, subst}
-use mathlib.Core.List.{List, [], _∷_, map}
-use Prim.Native.Nat.{ℕ, suc, _+_, _*_, _≤_, _<_, zero-le}
+use mathlib.Core.List.{List, map}
+use Prim.Native.Nat.{ℕ, _+_, _*_, _≤_, _<_, zero-le}
 use native.Mathlib.Numerals.{add-one}
 use native.Mathlib.Omega.{arith}
 use lib.ListN.{length, getD, length-map}
 use Rattle.bits.specs.Sums.{All}
-use Rattle.bits.proofs.Sums.{all-get, all-map}
+use Rattle.bits.proofs.Sums.{all-map, map-same, map-each}
 use Rattle.records.specs.Records.{Holds, Held, records, image}
 use Rattle.records.proofs.Images.{length-image}
 use Rattle.records.proofs.Holding.{length-records, holds-held, holds-records, holds-fits, image-holds}
@@ -31,14 +31,17 @@ none-reordered v c h g =
     ∙ ap (put c v) (image-none (code c v) (code-lt c v)) ∙ put-self mostVariables c v g h)
 
 none-all : (v : ℕ) (l : List Cube) → v < mostVariables → All (Good mostVariables) l → l ≡ map (reordered v (inverse noOrder)) l
-none-all v [] h a = refl
-none-all v (c ∷ l) h a = ap₂ (λ (x : Cube) (r : List Cube). x ∷ r) (none-reordered v c h (a .0)) (none-all v l h (a .1))
+none-all v l h a = map-same l ∙ map-each (Good mostVariables) (λ c. c) (reordered v (inverse noOrder)) (λ c g. none-reordered v c h g) l a
 
 pub undo-none : (b : List ℕ) (count v o : ℕ) → o ≡ 0 → Held cubes count b → All (Good mostVariables) (records cubes count b) → v < mostVariables
     → b ≡ image cubes (length b) (map (reordered v (inverse o)) (records cubes count b))
 unfolding Held Holds
 undo-none b count v o e h a l =
     h ∙ ap (image cubes (length b)) (none-all v (records cubes count b) l a ∙ ap (λ (p : ℕ). map (reordered v (inverse p)) (records cubes count b)) (sym e))
+
+pub undo-done : (b b′ : List ℕ) (count v o p : ℕ) → p ≡ inverse o → b′ ≡ image cubes (length b) (map (reordered v p) (records cubes count b))
+    → b′ ≡ image cubes (length b) (map (reordered v (inverse o)) (records cubes count b))
+undo-done b b′ count v o p e f = f ∙ ap (λ (q : ℕ). image cubes (length b) (map (reordered v q) (records cubes count b))) e
 
 -- ---- the loop
 

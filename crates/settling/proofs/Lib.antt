@@ -1,9 +1,5 @@
 pub mod Winning
 pub mod Forming
 pub mod Written
-pub mod Fewest
-pub mod Calling
-pub mod DemandOne
-pub mod DemandTwo
-pub mod DemandThree
-pub mod Examples
+pub mod SettleLaws
+pub mod Settling

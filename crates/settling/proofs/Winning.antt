@@ -62,7 +62,6 @@ better-is : (earlier later : List Cube) → better earlier later ≡ cond (isBet
 better-is earlier later = ap₂ (λ (x y : ℕ). cond (ltb x y) later earlier) (rank-is later) (rank-is earlier)
 
 module _ (n : ℕ) (result given : List Cube) where
-
   two : (b : Bool) → winnerList n (truthVector n given) result given (pick b winner-is.Given winner-is.Script) ≡ cond b given result
   two true = refl
   two false = refl
@@ -72,22 +71,22 @@ module _ (n : ℕ) (result given : List Cube) where
   unfolding winnerOf
   three p size form ef es =
       first (isBetter (length given) (length result)) refl ∙ sym (better-is (better result given) form)
-      where
-        inner : (b : Bool) (x : Winner) (l : List Cube) → winnerList n (truthVector n given) result given x ≡ l
-            → winnerList n (truthVector n given) result given (pick b (winner-is.Form p) x) ≡ cond b form l
-        inner true x l e = ef
-        inner false x l e = e
+    where
+      inner : (b : Bool) (x : Winner) (l : List Cube) → winnerList n (truthVector n given) result given x ≡ l
+          → winnerList n (truthVector n given) result given (pick b (winner-is.Form p) x) ≡ cond b form l
+      inner true x l e = ef
+      inner false x l e = e
 
-        lengths : (b : Bool) → better result given ≡ cond b given result → cond (isBetter size (cond b (length given) (length result))) form (cond b given result)
-            ≡ cond (isBetter (length form) (length (better result given))) form (better result given)
-        lengths true e = ap₂ (λ (s : ℕ) (l : List Cube). cond (isBetter s (length l)) form l) es (sym e)
-        lengths false e = ap₂ (λ (s : ℕ) (l : List Cube). cond (isBetter s (length l)) form l) es (sym e)
+      lengths : (b : Bool) → better result given ≡ cond b given result → cond (isBetter size (cond b (length given) (length result))) form (cond b given result)
+          ≡ cond (isBetter (length form) (length (better result given))) form (better result given)
+      lengths true e = ap₂ (λ (s : ℕ) (l : List Cube). cond (isBetter s (length l)) form l) es (sym e)
+      lengths false e = ap₂ (λ (s : ℕ) (l : List Cube). cond (isBetter s (length l)) form l) es (sym e)
 
-        first : (b : Bool) → b ≡ isBetter (length given) (length result) → winnerList n (truthVector n given) result given
-            (pick b (pick (isBetter size (length given)) (winner-is.Form p) winner-is.Given) (pick (isBetter size (length result)) (winner-is.Form p) winner-is.Script))
-            ≡ cond (isBetter (length form) (length (better result given))) form (better result given)
-        first true e = inner (isBetter size (length given)) winner-is.Given given refl ∙ lengths true (better-is result given ∙ ap (λ (b : Bool). cond b given result) (sym e))
-        first false e = inner (isBetter size (length result)) winner-is.Script result refl ∙ lengths false (better-is result given ∙ ap (λ (b : Bool). cond b given result) (sym e))
+      first : (b : Bool) → b ≡ isBetter (length given) (length result) → winnerList n (truthVector n given) result given
+          (pick b (pick (isBetter size (length given)) (winner-is.Form p) winner-is.Given) (pick (isBetter size (length result)) (winner-is.Form p) winner-is.Script))
+          ≡ cond (isBetter (length form) (length (better result given))) form (better result given)
+      first true e = inner (isBetter size (length given)) winner-is.Given given refl ∙ lengths true (better-is result given ∙ ap (λ (b : Bool). cond b given result) (sym e))
+      first false e = inner (isBetter size (length result)) winner-is.Script result refl ∙ lengths false (better-is result given ∙ ap (λ (b : Bool). cond b given result) (sym e))
 
   pub winner-burned : winnerList n (truthVector n given) result given (winnerOf (length result) (length given) (fixedOf n given)) ≡ burnedList n result given
   unfolding fixedOf burnedList bestForm winnerOf
@@ -97,3 +96,15 @@ module _ (n : ℕ) (result given : List Cube) where
           ≡ cond b (better (better result given) (bestForm n given)) (better result given)
       go true = three (bestOf n given) (length (bestForm n given)) (bestForm n given) refl refl
       go false = two (isBetter (length given) (length result)) ∙ sym (better-is result given)
+
+-- above 8 variables there are two candidates, and no vector is looked at
+pub winner-absent : (n : ℕ) (vector : List ℕ) (result given : List Cube) → vectorVariables < n
+    → winnerList n vector result given (winnerOf (length result) (length given) fixed-is.Absent) ≡ burnedList n result given
+unfolding winnerOf burnedList
+winner-absent n vector result given h =
+    either (isBetter (length given) (length result)) ∙ sym (better-is result given)
+    ∙ sym (ap (λ (b : Bool). cond b (better (better result given) (bestForm n given)) (better result given)) (lt-leb n vectorVariables h))
+  where
+    either : (b : Bool) → winnerList n vector result given (pick b winner-is.Given winner-is.Script) ≡ cond b given result
+    either true = refl
+    either false = refl

@@ -3,7 +3,6 @@ use crate::Fixed;
 use crate::Winner;
 use polarity::Best;
 use records::Counted;
-
 ghost use mathlib.Core.Path.{_≡_};
 ghost use Prim.Native.Nat.{_^_, _<_, _≤_};
 ghost use lib.ListN.{length};

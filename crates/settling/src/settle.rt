@@ -7,7 +7,6 @@ use crate::candidates;
 use records::Counted;
 use records::Refusal;
 use script::Finished;
-
 ghost use mathlib.Core.Path.{_≡_};
 ghost use Prim.Native.Nat.{_^_, _≤_};
 ghost use lib.ListN.{length};

@@ -3,22 +3,15 @@
 use mathlib.Core.Path.{_≡_, refl, sym, ap, _∙_, subst}
 use mathlib.Core.Bool.{Bool}
 use mathlib.Core.List.{List, map}
-use Prim.Native.Nat.{ℕ, _+_, _<_}
+use Prim.Native.Nat.{ℕ, _+_}
 use native.Mathlib.Omega.{arith}
 use lib.ListN.{length, getD}
 use Rattle.bits.specs.Sums.{_⊕_, sum, All}
 use Rattle.steps.specs.Moves.{Move, refuse, drops, joins, splits, turns, After, stop, next, applied}
-use Rattle.steps.proofs.Places.{TwoIn, length-drop-at, length-join-at, length-split-at, length-turn-at, all-drop, all-join, all-split, all-turn, drop-map, join-map, split-map, turn-map, sum-drop, sum-join, sum-split, sum-turn}
+use Rattle.steps.specs.Changes.{Placed, Writes}
+use Rattle.steps.proofs.Places.{length-drop-at, length-join-at, length-split-at, length-turn-at, all-drop, all-join, all-split, all-turn, drop-map, join-map, split-map, turn-map, sum-drop, sum-join, sum-split, sum-turn}
 
 module _ {A : Type 0} where
-  -- the places of a move are there
-  abbrev pub In : ℕ → ℕ → ℕ → Move A → Type 0
-  In count i j (refuse r) = Unit {0}
-  In count i j drops = TwoIn count i j
-  In count i j (joins x) = TwoIn count i j
-  In count i j (splits x y) = i < count
-  In count i j (turns x y) = TwoIn count i j
-
   -- what it writes has the sum of what it takes: a at place i and, but in a split, b at place j
   abbrev pub Balanced : (A → Bool) → A → A → Move A → Type 0
   Balanced w a b (refuse r) = Unit {0}
@@ -26,14 +19,6 @@ module _ {A : Type 0} where
   Balanced w a b (joins x) = w x ≡ w a ⊕ w b
   Balanced w a b (splits x y) = w x ⊕ w y ≡ w a
   Balanced w a b (turns x y) = w x ⊕ w y ≡ w a ⊕ w b
-
-  -- P holds of what it writes
-  abbrev pub Writes : (A → Type 0) → Move A → Type 0
-  Writes P (refuse r) = Unit {0}
-  Writes P drops = Unit {0}
-  Writes P (joins x) = P x
-  Writes P (splits x y) = P x × P y
-  Writes P (turns x y) = P x × P y
 
   -- how many records it adds, and how many it takes away
   abbrev pub added : Move A → ℕ
@@ -61,21 +46,21 @@ module _ {A : Type 0} where
   pub not-stopped : {r : ℕ} {s : List A} → stop r ≡ next s → ⊥
   not-stopped e = let z : _≡_ {A = ℕ} 0 1 = cc in omega arith
 
--- a move of the list l at the places i and j, not refused, that leaves the list m
-module _ {A : Type 0} (d : A) (l m : List A) (i j : ℕ) where
+-- a move of the list l at the places i and j, with so much room, not refused, that leaves the list m
+module _ {A : Type 0} (d : A) (l m : List A) (room i j : ℕ) where
   -- the sum of a weight for which it is balanced stays
-  pub applied-sum : (w : A → Bool) (x : Move A) → In (length l) i j x → Balanced w (getD l i d) (getD l j d) x
+  pub applied-sum : (w : A → Bool) (x : Move A) → Placed (length l) room i j x → Balanced w (getD l i d) (getD l j d) x
       → applied d i j l x ≡ next m → sum w m ≡ sum w l
-  unfolding applied
+  unfolding applied Placed
   applied-sum w (refuse r) p b e = absurd (not-stopped e)
   applied-sum w drops p b e = ap (sum w) (sym (next-same e)) ∙ sum-drop d w l i j p b
   applied-sum w (joins x) p b e = ap (sum w) (sym (next-same e)) ∙ sum-join d w l i j p x b
-  applied-sum w (splits x y) p b e = ap (sum w) (sym (next-same e)) ∙ sum-split d w l i p x y b
+  applied-sum w (splits x y) p b e = ap (sum w) (sym (next-same e)) ∙ sum-split d w l i (p .inside) x y b
   applied-sum w (turns x y) p b e = ap (sum w) (sym (next-same e)) ∙ sum-turn d w l i j p x y b
 
   -- what held of every record, and holds of what is written, holds of every record
-  pub applied-all : (P : A → Type 0) (x : Move A) → In (length l) i j x → Writes P x → All P l → applied d i j l x ≡ next m → All P m
-  unfolding applied
+  pub applied-all : (P : A → Type 0) (x : Move A) → Placed (length l) room i j x → Writes P x → All P l → applied d i j l x ≡ next m → All P m
+  unfolding applied Placed Writes
   applied-all P (refuse r) p h a e = absurd (not-stopped e)
   applied-all P drops p h a e = subst (All P) (next-same e) (all-drop P d l i j p a)
   applied-all P (joins x) p h a e = subst (All P) (next-same e) (all-join P d l i j x p a h)
@@ -83,10 +68,10 @@ module _ {A : Type 0} (d : A) (l m : List A) (i j : ℕ) where
   applied-all P (turns x y) p h a e = subst (All P) (next-same e) (all-turn P l i j x y a (h .0) (h .1))
 
   -- the count changes as the move says
-  pub applied-count : (x : Move A) → In (length l) i j x → applied d i j l x ≡ next m → length m + taken x ≡ length l + added x
-  unfolding applied
+  pub applied-count : (x : Move A) → Placed (length l) room i j x → applied d i j l x ≡ next m → length m + taken x ≡ length l + added x
+  unfolding applied Placed
   applied-count (refuse r) p e = absurd (not-stopped e)
-  applied-count drops p e = omega (arith, p .distinct, ap length (next-same e), length-drop-at d l i j)
+  applied-count drops p e = omega (arith, p .unlike, ap length (next-same e), length-drop-at d l i j)
   applied-count (joins x) p e = omega (arith, p, ap length (next-same e), length-join-at d l i j x)
   applied-count (splits x y) p e = omega (arith, ap length (next-same e), length-split-at l i x y)
   applied-count (turns x y) p e = omega (arith, ap length (next-same e), length-turn-at l i j x y)

@@ -2,13 +2,13 @@
 -- Assumes nothing.
 use mathlib.Core.Path.{_≡_, refl, sym, ap, ap₂, _∙_, subst}
 use mathlib.Core.Logic.{_≢_}
-use mathlib.Core.Bool.{Bool, true, false, not, cond, _&&_}
+use mathlib.Core.Bool.{Bool, true, false, not, cond}
 use mathlib.Core.List.{List, [], _∷_, map}
 use Prim.Native.Nat.{ℕ}
 use native.Mathlib.Decide.{ℕ-discrete}
-use lib.Dec.{eqb, ltb}
+use lib.Dec.{eqb}
 use lib.ListN.{length, length-map}
-use borrow.Author.Tests.{ltb-true, eq-eqb, ne-eqb}
+use borrow.Author.Tests.{eq-eqb, ne-eqb}
 use Rattle.bits.proofs.Below.{those-cong}
 use Rattle.cube.specs.declared.Cube.{Cube}
 use Rattle.cube.specs.Cubes.{code, put, one, apart}
@@ -19,7 +19,7 @@ use Rattle.orders.proofs.CodeLaws.{third-lt, Permutes}
 use Rattle.steps.specs.Moves.{Move, refuse, joins, turns, applied}
 use Rattle.steps.specs.Steps.{Step, drop, join, split, turn, L, cubeAt, thirdAt, twoPlaces, dropped, dropMove, joined, joinMove, turned, turnMove, step}
 use Rattle.steps.proofs.Linear.{moved, code-moved, code-moved-other, moved-put-same, moved-put-other}
-use Rattle.steps.proofs.Places.{get-map}
+use Rattle.steps.proofs.Places.{two-tests, get-map}
 use Rattle.steps.proofs.Balanced.{mapMove, mapAfter, applied-map}
 
 -- a step with two cubes: drop, join or turn
@@ -118,17 +118,11 @@ module _ (σ : ℕ → ℕ) (s : Permutes σ) (u : ℕ) where
       ≡ mapMove (moved σ u) (twoPlaces (length l) i j (f (cubeAt l i) (cubeAt l j)))
   two-moved l i j f h =
       ap (λ (k : ℕ). twoPlaces k i j (f (cubeAt (map (moved σ u) l) i) (cubeAt (map (moved σ u) l) j))) (length-map l (moved σ u))
-      ∙ go (ltb i (length l)) (ltb j (length l)) (eqb i j) refl refl
-    where
-      go : (x y z : Bool) → ltb i (length l) ≡ x → ltb j (length l) ≡ y
-          → cond (x && y) (cond z (refuse 11) (f (cubeAt (map (moved σ u) l) i) (cubeAt (map (moved σ u) l) j))) (refuse 10)
-          ≡ mapMove (moved σ u) (cond (x && y) (cond z (refuse 11) (f (cubeAt l i) (cubeAt l j))) (refuse 10))
-      go false y z p q = refl
-      go true false z p q = refl
-      go true true true p q = refl
-      go true true false p q =
-          ap₂ f (get-map (moved σ u) l i one one (ltb-true i (length l) p)) (get-map (moved σ u) l j one one (ltb-true j (length l) q))
-          ∙ h (cubeAt l i) (cubeAt l j)
+      ∙ two-tests (length l) i j
+      (λ x y. cond x (cond y (refuse 11) (f (cubeAt (map (moved σ u) l) i) (cubeAt (map (moved σ u) l) j))) (refuse 10)
+      ≡ mapMove (moved σ u) (cond x (cond y (refuse 11) (f (cubeAt l i) (cubeAt l j))) (refuse 10)))
+      (λ y h. refl) (λ h e. refl)
+      (λ p. ap₂ f (get-map (moved σ u) l i one one (p .first)) (get-map (moved σ u) l j one one (p .second)) ∙ h (cubeAt l i) (cubeAt l j))
 
   -- the codes permuted before the step or after it: the same list, or the same refusal
   pub step-moved : (n cap : ℕ) (x : Step) → TwoCubes x → (l : List Cube) → step n cap x (map (moved σ u) l) ≡ mapAfter (moved σ u) (step n cap x l)

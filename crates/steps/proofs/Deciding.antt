@@ -2,14 +2,14 @@
 -- Assumes nothing.
 use mathlib.Core.Path.{_≡_, refl, sym, ap, ap₂, _∙_, subst}
 use mathlib.Core.Logic.{_≢_}
-use mathlib.Core.Bool.{Bool, true, false, not, cond, _&&_}
+use mathlib.Core.Bool.{true, not, cond}
 use mathlib.Core.List.{List, [], _∷_}
 use Prim.Native.Nat.{ℕ, zero, suc, _^_, _≤_, _<_}
 use native.Mathlib.Decide.{ℕ-discrete, decLt}
 use native.Mathlib.Omega.{arith}
 use lib.Bits.{bitXor, differ}
 use lib.Count.{ones, trailingZeros}
-use lib.Dec.{lit<, eqb, ltb}
+use lib.Dec.{lit<, eqb}
 use lib.ListN.{length}
 use borrow.Author.Tests.{eqb-true, eqb-false, eq-eqb, ne-eqb, lt-ltb, le-ltb, not-true, not-false}
 use Rattle.bits.specs.Bits.{bit}
@@ -27,6 +27,7 @@ use Rattle.steps.specs.declared.Change.the-variants as change-is
 use Rattle.steps.specs.Moves.{Move, refuse, drops, joins, splits, turns}
 use Rattle.steps.specs.Steps.{thirdAt, twoPlaces, dropped, dropMove, joined, joinMove, splitMove, turned, turnMove}
 use Rattle.steps.specs.Changes.{moveOf, placesNumber}
+use Rattle.steps.proofs.Places.{two-tests}
 
 -- ---- a test of one number
 
@@ -57,23 +58,17 @@ module _ (count i j : ℕ) where
   places-fine hi hj ne = simp (lt-ltb i count hi, lt-ltb j count hj, ne-eqb i j ne)
 
   module _ (p : ℕ) (e : p ≡ placesNumber count i j) (m : Move Cube) where
-    two-refused : (p ≡ 0 → ⊥) → refuse p ≡ twoPlaces count i j m
+    number-refused : (p ≡ 0 → ⊥) → refuse p ≡ twoPlaces count i j m
     unfolding placesNumber
-    two-refused ne = go (ltb i count && ltb j count) (eqb i j) e
-      where
-        go : (t u : Bool) → p ≡ cond t (cond u 11 0) 10 → refuse p ≡ cond t (cond u (refuse 11) m) (refuse 10)
-        go true true q = ap refuse q
-        go true false q = absurd (ne q)
-        go false u q = ap refuse q
+    number-refused ne =
+        two-tests count i j (λ t u. p ≡ cond t (cond u 11 0) 10 → refuse p ≡ cond t (cond u (refuse 11) m) (refuse 10))
+        (λ u h q. ap refuse q) (λ h f q. ap refuse q) (λ two q. absurd (ne q)) e
 
-    two-passed : p ≡ 0 → m ≡ twoPlaces count i j m
+    number-passed : p ≡ 0 → m ≡ twoPlaces count i j m
     unfolding placesNumber
-    two-passed z = go (ltb i count && ltb j count) (eqb i j) (sym z ∙ e)
-      where
-        go : (t u : Bool) → _≡_ {A = ℕ} 0 (cond t (cond u 11 0) 10) → m ≡ cond t (cond u (refuse 11) m) (refuse 10)
-        go true true q = absurd (omega arith)
-        go true false q = refl
-        go false u q = absurd (omega arith)
+    number-passed z =
+        two-tests count i j (λ t u. _≡_ {A = ℕ} 0 (cond t (cond u 11 0) 10) → m ≡ cond t (cond u (refuse 11) m) (refuse 10))
+        (λ u h q. absurd (omega arith)) (λ h f q. absurd (omega arith)) (λ two q. refl) (sym z ∙ e)
 
 -- ---- the set of the variables in which two good cubes differ
 
@@ -148,19 +143,19 @@ third-put c d x v u l e f = f ∙ ap (λ (w : ℕ). withCode c w (third (code c 
 module _ (n count i j p : ℕ) (a b : Cube) (e : p ≡ placesNumber count i j) where
   pub drop-places : (p ≡ 0 → ⊥) → moveOf (change-is.Refuse p) ≡ dropMove n count i j a b
   unfolding moveOf dropMove
-  drop-places ne = two-refused count i j p e (dropped (apart n a b)) ne
+  drop-places ne = number-refused count i j p e (dropped (apart n a b)) ne
 
   pub join-places : (p ≡ 0 → ⊥) → moveOf (change-is.Refuse p) ≡ joinMove n count i j a b
   unfolding moveOf joinMove
-  join-places ne = two-refused count i j p e (joined a b (apart n a b)) ne
+  join-places ne = number-refused count i j p e (joined a b (apart n a b)) ne
 
   pub turn-places : (v : ℕ) → (p ≡ 0 → ⊥) → moveOf (change-is.Refuse p) ≡ turnMove n count v i j a b
   unfolding moveOf turnMove
-  turn-places v ne = two-refused count i j p e (turned a b v (apart n a b)) ne
+  turn-places v ne = number-refused count i j p e (turned a b v (apart n a b)) ne
 
   module _ (z : p ≡ 0) (g : Good n a) (h : Good n b) (s : ℕ) (es : s ≡ differing a b) where
     passed : {m r : Move Cube} → r ≡ m → r ≡ twoPlaces count i j m
-    passed {m} {r} f = f ∙ two-passed count i j p e m z
+    passed {m} {r} f = f ∙ number-passed count i j p e m z
 
     many : (l : List ℕ) → apart n a b ≡ l → length l ≡ ones s
     many l el = sym (ap length el) ∙ apart-count n a b g h ∙ ap ones (sym es)

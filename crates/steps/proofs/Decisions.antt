@@ -1,26 +1,24 @@
 -- What is decided of good cubes is sound: its places are there, it writes good cubes, and it is balanced for every linear weight.
 -- Assumes nothing.
-use mathlib.Core.Path.{_≡_, refl, sym, ap, ap₂, _∙_, subst}
+use mathlib.Core.Path.{_≡_, sym, ap, ap₂, _∙_, subst}
 use mathlib.Core.Logic.{_≢_}
-use mathlib.Core.Bool.{Bool, true, false, cond, _&&_}
-use mathlib.Core.List.{List, [], _∷_}
+use mathlib.Core.Bool.{Bool}
 use Prim.Native.Nat.{ℕ, _<_}
 use native.Mathlib.Decide.{ℕ-discrete}
-use lib.Dec.{eqb, ltb}
-use borrow.Author.Tests.{ltb-true, eqb-false}
 use Rattle.bits.specs.Sums.{_⊕_}
 use Rattle.bits.proofs.Bools.{xor-assoc, xor-comm, xor-cancel}
 use Rattle.cube.specs.declared.Cube.{Cube}
-use Rattle.cube.specs.Cubes.{code, put, apart, Good}
+use Rattle.cube.specs.Cubes.{code, put, Good}
 use Rattle.cube.proofs.Codes.{code-lt, code-same, code-other, put-good, cube-ext}
-use Rattle.cube.proofs.Apart.{apart-none, apart-one, Two, apart-two, two-swap}
+use Rattle.cube.proofs.Apart.{apart-none, apart-one, Two}
 use Rattle.orders.specs.Codes.{third, lower, higher}
 use Rattle.orders.proofs.CodeLaws.{third-lt, lower-lt, lower-other, higher-lt, higher-third}
-use Rattle.steps.specs.Moves.{Move, refuse, splits, turns}
-use Rattle.steps.specs.Steps.{thirdAt, twoPlaces, dropped, dropMove, joined, joinMove, splitMove, turned, turnMove}
+use Rattle.steps.specs.Moves.{Move, refuse}
+use Rattle.steps.specs.Steps.{thirdAt, dropMove, joinMove, splitMove, turnMove}
+use Rattle.steps.specs.Changes.{Placed, Writes}
 use Rattle.steps.proofs.Linear.{Linear}
-use Rattle.steps.proofs.Places.{TwoIn}
-use Rattle.steps.proofs.Balanced.{In, Balanced, Writes}
+use Rattle.steps.proofs.Balanced.{Balanced}
+use Rattle.steps.proofs.Inversion.{drop-by, join-by, turn-by, split-by, two-of}
 
 -- ---- the cubes of each rewrite
 
@@ -80,78 +78,50 @@ module _ (n : ℕ) (w : Cube → Bool) (lin : Linear n w) where
 
 -- ---- the decisions
 
--- a move at the places i and j, of so many, where a and b stand
-pub record Sound (n count i j : ℕ) (a b : Cube) (m : Move Cube) : Type 0 where
-  pub places : In count i j m
+-- a move at the places i and j, of so many and with so much room, where a and b stand
+pub record Sound (n count cap i j : ℕ) (a b : Cube) (m : Move Cube) : Type 0 where
+  pub places : Placed count cap i j m
   pub good : Writes (Good n) m
   pub balanced : (w : Cube → Bool) → Linear n w → Balanced w a b m
 
-module _ (n count i j : ℕ) (a b : Cube) where
-  refuse-sound : (r : ℕ) → Sound n count i j a b (refuse r)
+module _ (n count cap i j : ℕ) (a b : Cube) where
+  refuse-sound : (r : ℕ) → Sound n count cap i j a b (refuse r)
+  unfolding Placed Writes
   refuse-sound r = record { places = tt {0}; good = tt {0}; balanced = λ w lin. tt {0} }
 
-  two-sound : (m : Move Cube) → (TwoIn count i j → Sound n count i j a b m) → Sound n count i j a b (twoPlaces count i j m)
-  two-sound m h = go (ltb i count) (ltb j count) (eqb i j) refl refl refl
-    where
-      go : (s t u : Bool) → ltb i count ≡ s → ltb j count ≡ t → eqb i j ≡ u → Sound n count i j a b (cond (s && t) (cond u (refuse 11) m) (refuse 10))
-      go false t u p q r = refuse-sound 10
-      go true false u p q r = refuse-sound 10
-      go true true true p q r = refuse-sound 11
-      go true true false p q r = h (record { first = ltb-true i count p; second = ltb-true j count q; distinct = eqb-false i j r })
-
   module _ (g : Good n a) (h : Good n b) where
-    pub drop-sound : Sound n count i j a b (dropMove n count i j a b)
-    unfolding dropMove
-    drop-sound = two-sound (dropped (apart n a b)) (go (apart n a b) refl)
-      where
-        go : (vs : List ℕ) → apart n a b ≡ vs → TwoIn count i j → Sound n count i j a b (dropped vs)
-        go [] e p = record { places = p; good = tt {0}; balanced = λ w lin. ap w (cube-ext n a b g h (apart-none n a b e)) }
-        go (v ∷ vs) e p = refuse-sound 12
+    pub drop-sound : Sound n count cap i j a b (dropMove n count i j a b)
+    unfolding Placed Writes
+    drop-sound =
+        drop-by count i j (Sound n count cap i j a b) n a b (λ r t. refuse-sound r)
+        (λ p e. record { places = p; good = tt {0}; balanced = λ w lin. ap w (cube-ext n a b g h (apart-none n a b e)) })
 
-    pub join-sound : Sound n count i j a b (joinMove n count i j a b)
-    unfolding joinMove
-    join-sound = two-sound (joined a b (apart n a b)) (go (apart n a b) refl)
-      where
-        go : (vs : List ℕ) → apart n a b ≡ vs → TwoIn count i j → Sound n count i j a b (joined a b vs)
-        go [] e p = refuse-sound 12
-        go (v ∷ []) e p =
-            let t = apart-one n a b v e in
-            record { places = p; good = third-good n v a b g (t .0); balanced = λ w lin. join-weight n w lin a b v g h (t .0) (t .1) (t .2) }
-        go (v ∷ u ∷ vs) e p = refuse-sound 12
+    pub join-sound : Sound n count cap i j a b (joinMove n count i j a b)
+    unfolding Placed Writes
+    join-sound =
+        join-by count i j (Sound n count cap i j a b) n a b (λ r t. refuse-sound r)
+        (λ p v e.
+        let t = apart-one n a b v e in
+        record { places = p; good = third-good n v a b g (t .0); balanced = λ w lin. join-weight n w lin a b v g h (t .0) (t .1) (t .2) })
 
-    pub turn-sound : (v : ℕ) → Sound n count i j a b (turnMove n count v i j a b)
-    unfolding turnMove
-    turn-sound v = two-sound (turned a b v (apart n a b)) (go (apart n a b) refl)
-      where
-        made : TwoIn count i j → (p q : ℕ) → Two n a b p q → Sound n count i j a b (turns (thirdAt a b p) (thirdAt b a q))
-        made s p q t = record {
-          places = s;
-          good = (third-good n p a b g (t .p-lt), third-good n q b a h (t .q-lt));
-          balanced = λ w lin. turn-weight n w lin a b p q g h t;
-        }
+    pub turn-sound : (v : ℕ) → Sound n count cap i j a b (turnMove n count v i j a b)
+    unfolding Placed Writes
+    turn-sound v =
+        turn-by count i j (Sound n count cap i j a b) n a b v (λ r t. refuse-sound r)
+        (λ p u e.
+        let t = two-of n a b v u e in
+        record {
+          places = p;
+          good = (third-good n v a b g (t .p-lt), third-good n u b a h (t .q-lt));
+          balanced = λ w lin. turn-weight n w lin a b v u g h t;
+        })
 
-        go : (vs : List ℕ) → apart n a b ≡ vs → TwoIn count i j → Sound n count i j a b (turned a b v vs)
-        go [] e s = refuse-sound 12
-        go (p ∷ []) e s = refuse-sound 12
-        go (p ∷ q ∷ r ∷ vs) e s = refuse-sound 12
-        go (p ∷ q ∷ []) e s = pick (eqb v p) (eqb v q)
-          where
-            pick : (x y : Bool)
-                → Sound n count i j a b (cond x (turns (thirdAt a b p) (thirdAt b a q)) (cond y (turns (thirdAt a b q) (thirdAt b a p)) (refuse 12)))
-            pick true y = made s p q (apart-two n a b p q e)
-            pick false true = made s q p (two-swap n a b p q (apart-two n a b p q e))
-            pick false false = refuse-sound 12
-
-  pub split-sound : (cap v : ℕ) → Good n a → v < n → Sound n count i j a b (splitMove count cap v i a)
-  unfolding splitMove
-  split-sound cap v g hv = go (ltb i count) (ltb count cap) refl
-    where
-      go : (s t : Bool) → ltb i count ≡ s
-          → Sound n count i j a b (cond s (cond t (splits (put a v (lower (code a v))) (put a v (higher (code a v)))) (refuse 13)) (refuse 10))
-      go false t p = refuse-sound 10
-      go true false p = refuse-sound 13
-      go true true p = record {
-        places = ltb-true i count p;
+  pub split-sound : (v : ℕ) → Good n a → v < n → Sound n count cap i j a b (splitMove count cap v i a)
+  unfolding Placed Writes
+  split-sound v g hv =
+      split-by count cap v i (Sound n count cap i j a b) a (λ r t. refuse-sound r)
+      (λ p. record {
+        places = p;
         good = (put-good n a v (lower (code a v)) g hv (lower-lt (code a v)), put-good n a v (higher (code a v)) g hv (higher-lt (code a v)));
         balanced = λ w lin. split-weight n w lin a v g hv;
-      }
+      })

@@ -2,36 +2,37 @@
 -- Assumes nothing.
 use mathlib.Core.Path.{_≡_, refl, sym, ap, ap₂, _∙_, subst}
 use mathlib.Core.Logic.{_≢_, _⊎_, inl, inr}
-use mathlib.Core.Bool.{Bool, true, false, cond, _&&_}
+use mathlib.Core.Bool.{Bool, true, false, cond}
 use mathlib.Core.List.{List, [], _∷_, map}
 use Prim.Native.Nat.{ℕ, _≤_, _<_}
 use native.Mathlib.Omega.{arith}
-use lib.Dec.{eqb, ltb}
+use lib.Dec.{eqb}
 use lib.ListN.{length}
-use borrow.Author.Tests.{ltb-true, ltb-false, lt-ltb, eqb-true, eqb-false, eq-eqb, ne-eqb}
+use borrow.Author.Tests.{lt-ltb, eqb-true, eqb-false, eq-eqb, ne-eqb}
 use Rattle.bits.specs.Sums.{All}
-use Rattle.bits.proofs.Sums.{all-get-or}
 use Rattle.cube.specs.declared.Cube.{Cube}
 use Rattle.cube.specs.Cubes.{code, put, one, apart, Good}
-use Rattle.cube.proofs.Codes.{one-good, cube-ext}
+use Rattle.cube.proofs.Codes.{cube-ext}
 use Rattle.cube.proofs.Apart.{apart-none, Two, apart-two, two-swap}
+use Rattle.cube.proofs.ListLaws.{good-at}
 use Rattle.orders.specs.Codes.{lower, higher}
-use Rattle.steps.specs.Moves.{Move, refuse, splits, turns, stop, next, applied, dropAt, joinAt, splitAt, turnAt}
+use Rattle.steps.specs.Moves.{Move, refuse, drops, joins, splits, turns, stop, next, applied, dropAt, joinAt, splitAt, turnAt}
 use Rattle.steps.specs.Steps.{Step, drop, join, split, turn, L, cubeAt, thirdAt, twoPlaces, dropped, dropMove, joined, joinMove, splitMove, turned, turnMove, exchanged, step}
-use Rattle.steps.proofs.Places.{TwoIn}
+use Rattle.steps.specs.Changes.{TwoPlaces, OnePlace}
+use Rattle.steps.proofs.Places.{two-tests, one-tests}
 use Rattle.steps.proofs.Balanced.{next-same, stop-same, not-stopped}
 
 -- ---- accepted
 
 -- drop: two places with equal cubes; both are removed
 pub record Dropped (n i j : ℕ) (l m : List Cube) : Type 0 where
-  pub places : TwoIn (length l) i j
+  pub places : TwoPlaces (length l) i j
   pub differ : apart n (cubeAt l i) (cubeAt l j) ≡ []
   pub list : m ≡ dropAt one l i j
 
 -- join: two places whose cubes differ in v alone; i gets the third there, and j is removed
 pub record Joined (n i j : ℕ) (l m : List Cube) : Type 0 where
-  pub places : TwoIn (length l) i j
+  pub places : TwoPlaces (length l) i j
   pub v : ℕ
   pub differ : apart n (cubeAt l i) (cubeAt l j) ≡ v ∷ []
   pub list : m ≡ joinAt one l i j (thirdAt (cubeAt l i) (cubeAt l j) v)
@@ -44,7 +45,7 @@ pub record Split (cap v i : ℕ) (l m : List Cube) : Type 0 where
 
 -- turn: two places whose cubes differ in v and u alone; i gets the third at v, j the third at u
 pub record Turned (n v i j : ℕ) (l m : List Cube) : Type 0 where
-  pub places : TwoIn (length l) i j
+  pub places : TwoPlaces (length l) i j
   pub u : ℕ
   pub differ : (apart n (cubeAt l i) (cubeAt l j) ≡ v ∷ u ∷ []) ⊎ (apart n (cubeAt l i) (cubeAt l j) ≡ u ∷ v ∷ [])
   pub list : m ≡ turnAt l i j (thirdAt (cubeAt l i) (cubeAt l j) v) (thirdAt (cubeAt l j) (cubeAt l i) u)
@@ -55,7 +56,7 @@ pub record Turned (n v i j : ℕ) (l m : List Cube) : Type 0 where
 pub data TwoRefused (count i j : ℕ) (Unfit : Type 0) : ℕ → Type 0 where
   outside : (count ≤ i) ⊎ (count ≤ j) → TwoRefused count i j Unfit 10
   same : i < count → i ≡ j → TwoRefused count i j Unfit 11
-  unfit : TwoIn count i j → Unfit → TwoRefused count i j Unfit 12
+  unfit : TwoPlaces count i j → Unfit → TwoRefused count i j Unfit 12
 
 -- a split is refused by 10 or 13
 pub data SplitRefused (count cap i : ℕ) : ℕ → Type 0 where
@@ -71,40 +72,67 @@ tail-same e = cc
 head-same : {A : Type 0} {x y : A} {l m : List A} → x ∷ l ≡ y ∷ m → x ≡ y
 head-same e = cc
 
--- ---- the tests for two places
+-- ---- the tests of each step, taken apart: what holds of each refusal and of the move made holds of what is decided
 
--- they are passed
-pub two-passed : (count i j : ℕ) (x : Move Cube) → TwoIn count i j → twoPlaces count i j x ≡ x
-two-passed count i j x p = simp (lt-ltb i count (p .first), lt-ltb j count (p .second), ne-eqb i j (p .distinct))
+module _ (count i j : ℕ) where
+  -- two places pass their tests
+  pub two-passed : (x : Move Cube) → TwoPlaces count i j → twoPlaces count i j x ≡ x
+  two-passed x p = simp (lt-ltb i count (p .first), lt-ltb j count (p .second), ne-eqb i j (p .unlike))
 
-module _ (l : List Cube) (count i j : ℕ) (x : Move Cube) where
-  -- they were passed
-  two-made : (m : List Cube) → applied one i j l (twoPlaces count i j x) ≡ next m → TwoIn count i j × (applied one i j l x ≡ next m)
-  unfolding applied
-  two-made m e = go (ltb i count) (ltb j count) (eqb i j) refl refl refl e
-    where
-      go : (a b c : Bool) → ltb i count ≡ a → ltb j count ≡ b → eqb i j ≡ c
-          → applied one i j l (cond (a && b) (cond c (refuse 11) x) (refuse 10)) ≡ next m → TwoIn count i j × (applied one i j l x ≡ next m)
-      go false b c p q r e = absurd (not-stopped e)
-      go true false c p q r e = absurd (not-stopped e)
-      go true true true p q r e = absurd (not-stopped e)
-      go true true false p q r e = (record { first = ltb-true i count p; second = ltb-true j count q; distinct = eqb-false i j r }, e)
+  module _ (P : Move Cube → Type 0) where
+    two-by : (Unfit : Type 0) (x : Move Cube) → ((r : ℕ) → TwoRefused count i j Unfit r → P (refuse r)) → (TwoPlaces count i j → P x) → P (twoPlaces count i j x)
+    two-by U x stops goes =
+        two-tests count i j (λ s t. P (cond s (cond t (refuse 11) x) (refuse 10))) (λ u h. stops 10 (outside h)) (λ h e. stops 11 (same h e)) goes
 
-  -- one of them was not, or what comes after them refuses
-  two-stopped : (Unfit : Type 0) → ((r : ℕ) → applied one i j l x ≡ stop r → (r ≡ 12) × Unfit)
-      → (r : ℕ) → applied one i j l (twoPlaces count i j x) ≡ stop r → TwoRefused count i j Unfit r
-  unfolding applied
-  two-stopped U k r e = go (ltb i count) (ltb j count) (eqb i j) refl refl refl e
-    where
-      go : (a b c : Bool) → ltb i count ≡ a → ltb j count ≡ b → eqb i j ≡ c
-          → applied one i j l (cond (a && b) (cond c (refuse 11) x) (refuse 10)) ≡ stop r → TwoRefused count i j U r
-      go false b c p q s e = subst (TwoRefused count i j U) (stop-same {A = Cube} e) (outside (inl (ltb-false i count p)))
-      go true false c p q s e = subst (TwoRefused count i j U) (stop-same {A = Cube} e) (outside (inr (ltb-false j count q)))
-      go true true true p q s e = subst (TwoRefused count i j U) (stop-same {A = Cube} e) (same (ltb-true i count p) (eqb-true i j s))
-      go true true false p q s e =
-          let t = k r e in
-          subst (TwoRefused count i j U) (sym (t .0))
-          (unfit (record { first = ltb-true i count p; second = ltb-true j count q; distinct = eqb-false i j s }) (t .1))
+    module _ (n : ℕ) (a b : Cube) where
+      pub drop-by : ((r : ℕ) → TwoRefused count i j (apart n a b ≢ []) r → P (refuse r))
+          → (TwoPlaces count i j → apart n a b ≡ [] → P drops) → P (dropMove n count i j a b)
+      unfolding dropMove
+      drop-by stops goes = two-by (apart n a b ≢ []) (dropped (apart n a b)) stops (go (apart n a b) refl)
+        where
+          go : (vs : List ℕ) → apart n a b ≡ vs → TwoPlaces count i j → P (dropped vs)
+          go [] f p = goes p f
+          go (v ∷ vs) f p = stops 12 (unfit p (λ e. cons-nil (sym f ∙ e)))
+
+      pub join-by : ((r : ℕ) → TwoRefused count i j ((v : ℕ) → apart n a b ≢ v ∷ []) r → P (refuse r))
+          → (TwoPlaces count i j → (v : ℕ) → apart n a b ≡ v ∷ [] → P (joins (thirdAt a b v))) → P (joinMove n count i j a b)
+      unfolding joinMove
+      join-by stops goes = two-by ((v : ℕ) → apart n a b ≢ v ∷ []) (joined a b (apart n a b)) stops (go (apart n a b) refl)
+        where
+          go : (vs : List ℕ) → apart n a b ≡ vs → TwoPlaces count i j → P (joined a b vs)
+          go [] f p = stops 12 (unfit p (λ w e. cons-nil (sym (sym f ∙ e))))
+          go (v ∷ []) f p = goes p v f
+          go (v ∷ u ∷ vs) f p = stops 12 (unfit p (λ w e. cons-nil (tail-same (sym f ∙ e))))
+
+      pub turn-by : (v : ℕ) → ((r : ℕ) → TwoRefused count i j ((u : ℕ) → (apart n a b ≢ v ∷ u ∷ []) × (apart n a b ≢ u ∷ v ∷ [])) r → P (refuse r))
+          → (TwoPlaces count i j → (u : ℕ) → (apart n a b ≡ v ∷ u ∷ []) ⊎ (apart n a b ≡ u ∷ v ∷ []) → P (turns (thirdAt a b v) (thirdAt b a u)))
+          → P (turnMove n count v i j a b)
+      unfolding turnMove
+      turn-by v stops goes =
+          two-by ((u : ℕ) → (apart n a b ≢ v ∷ u ∷ []) × (apart n a b ≢ u ∷ v ∷ [])) (turned a b v (apart n a b)) stops (go (apart n a b) refl)
+        where
+          go : (vs : List ℕ) → apart n a b ≡ vs → TwoPlaces count i j → P (turned a b v vs)
+          go [] f p = stops 12 (unfit p (λ u. (λ e. cons-nil (sym (sym f ∙ e)), λ e. cons-nil (sym (sym f ∙ e)))))
+          go (x ∷ []) f p = stops 12 (unfit p (λ u. (λ e. cons-nil (sym (tail-same (sym f ∙ e))), λ e. cons-nil (sym (tail-same (sym f ∙ e))))))
+          go (x ∷ y ∷ z ∷ vs) f p = stops 12 (unfit p (λ u. (λ e. cons-nil (tail-same (tail-same (sym f ∙ e))), λ e. cons-nil (tail-same (tail-same (sym f ∙ e))))))
+          go (x ∷ y ∷ []) f p = pick (eqb v x) (eqb v y) refl refl
+            where
+              pick : (s t : Bool) → eqb v x ≡ s → eqb v y ≡ t → P (cond s (turns (thirdAt a b x) (thirdAt b a y)) (cond t (turns (thirdAt a b y) (thirdAt b a x)) (refuse 12)))
+              pick true t g h =
+                  subst (λ (k : ℕ). P (turns (thirdAt a b k) (thirdAt b a y))) (eqb-true v x g)
+                  (goes p y (inl (f ∙ ap (λ (k : ℕ). k ∷ y ∷ []) (sym (eqb-true v x g)))))
+              pick false true g h =
+                  subst (λ (k : ℕ). P (turns (thirdAt a b k) (thirdAt b a x))) (eqb-true v y h)
+                  (goes p x (inr (f ∙ ap (λ (k : ℕ). x ∷ k ∷ []) (sym (eqb-true v y h)))))
+              pick false false g h =
+                  stops 12 (unfit p (λ u. (λ e. eqb-false v x g (sym (head-same (sym f ∙ e))), λ e. eqb-false v y h (sym (head-same (tail-same (sym f ∙ e)))))))
+
+pub split-by : (count cap v i : ℕ) (P : Move Cube → Type 0) (a : Cube) → ((r : ℕ) → SplitRefused count cap i r → P (refuse r))
+    → (OnePlace count cap i → P (splits (put a v (lower (code a v))) (put a v (higher (code a v))))) → P (splitMove count cap v i a)
+unfolding splitMove
+split-by count cap v i P a stops goes =
+    one-tests count cap i (λ s t. P (cond s (cond t (splits (put a v (lower (code a v))) (put a v (higher (code a v)))) (refuse 13)) (refuse 10)))
+    (λ u h. stops 10 (outside h)) (λ h f. stops 13 (full h f)) goes
 
 -- two cubes that differ in v and u alone are turned
 pub turned-made : (n : ℕ) (a b : Cube) (v u : ℕ) → (apart n a b ≡ v ∷ u ∷ []) ⊎ (apart n a b ≡ u ∷ v ∷ [])
@@ -117,7 +145,19 @@ turned-made n a b v u (inr f) =
     ∙ ap₂ (λ (s t : Bool). cond s (turns (thirdAt a b u) (thirdAt b a v)) (cond t (turns (thirdAt a b v) (thirdAt b a u)) (refuse 12)))
     (ne-eqb v u (λ e. apart-two n a b u v f .distinct (sym e))) (eq-eqb v v refl)
 
+-- such cubes differ in both and nowhere else
+pub two-of : (n : ℕ) (a b : Cube) (v u : ℕ) → (apart n a b ≡ v ∷ u ∷ []) ⊎ (apart n a b ≡ u ∷ v ∷ []) → Two n a b v u
+two-of n a b v u (inl f) = apart-two n a b v u f
+two-of n a b v u (inr f) = two-swap n a b u v (apart-two n a b u v f)
+
 -- ---- each step
+
+-- what follows where a move is made, and where it is refused
+abbrev Next : ℕ → ℕ → List Cube → List Cube → Type 0 → Move Cube → Type 0
+Next i j l m R x = applied one i j l x ≡ next m → R
+
+abbrev Stop : ℕ → ℕ → List Cube → ℕ → Type 0 → Move Cube → Type 0
+Stop i j l r R x = applied one i j l x ≡ stop r → R
 
 module _ (n cap i j : ℕ) (l : List Cube) where
   abbrev a : Cube
@@ -127,33 +167,26 @@ module _ (n cap i j : ℕ) (l : List Cube) where
   b = cubeAt l j
 
   pub drop-accepted : (m : List Cube) → step n cap (drop i j) l ≡ next m → Dropped n i j l m
-  unfolding step dropMove applied
-  drop-accepted m e = let p = two-made l (length l) i j (dropped (apart n a b)) m e in go (apart n a b) refl (p .0) (p .1)
-    where
-      go : (vs : List ℕ) → apart n a b ≡ vs → TwoIn (length l) i j → applied one i j l (dropped vs) ≡ next m → Dropped n i j l m
-      go [] f p e = record { places = p; differ = f; list = sym (next-same e) }
-      go (v ∷ vs) f p e = absurd (not-stopped e)
+  unfolding step applied
+  drop-accepted m =
+      drop-by (length l) i j (Next i j l m (Dropped n i j l m)) n a b (λ r t e. absurd (not-stopped e))
+      (λ p f e. record { places = p; differ = f; list = sym (next-same e) })
 
   pub drop-accepts : (m : List Cube) → Dropped n i j l m → step n cap (drop i j) l ≡ next m
   unfolding step dropMove applied
   drop-accepts m r = ap (applied one i j l) (two-passed (length l) i j (dropped (apart n a b)) (r .places) ∙ ap dropped (r .differ)) ∙ ap next (sym (r .list))
 
   pub drop-refused : (r : ℕ) → step n cap (drop i j) l ≡ stop r → TwoRefused (length l) i j (apart n (cubeAt l i) (cubeAt l j) ≢ []) r
-  unfolding step dropMove applied
-  drop-refused = two-stopped l (length l) i j (dropped (apart n a b)) (apart n a b ≢ []) (go (apart n a b))
-    where
-      go : (vs : List ℕ) (r : ℕ) → applied one i j l (dropped vs) ≡ stop r → (r ≡ 12) × (vs ≢ [])
-      go [] r e = absurd (not-stopped (sym e))
-      go (v ∷ vs) r e = (sym (stop-same {A = Cube} e), λ f. cons-nil f)
+  unfolding step applied
+  drop-refused r =
+      drop-by (length l) i j (Stop i j l r (TwoRefused (length l) i j (apart n a b ≢ []) r)) n a b
+      (λ k t e. subst (TwoRefused (length l) i j (apart n a b ≢ [])) (stop-same {A = Cube} e) t) (λ p f e. absurd (not-stopped (sym e)))
 
   pub join-accepted : (m : List Cube) → step n cap (join i j) l ≡ next m → Joined n i j l m
-  unfolding step joinMove applied
-  join-accepted m e = let p = two-made l (length l) i j (joined a b (apart n a b)) m e in go (apart n a b) refl (p .0) (p .1)
-    where
-      go : (vs : List ℕ) → apart n a b ≡ vs → TwoIn (length l) i j → applied one i j l (joined a b vs) ≡ next m → Joined n i j l m
-      go [] f p e = absurd (not-stopped e)
-      go (v ∷ []) f p e = record { places = p; v = v; differ = f; list = sym (next-same e) }
-      go (v ∷ u ∷ vs) f p e = absurd (not-stopped e)
+  unfolding step applied
+  join-accepted m =
+      join-by (length l) i j (Next i j l m (Joined n i j l m)) n a b (λ r t e. absurd (not-stopped e))
+      (λ p v f e. record { places = p; v = v; differ = f; list = sym (next-same e) })
 
   pub join-accepts : (m : List Cube) → Joined n i j l m → step n cap (join i j) l ≡ next m
   unfolding step joinMove applied
@@ -161,13 +194,10 @@ module _ (n cap i j : ℕ) (l : List Cube) where
       ap (applied one i j l) (two-passed (length l) i j (joined a b (apart n a b)) (r .places) ∙ ap (joined a b) (r .differ)) ∙ ap next (sym (r .list))
 
   pub join-refused : (r : ℕ) → step n cap (join i j) l ≡ stop r → TwoRefused (length l) i j ((v : ℕ) → apart n (cubeAt l i) (cubeAt l j) ≢ v ∷ []) r
-  unfolding step joinMove applied
-  join-refused = two-stopped l (length l) i j (joined a b (apart n a b)) ((v : ℕ) → apart n a b ≢ v ∷ []) (go (apart n a b))
-    where
-      go : (vs : List ℕ) (r : ℕ) → applied one i j l (joined a b vs) ≡ stop r → (r ≡ 12) × ((v : ℕ) → vs ≢ v ∷ [])
-      go [] r e = (sym (stop-same {A = Cube} e), λ v f. cons-nil (sym f))
-      go (v ∷ []) r e = absurd (not-stopped (sym e))
-      go (v ∷ u ∷ vs) r e = (sym (stop-same {A = Cube} e), λ w f. cons-nil (tail-same f))
+  unfolding step applied
+  join-refused r =
+      join-by (length l) i j (Stop i j l r (TwoRefused (length l) i j ((v : ℕ) → apart n a b ≢ v ∷ []) r)) n a b
+      (λ k t e. subst (TwoRefused (length l) i j ((v : ℕ) → apart n a b ≢ v ∷ [])) (stop-same {A = Cube} e) t) (λ p v f e. absurd (not-stopped (sym e)))
 
 module _ (n cap v i j : ℕ) (l : List Cube) where
   abbrev c : Cube
@@ -177,31 +207,10 @@ module _ (n cap v i j : ℕ) (l : List Cube) where
   d = cubeAt l j
 
   pub turn-accepted : (m : List Cube) → step n cap (turn v i j) l ≡ next m → Turned n v i j l m
-  unfolding step turnMove applied
-  turn-accepted m e = let p = two-made l (length l) i j (turned c d v (apart n c d)) m e in go (apart n c d) refl (p .0) (p .1)
-    where
-      go : (vs : List ℕ) → apart n c d ≡ vs → TwoIn (length l) i j → applied one i j l (turned c d v vs) ≡ next m → Turned n v i j l m
-      go [] f p e = absurd (not-stopped e)
-      go (x ∷ []) f p e = absurd (not-stopped e)
-      go (x ∷ y ∷ z ∷ vs) f p e = absurd (not-stopped e)
-      go (x ∷ y ∷ []) f p e = pick (eqb v x) (eqb v y) refl refl e
-        where
-          pick : (s t : Bool) → eqb v x ≡ s → eqb v y ≡ t
-              → applied one i j l (cond s (turns (thirdAt c d x) (thirdAt d c y)) (cond t (turns (thirdAt c d y) (thirdAt d c x)) (refuse 12))) ≡ next m
-              → Turned n v i j l m
-          pick true t g h e = record {
-            places = p;
-            u = y;
-            differ = inl (f ∙ ap (λ (k : ℕ). k ∷ y ∷ []) (sym (eqb-true v x g)));
-            list = sym (next-same e) ∙ ap (λ (k : ℕ). turnAt l i j (thirdAt c d k) (thirdAt d c y)) (sym (eqb-true v x g));
-          }
-          pick false true g h e = record {
-            places = p;
-            u = x;
-            differ = inr (f ∙ ap (λ (k : ℕ). x ∷ k ∷ []) (sym (eqb-true v y h)));
-            list = sym (next-same e) ∙ ap (λ (k : ℕ). turnAt l i j (thirdAt c d k) (thirdAt d c x)) (sym (eqb-true v y h));
-          }
-          pick false false g h e = absurd (not-stopped e)
+  unfolding step applied
+  turn-accepted m =
+      turn-by (length l) i j (Next i j l m (Turned n v i j l m)) n c d v (λ r t e. absurd (not-stopped e))
+      (λ p u f e. record { places = p; u = u; differ = f; list = sym (next-same e) })
 
   pub turn-accepts : (m : List Cube) → Turned n v i j l m → step n cap (turn v i j) l ≡ next m
   unfolding step turnMove applied
@@ -209,68 +218,34 @@ module _ (n cap v i j : ℕ) (l : List Cube) where
       ap (applied one i j l) (two-passed (length l) i j (turned c d v (apart n c d)) (r .places) ∙ turned-made n c d v (r .u) (r .differ))
       ∙ ap next (sym (r .list))
 
-  -- the cubes differ in v and u alone
-  pub turn-two : (m : List Cube) (t : Turned n v i j l m) → Two n (cubeAt l i) (cubeAt l j) v (t .u)
-  turn-two m t = elim (t .differ) [
-    | inl f ↦ apart-two n c d v (t .u) f
-    | inr f ↦ two-swap n c d (t .u) v (apart-two n c d (t .u) v f)
-  ]
-
   pub turn-refused : (r : ℕ) → step n cap (turn v i j) l ≡ stop r
       → TwoRefused (length l) i j ((u : ℕ) → (apart n (cubeAt l i) (cubeAt l j) ≢ v ∷ u ∷ []) × (apart n (cubeAt l i) (cubeAt l j) ≢ u ∷ v ∷ [])) r
-  unfolding step turnMove applied
-  turn-refused = two-stopped l (length l) i j (turned c d v (apart n c d)) ((u : ℕ) → (apart n c d ≢ v ∷ u ∷ []) × (apart n c d ≢ u ∷ v ∷ [])) (go (apart n c d))
-    where
-      go : (vs : List ℕ) (r : ℕ) → applied one i j l (turned c d v vs) ≡ stop r → (r ≡ 12) × ((u : ℕ) → (vs ≢ v ∷ u ∷ []) × (vs ≢ u ∷ v ∷ []))
-      go [] r e = (sym (stop-same {A = Cube} e), λ u. (λ f. cons-nil (sym f), λ f. cons-nil (sym f)))
-      go (x ∷ []) r e = (sym (stop-same {A = Cube} e), λ u. (λ f. cons-nil (sym (tail-same f)), λ f. cons-nil (sym (tail-same f))))
-      go (x ∷ y ∷ z ∷ vs) r e = (sym (stop-same {A = Cube} e), λ u. (λ f. cons-nil (tail-same (tail-same f)), λ f. cons-nil (tail-same (tail-same f))))
-      go (x ∷ y ∷ []) r e = pick (eqb v x) (eqb v y) refl refl e
-        where
-          pick : (s t : Bool) → eqb v x ≡ s → eqb v y ≡ t
-              → applied one i j l (cond s (turns (thirdAt c d x) (thirdAt d c y)) (cond t (turns (thirdAt c d y) (thirdAt d c x)) (refuse 12))) ≡ stop r
-              → (r ≡ 12) × ((u : ℕ) → (x ∷ y ∷ [] ≢ v ∷ u ∷ []) × (x ∷ y ∷ [] ≢ u ∷ v ∷ []))
-          pick true t g h e = absurd (not-stopped (sym e))
-          pick false true g h e = absurd (not-stopped (sym e))
-          pick false false g h e =
-              (sym (stop-same {A = Cube} e), λ u. (λ f. eqb-false v x g (sym (head-same f)), λ f. eqb-false v y h (sym (head-same (tail-same f)))))
+  unfolding step applied
+  turn-refused r =
+      turn-by (length l) i j (Stop i j l r (TwoRefused (length l) i j ((u : ℕ) → (apart n c d ≢ v ∷ u ∷ []) × (apart n c d ≢ u ∷ v ∷ [])) r)) n c d v
+      (λ k t e. subst (TwoRefused (length l) i j ((u : ℕ) → (apart n c d ≢ v ∷ u ∷ []) × (apart n c d ≢ u ∷ v ∷ []))) (stop-same {A = Cube} e) t)
+      (λ p u f e. absurd (not-stopped (sym e)))
+
+  -- the cubes differ in v and u alone
+  pub turn-two : (m : List Cube) (t : Turned n v i j l m) → Two n (cubeAt l i) (cubeAt l j) v (t .u)
+  turn-two m t = two-of n c d v (t .u) (t .differ)
 
 module _ (n cap v i : ℕ) (l : List Cube) where
   pub split-accepted : (m : List Cube) → step n cap (split v i) l ≡ next m → Split cap v i l m
-  unfolding step splitMove applied
-  split-accepted m e = go (ltb i (length l)) (ltb (length l) cap) refl refl e
-    where
-      x : Cube
-      x = put (cubeAt l i) v (lower (code (cubeAt l i) v))
-
-      y : Cube
-      y = put (cubeAt l i) v (higher (code (cubeAt l i) v))
-
-      go : (p q : Bool) → ltb i (length l) ≡ p → ltb (length l) cap ≡ q
-          → applied one i 0 l (cond p (cond q (splits x y) (refuse 13)) (refuse 10)) ≡ next m → Split cap v i l m
-      go false q f g e = absurd (not-stopped e)
-      go true false f g e = absurd (not-stopped e)
-      go true true f g e = record { place = ltb-true i (length l) f; room = ltb-true (length l) cap g; list = sym (next-same e) }
+  unfolding step applied
+  split-accepted m =
+      split-by (length l) cap v i (Next i 0 l m (Split cap v i l m)) (cubeAt l i) (λ r t e. absurd (not-stopped e))
+      (λ p e. record { place = p .inside; room = p .more; list = sym (next-same e) })
 
   pub split-accepts : (m : List Cube) → Split cap v i l m → step n cap (split v i) l ≡ next m
   unfolding step splitMove applied
   split-accepts m r = simp (lt-ltb i (length l) (r .place), lt-ltb (length l) cap (r .room)) (ap next (sym (r .list)))
 
   pub split-refused : (r : ℕ) → step n cap (split v i) l ≡ stop r → SplitRefused (length l) cap i r
-  unfolding step splitMove applied
-  split-refused r e = go (ltb i (length l)) (ltb (length l) cap) refl refl e
-    where
-      x : Cube
-      x = put (cubeAt l i) v (lower (code (cubeAt l i) v))
-
-      y : Cube
-      y = put (cubeAt l i) v (higher (code (cubeAt l i) v))
-
-      go : (p q : Bool) → ltb i (length l) ≡ p → ltb (length l) cap ≡ q
-          → applied one i 0 l (cond p (cond q (splits x y) (refuse 13)) (refuse 10)) ≡ stop r → SplitRefused (length l) cap i r
-      go false q f g e = subst (SplitRefused (length l) cap i) (stop-same {A = Cube} e) (outside (ltb-false i (length l) f))
-      go true false f g e = subst (SplitRefused (length l) cap i) (stop-same {A = Cube} e) (full (ltb-true i (length l) f) (ltb-false (length l) cap g))
-      go true true f g e = absurd (not-stopped (sym e))
+  unfolding step applied
+  split-refused r =
+      split-by (length l) cap v i (Stop i 0 l r (SplitRefused (length l) cap i r)) (cubeAt l i)
+      (λ k t e. subst (SplitRefused (length l) cap i) (stop-same {A = Cube} e) t) (λ p e. absurd (not-stopped (sym e)))
 
 -- L is never refused
 pub L-accepted : (n cap v b : ℕ) (l : List Cube) → step n cap (L v b) l ≡ next (map (exchanged v b) l)
@@ -301,5 +276,4 @@ step-refused n cap (L v b) l r e = absurd (not-stopped (sym e ∙ L-accepted n c
 -- cubes that are dropped are equal
 pub drop-equal : (n i j : ℕ) (l m : List Cube) → All (Good n) l → Dropped n i j l m → cubeAt l i ≡ cubeAt l j
 drop-equal n i j l m a r =
-    cube-ext n (cubeAt l i) (cubeAt l j) (all-get-or (Good n) l i one a (one-good n)) (all-get-or (Good n) l j one a (one-good n))
-    (apart-none n (cubeAt l i) (cubeAt l j) (r .differ))
+    cube-ext n (cubeAt l i) (cubeAt l j) (good-at n l a i) (good-at n l a j) (apart-none n (cubeAt l i) (cubeAt l j) (r .differ))

@@ -8,16 +8,16 @@ use native.Mathlib.Omega.{arith}
 use lib.ListN.{length, length-map}
 use Rattle.bits.specs.Sums.{oneIf, sum, All}
 use Rattle.bits.proofs.Bools.{one-injective}
-use Rattle.bits.proofs.Sums.{tally-sum, sum-map, all-get-or, all-map}
+use Rattle.bits.proofs.Sums.{tally-sum, sum-map, all-map}
 use Rattle.cube.specs.declared.Cube.{Cube}
 use Rattle.cube.specs.Cubes.{one, Good, holds}
 use Rattle.cube.specs.Lists.{trues, listValue}
-use Rattle.cube.proofs.Codes.{one-good}
-use Rattle.steps.specs.Moves.{Move, next, applied}
-use Rattle.steps.specs.Steps.{Step, drop, join, split, turn, L, Fits, cubeAt, exchanged, step}
+use Rattle.cube.proofs.ListLaws.{good-at}
+use Rattle.steps.specs.Moves.{Move, drops, joins, splits, turns, next, applied}
+use Rattle.steps.specs.Steps.{Step, drop, join, split, turn, L, Fits, cubeAt, thirdAt, exchanged, step}
+use Rattle.steps.specs.Changes.{Placed}
 use Rattle.steps.proofs.Linear.{Linear, holds-linear, exchanged-good, exchanged-linear, exchanged-list-twice}
-use Rattle.steps.proofs.Places.{length-drop-at, length-join-at, length-split-at, length-turn-at}
-use Rattle.steps.proofs.Balanced.{next-same, applied-sum, applied-all}
+use Rattle.steps.proofs.Balanced.{next-same, applied-sum, applied-all, applied-count}
 use Rattle.steps.proofs.Inversion.{drop-accepted, join-accepted, split-accepted, turn-accepted}
 use Rattle.steps.proofs.Decisions.{Sound, drop-sound, join-sound, split-sound, turn-sound}
 
@@ -68,46 +68,42 @@ pub record Kept (n : ℕ) (x : Step) (l m : List Cube) : Type 0 where
   pub count : length m + removes x ≡ length l + appends x
 
 pub step-count : (n cap : ℕ) (x : Step) (l m : List Cube) → step n cap x l ≡ next m → length m + removes x ≡ length l + appends x
-unfolding step
+unfolding step applied Placed
 step-count n cap (drop i j) l m e =
     let r = drop-accepted n cap i j l m e in
-    omega (arith, r .places, r .places .distinct, simp length-drop-at at (ap length (r .list)))
+    applied-count one l m cap i j drops (r .places) (ap next (sym (r .list)))
 step-count n cap (join i j) l m e =
     let r = join-accepted n cap i j l m e in
-    omega (arith, r .places, simp length-join-at at (ap length (r .list)))
+    applied-count one l m cap i j (joins (thirdAt (cubeAt l i) (cubeAt l j) (r .v))) (r .places) (ap next (sym (r .list)))
 step-count n cap (split v i) l m e =
     let r = split-accepted n cap v i l m e in
-    omega (arith, simp length-split-at at (ap length (r .list)))
+    applied-count one l m cap i 0 (splits _ _) (record { inside = r .place; more = r .room }) (ap next (sym (r .list)))
 step-count n cap (turn v i j) l m e =
     let r = turn-accepted n cap v i j l m e in
-    omega (arith, simp length-turn-at at (ap length (r .list)))
+    applied-count one l m cap i j (turns _ _) (r .places) (ap next (sym (r .list)))
 step-count n cap (L v b) l m e = omega (arith, ap length (next-same e), length-map l (exchanged v b))
 
 module _ (n cap : ℕ) (l m : List Cube) (a : All (Good n) l) where
-  good-at : (i : ℕ) → Good n (cubeAt l i)
-  good-at i = all-get-or (Good n) l i one a (one-good n)
-
-  module _ (i j : ℕ) (x : Move Cube) (s : Sound n (length l) i j (cubeAt l i) (cubeAt l j) x) (e : applied one i j l x ≡ next m) where
-    made-good : All (Good n) m
-    made-good = applied-all one l m i j (Good n) x (s .places) (s .good) a e
-
-    made-sums : (w : Cube → Bool) → Linear n w → sum w m ≡ sum w l
-    made-sums w lin = applied-sum one l m i j w x (s .places) (s .balanced w lin) e
+  -- a step that takes nothing back
+  made : (i j : ℕ) (x : Move Cube) → Sound n (length l) cap i j (cubeAt l i) (cubeAt l j) x → applied one i j l x ≡ next m
+      → All (Good n) m × ((w : Cube → Bool) → Linear n w → sum w m ≡ sum w l)
+  made i j x s e =
+      (applied-all one l m cap i j (Good n) x (s .places) (s .good) a e, λ w lin. applied-sum one l m cap i j w x (s .places) (s .balanced w lin) e)
 
   pub step-kept : (x : Step) → Fits n x → step n cap x l ≡ next m → Kept n x l m
   unfolding step
   step-kept (drop i j) h e =
-      let s = drop-sound n (length l) i j (cubeAt l i) (cubeAt l j) (good-at i) (good-at j) in
-      record { good = made-good i j _ s e; sums = made-sums i j _ s e; count = step-count n cap (drop i j) l m e }
+      let t = made i j _ (drop-sound n (length l) cap i j (cubeAt l i) (cubeAt l j) (good-at n l a i) (good-at n l a j)) e in
+      record { good = t .0; sums = t .1; count = step-count n cap (drop i j) l m e }
   step-kept (join i j) h e =
-      let s = join-sound n (length l) i j (cubeAt l i) (cubeAt l j) (good-at i) (good-at j) in
-      record { good = made-good i j _ s e; sums = made-sums i j _ s e; count = step-count n cap (join i j) l m e }
+      let t = made i j _ (join-sound n (length l) cap i j (cubeAt l i) (cubeAt l j) (good-at n l a i) (good-at n l a j)) e in
+      record { good = t .0; sums = t .1; count = step-count n cap (join i j) l m e }
   step-kept (split v i) h e =
-      let s = split-sound n (length l) i 0 (cubeAt l i) (cubeAt l 0) cap v (good-at i) h in
-      record { good = made-good i 0 _ s e; sums = made-sums i 0 _ s e; count = step-count n cap (split v i) l m e }
+      let t = made i 0 _ (split-sound n (length l) cap i 0 (cubeAt l i) (cubeAt l 0) v (good-at n l a i) h) e in
+      record { good = t .0; sums = t .1; count = step-count n cap (split v i) l m e }
   step-kept (turn v i j) h e =
-      let s = turn-sound n (length l) i j (cubeAt l i) (cubeAt l j) (good-at i) (good-at j) v in
-      record { good = made-good i j _ s e; sums = made-sums i j _ s e; count = step-count n cap (turn v i j) l m e }
+      let t = made i j _ (turn-sound n (length l) cap i j (cubeAt l i) (cubeAt l j) (good-at n l a i) (good-at n l a j) v) e in
+      record { good = t .0; sums = t .1; count = step-count n cap (turn v i j) l m e }
   step-kept (L v b) h e = record {
     good = subst (All (Good n)) (next-same e) (all-map (Good n) (Good n) (exchanged v b) (exchanged-good n v b (h .0) (h .1)) l a);
     sums = λ w lin.

@@ -3,7 +3,7 @@
 use mathlib.Core.Path.{_≡_, refl, sym, ap, ap₂, _∙_, subst}
 use mathlib.Core.Logic.{_≢_}
 use mathlib.Core.Bool.{Bool, true, false, _&&_, Bool·beq}
-use mathlib.Core.List.{List, [], _∷_, map}
+use mathlib.Core.List.{List, map}
 use Prim.Native.Nat.{ℕ, zero, suc, _<_}
 use native.Mathlib.Nat.{not-suc-le-zero}
 use native.Mathlib.Decide.{ℕ-discrete}
@@ -13,6 +13,7 @@ use Rattle.bits.specs.Below.{allBelow}
 use Rattle.bits.specs.Sums.{_⊕_, All}
 use Rattle.bits.proofs.Bools.{beq-eq, all-at, all-ext, xor-and, and-xor}
 use Rattle.bits.proofs.Bits.{bit-lt}
+use Rattle.bits.proofs.Sums.{map-back}
 use Rattle.cube.specs.declared.Cube.{Cube}
 use Rattle.cube.specs.Cubes.{code, put, Good, met, holds}
 use Rattle.cube.proofs.Codes.{code-lt, code-same, code-other, put-put, put-comm, put-good, put-self}
@@ -174,8 +175,7 @@ module _ (n v b : ℕ) (hv : v < n) (hb : b < 2) where
       moved-moved (exchange b) (exchange b) (exchange-permutes b hb) v c ∙ ap (put c v) (exchange-twice b (code c v) hb (code-lt c v)) ∙ put-self n c v g hv
 
   pub exchanged-list-twice : (l : List Cube) → All (Good n) l → map (exchanged v b) (map (exchanged v b) l) ≡ l
-  exchanged-list-twice [] a = refl
-  exchanged-list-twice (c ∷ l) a = ap₂ (λ (x : Cube) (r : List Cube). x ∷ r) (exchanged-twice c (a .0)) (exchanged-list-twice l (a .1))
+  exchanged-list-twice l a = map-back (Good n) (exchanged v b) (exchanged v b) exchanged-twice l a
 
 pub reordered-good : (n v o : ℕ) → v < n → o < orderCount → (c : Cube) → Good n c → Good n (reordered v o c)
 unfolding reordered moved

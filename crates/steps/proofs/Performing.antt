@@ -6,7 +6,7 @@ use Prim.Native.Nat.{ℕ, suc, _+_, _-_, _*_, _/_, _≤_, _<_, max, min}
 use native.Mathlib.Nat.{le-trans, mul-le-mul-left, mul-suc, mod-eq-of-lt}
 use native.Mathlib.Decide.{decLt}
 use native.Mathlib.Omega.{arith}
-use lib.ListN.{length, getD, set, length-set, length-append, List·getD-eq-default}
+use lib.ListN.{length, getD, set, length-set, List·getD-eq-default}
 use Rattle.records.specs.Places.{removeAt}
 use Rattle.records.specs.Records.{Codec, stored, records, listOf, image, Holds, Held}
 use Rattle.records.specs.Words.{wordAt, wordSize}
@@ -21,25 +21,7 @@ use Rattle.steps.specs.declared.Change.the-variants as change-is
 use Rattle.steps.specs.declared.Stepped.the-variants as stepped-is
 use Rattle.steps.specs.Moves.{After, next, applied, dropAt, joinAt, splitAt, turnAt}
 use Rattle.steps.specs.Changes.{moveOf, TwoPlaces, OnePlace, Placed, Writes, Narrow, Done}
-
--- ---- how many records a move leaves
-
-module _ {A : Type 0} (d : A) (l : List A) (i j : ℕ) where
-  pub length-drop : length (dropAt d l i j) ≡ length l - 2
-  unfolding dropAt
-  length-drop = omega (arith, length-remove d (removeAt d l (max i j)) (min i j), length-remove d l (max i j))
-
-  pub length-join : (x : A) → length (joinAt d l i j x) ≡ length l - 1
-  unfolding joinAt
-  length-join x = length-remove d (set l i x) j ∙ ap (λ (n : ℕ). n - 1) (length-set l i x)
-
-  pub length-split : (x y : A) → length (splitAt l i x y) ≡ length l + 1
-  unfolding splitAt
-  length-split x y = simp (length-append, length-set)
-
-  pub length-turn : (x y : A) → length (turnAt l i j x y) ≡ length l
-  unfolding turnAt
-  length-turn x y = simp length-set
+use Rattle.steps.proofs.Places.{length-drop-at, length-join-at, length-split-at, length-turn-at}
 
 -- ---- a place looked at
 
@@ -215,7 +197,7 @@ module _ (k i j : ℕ) (b : List ℕ) (change : Change) where
       perform-drop h hi lo ehi elo b₁ b₂ e₁ e₂ =
           done-next b b₂ (after change) (dropAt one (records cubes k b) i j) (k - 2) (ap after e)
           (dropped-image cubes lawful k i j b h hi lo ehi elo b₁ b₂ e₁ e₂)
-          (length-drop one (records cubes k b) i j ∙ ap (λ (n : ℕ). n - 2) (length-records cubes k b))
+          (length-drop-at one (records cubes k b) i j ∙ ap (λ (n : ℕ). n - 2) (length-records cubes k b))
 
     module _ (w : Writes Narrow (moveOf change)) where
       -- one record for two
@@ -244,7 +226,7 @@ module _ (k i j : ℕ) (b : List ℕ) (change : Change) where
         perform-join h b₁ b₂ e₁ e₂ =
             done-next b b₂ (after change) (joinAt one (records cubes k b) i j c) (k - 1) (ap after e)
             (joined-image cubes lawful k i j b h (join-in .first) c b₁ b₂ (e₁ ∙ ap (stored cubes b i) join-fits) e₂)
-            (length-join one (records cubes k b) i j c ∙ ap (λ (n : ℕ). n - 1) (length-records cubes k b))
+            (length-join-at one (records cubes k b) i j c ∙ ap (λ (n : ℕ). n - 1) (length-records cubes k b))
 
       -- two records for one
 
@@ -266,7 +248,7 @@ module _ (k i j : ℕ) (b : List ℕ) (change : Change) where
         perform-split h b₁ b₂ e₁ e₂ =
             done-next b b₂ (after change) (splitAt (records cubes k b) i c d) (k + 1) (ap after e)
             (split-image cubes lawful k i j b h split-in c d b₁ b₂ (e₁ ∙ ap (stored cubes b i) (split-fits .0)) (e₂ ∙ ap (stored cubes b₁ k) (split-fits .1)))
-            (length-split one (records cubes k b) i j c d ∙ ap (λ (n : ℕ). n + 1) (length-records cubes k b))
+            (length-split-at (records cubes k b) i c d ∙ ap (λ (n : ℕ). n + 1) (length-records cubes k b))
 
       -- two records for two
 
@@ -285,4 +267,4 @@ module _ (k i j : ℕ) (b : List ℕ) (change : Change) where
         perform-turn h b₁ b₂ e₁ e₂ =
             done-next b b₂ (after change) (turnAt (records cubes k b) i j c d) k (ap after e)
             (turned-image cubes lawful k i j b h turn-in c d b₁ b₂ (e₁ ∙ ap (stored cubes b i) (turn-fits .0)) (e₂ ∙ ap (stored cubes b₁ j) (turn-fits .1)))
-            (length-turn one (records cubes k b) i j c d ∙ length-records cubes k b)
+            (length-turn-at (records cubes k b) i j c d ∙ length-records cubes k b)

@@ -1,27 +1,48 @@
--- What a removal, a drop, a join, a split and a turn do to a list of any kind of record: its length, what holds of every record, a map, and sums modulo 2.
+-- The tests for places, taken apart, and what a removal, a drop, a join, a split and a turn do to a list of any kind of record: its length, what holds of
+-- every record, a map, and sums modulo 2.
 -- Assumes nothing.
 use mathlib.Core.Path.{_≡_, refl, sym, ap, ap₂, _∙_, subst}
-use mathlib.Core.Logic.{_≢_}
-use mathlib.Core.Bool.{Bool}
+use mathlib.Core.Logic.{_≢_, _⊎_, inl, inr}
+use mathlib.Core.Bool.{Bool, true, false, _&&_}
 use mathlib.Core.List.{List, [], _∷_, _++_, map}
-use Prim.Native.Nat.{ℕ, zero, suc, _+_, _-_, _<_, min, max}
+use Prim.Native.Nat.{ℕ, zero, suc, _+_, _-_, _≤_, _<_, min, max}
 use native.Mathlib.Nat.{not-suc-le-zero, le-of-suc-le-suc}
 use native.Mathlib.Decide.{ℕ-discrete, decLe}
 use native.Mathlib.Omega.{arith}
+use lib.Dec.{eqb, ltb}
 use lib.ListN.{length, getD, set, take, length-set, length-append, length-map}
 use lib.Seq.{getD-set-same, getD-set-other, getD-take, take-suc, take-all}
+use borrow.Author.Tests.{ltb-true, ltb-false, eqb-true, eqb-false}
 use Rattle.bits.specs.Sums.{_⊕_, sum, All}
 use Rattle.bits.proofs.Bools.{xor-assoc, xor-cancel, xor-swap}
 use Rattle.bits.proofs.Sums.{sum-snoc, sum-set, all-get, all-set, all-take, all-snoc}
 use Rattle.records.specs.Places.{removeAt}
 use Rattle.records.proofs.Images.{length-remove}
 use Rattle.steps.specs.Moves.{dropAt, joinAt, splitAt, turnAt}
+use Rattle.steps.specs.Changes.{TwoPlaces, OnePlace}
 
--- two different places of a list of so many records
-pub record TwoIn (count i j : ℕ) : Type 0 where
-  pub first : i < count
-  pub second : j < count
-  pub distinct : i ≢ j
+-- ---- the tests for places, taken apart: what holds of each outcome holds of the tests
+
+-- a place past the end; one place twice; two places
+pub two-tests : (count i j : ℕ) (P : Bool → Bool → Type 0) → ((u : Bool) → (count ≤ i) ⊎ (count ≤ j) → P false u)
+    → (i < count → i ≡ j → P true true) → (TwoPlaces count i j → P true false) → P (ltb i count && ltb j count) (eqb i j)
+two-tests count i j P past same two = go (ltb i count) (ltb j count) (eqb i j) refl refl refl
+  where
+    go : (s t u : Bool) → ltb i count ≡ s → ltb j count ≡ t → eqb i j ≡ u → P (s && t) u
+    go false t u p q r = past u (inl (ltb-false i count p))
+    go true false u p q r = past u (inr (ltb-false j count q))
+    go true true true p q r = same (ltb-true i count p) (eqb-true i j r)
+    go true true false p q r = two (record { first = ltb-true i count p; second = ltb-true j count q; unlike = eqb-false i j r })
+
+-- a place past the end; no room; a place, and room for one more
+pub one-tests : (count room i : ℕ) (P : Bool → Bool → Type 0) → ((u : Bool) → count ≤ i → P false u) → (i < count → room ≤ count → P true false)
+    → (OnePlace count room i → P true true) → P (ltb i count) (ltb count room)
+one-tests count room i P past full one = go (ltb i count) (ltb count room) refl refl
+  where
+    go : (s t : Bool) → ltb i count ≡ s → ltb count room ≡ t → P s t
+    go false t p q = past t (ltb-false i count p)
+    go true false p q = full (ltb-true i count p) (ltb-false count room q)
+    go true true p q = one (record { inside = ltb-true i count p; more = ltb-true count room q })
 
 -- ---- lengths
 
@@ -56,12 +77,12 @@ module _ {A : Type 0} (P : A → Type 0) where
     all-remove l i h a =
         all-take P (length l - 1) (set l i (getD l (length l - 1) d)) (all-set P l i (getD l (length l - 1) d) a (all-get P l (length l - 1) d a (omega arith)))
 
-    pub all-drop : (l : List A) (i j : ℕ) → TwoIn (length l) i j → All P l → All P (dropAt d l i j)
+    pub all-drop : (l : List A) (i j : ℕ) → TwoPlaces (length l) i j → All P l → All P (dropAt d l i j)
     unfolding dropAt
     all-drop l i j p a =
-        all-remove (removeAt d l (max i j)) (min i j) (omega (arith, p .distinct, length-remove d l (max i j))) (all-remove l (max i j) (omega arith) a)
+        all-remove (removeAt d l (max i j)) (min i j) (omega (arith, p .unlike, length-remove d l (max i j))) (all-remove l (max i j) (omega arith) a)
 
-    pub all-join : (l : List A) (i j : ℕ) (x : A) → TwoIn (length l) i j → All P l → P x → All P (joinAt d l i j x)
+    pub all-join : (l : List A) (i j : ℕ) (x : A) → TwoPlaces (length l) i j → All P l → P x → All P (joinAt d l i j x)
     unfolding joinAt
     all-join l i j x p a h = all-remove (set l i x) j (omega (arith, length-set l i x)) (all-set P l i x a h)
 
@@ -159,14 +180,14 @@ module _ {A : Type 0} (d : A) where
         ∙ subst (λ (k : ℕ). sum w (take (k - 1) s) ⊕ w (getD s (k - 1) d) ≡ sum w s) same (sum-shorten s (omega arith)) in
         sym (xor-cancel (sum w (take m s)) (w z)) ∙ ap (λ (b : Bool). b ⊕ w z) (cut ∙ sum-set w d l i z h) ∙ xor-cancel (sum w l ⊕ w (getD l i d)) (w z)
 
-    module _ (l : List A) (i j : ℕ) (p : TwoIn (length l) i j) where
+    module _ (l : List A) (i j : ℕ) (p : TwoPlaces (length l) i j) where
       -- two records of one weight go
       pub sum-drop : w (getD l i d) ≡ w (getD l j d) → sum w (dropAt d l i j) ≡ sum w l
       unfolding dropAt
       sum-drop e =
-          sum-remove (removeAt d l (max i j)) (min i j) (omega (arith, p .distinct, length-remove d l (max i j)))
+          sum-remove (removeAt d l (max i j)) (min i j) (omega (arith, p .unlike, length-remove d l (max i j)))
           ∙ ap₂ (λ (a : Bool) (y : A). a ⊕ w y) (sum-remove l (max i j) (omega arith))
-          (get-remove l (max i j) (min i j) (omega (arith, p .distinct)) (omega (arith, p .distinct)))
+          (get-remove l (max i j) (min i j) (omega (arith, p .unlike)) (omega (arith, p .unlike)))
           ∙ ap (λ (b : Bool). sum w l ⊕ w (getD l (max i j) d) ⊕ b) both
           ∙ xor-cancel (sum w l) (w (getD l (max i j) d))
         where
@@ -183,7 +204,7 @@ module _ {A : Type 0} (d : A) where
           let a : Bool = w (getD l i d) in
           let b : Bool = w (getD l j d) in
           sum-remove (set l i x) j (omega (arith, length-set l i x))
-          ∙ ap₂ (λ (s : Bool) (y : A). s ⊕ w y) (sum-set w d l i x (p .first)) (getD-set-other l i j x d (λ q. p .distinct (sym q)))
+          ∙ ap₂ (λ (s : Bool) (y : A). s ⊕ w y) (sum-set w d l i x (p .first)) (getD-set-other l i j x d (λ q. p .unlike (sym q)))
           ∙ ap (λ (c : Bool). sum w l ⊕ a ⊕ c ⊕ b) e
           ∙ ap (λ (c : Bool). c ⊕ b) (sym (xor-assoc (sum w l ⊕ a) a b) ∙ ap (λ (c : Bool). c ⊕ b) (xor-cancel (sum w l) a))
           ∙ xor-cancel (sum w l) b
@@ -195,7 +216,7 @@ module _ {A : Type 0} (d : A) where
           let a : Bool = w (getD l i d) in
           let b : Bool = w (getD l j d) in
           sum-set w d (set l i x) j y (omega (arith, length-set l i x))
-          ∙ ap₂ (λ (s : Bool) (z : A). s ⊕ w z ⊕ w y) (sum-set w d l i x (p .first)) (getD-set-other l i j x d (λ q. p .distinct (sym q)))
+          ∙ ap₂ (λ (s : Bool) (z : A). s ⊕ w z ⊕ w y) (sum-set w d l i x (p .first)) (getD-set-other l i j x d (λ q. p .unlike (sym q)))
           ∙ xor-swap (sum w l ⊕ a ⊕ w x) b (w y)
           ∙ ap (λ (c : Bool). c ⊕ b) (xor-assoc (sum w l ⊕ a) (w x) (w y) ∙ ap (λ (c : Bool). sum w l ⊕ a ⊕ c) e
           ∙ sym (xor-assoc (sum w l ⊕ a) a b) ∙ ap (λ (c : Bool). c ⊕ b) (xor-cancel (sum w l) a))

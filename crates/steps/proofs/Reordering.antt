@@ -23,14 +23,14 @@ use Rattle.records.proofs.Holding.{Lawful, length-records, length-stored, list-
 use Rattle.cube.specs.declared.Cube.{Cube}
 use Rattle.cube.specs.Cubes.{codeOf, code, seenBit, valueBit, put, one, Good}
 use Rattle.cube.specs.Lists.{cubes, cubesOf, narrow, mostVariables}
-use Rattle.cube.proofs.Codes.{code-lt, put-good}
+use Rattle.cube.proofs.Codes.{code-lt}
 use Rattle.cube.proofs.ListLaws.{lawful, good-narrow, good-at}
 use Rattle.orders.specs.Orders.{orderCount}
 use Rattle.orders.specs.Orders.{image as order-image}
-use Rattle.orders.proofs.OrderLaws.{image-lt}
 use Rattle.steps.specs.declared.reorder.Masks.{Masks}
 use Rattle.steps.specs.Steps.{reordered}
 use Rattle.steps.specs.Changes.{flag, masksAt}
+use Rattle.steps.proofs.Linear.{reordered-good}
 
 -- ---- one bit, by masks
 
@@ -247,11 +247,6 @@ module _ {A : Type 0} (C : Codec A) (K : Lawful C) (f : A → A) (n : ℕ) (d : 
         r .holds
         ∙ ap₂ (image C) (r .size) (ap (λ (m : ℕ). mapTo f m (records C n d)) whole ∙ map-all f (records C n d))
 
--- a good cube stays good
-pub reordered-good : (n v o : ℕ) (c : Cube) → Good n c → v < n → o < orderCount → Good n (reordered v o c)
-unfolding reordered
-reordered-good n v o c g hv ho = put-good n c v (order-image o (code c v)) g hv (image-lt o (code c v) ho (code-lt c v))
-
 -- the pass that moves every cube's code at v by the order o
 module _ (n v o : ℕ) (d b : List ℕ) (i : ℕ) (r : Mapped cubes (reordered v o) n d b i) (all : All (Good mostVariables) (records cubes n d)) (h : i < n)
     (c : Cube) (e : c ≡ getD (cubesOf b) i one) where
@@ -264,7 +259,7 @@ module _ (n v o : ℕ) (d b : List ℕ) (i : ℕ) (r : Mapped cubes (reordered v
   pub reorder-more : v < mostVariables → o < orderCount → (k : Masks) → k ≡ masksAt v o → (x : Cube) → ((v o : ℕ) → k ≡ masksAt v o → x ≡ reordered v o c)
       → (b₁ : List ℕ) → b₁ ≡ stored cubes b i (narrow x) → Mapped cubes (reordered v o) n d b₁ (i + 1)
   reorder-more hv ho k ek x ex b₁ e₁ =
-      let good : Good mostVariables (reordered v o c) = reordered-good mostVariables v o c reorder-good hv ho in
+      let good : Good mostVariables (reordered v o c) = reordered-good mostVariables v o hv ho c reorder-good in
       mapped-more cubes lawful (reordered v o) n d b i r h (narrow x)
       (ap narrow (ex v o ek) ∙ good-narrow mostVariables (reordered v o c) (omega arith) good ∙ ap (reordered v o) next-is)
       b₁ e₁

@@ -18,8 +18,8 @@ use Rattle.cube.proofs.Apart.{Two, two-swap}
 use Rattle.orders.specs.Codes.{third, lower, higher}
 use Rattle.steps.specs.Moves.{drops, joins, splits, turns}
 use Rattle.steps.specs.Steps.{thirdAt, dropped, dropMove, joined, joinMove, splitMove, turned, turnMove}
+use Rattle.steps.specs.Changes.{TwoPlaces}
 use Rattle.steps.proofs.Linear.{holds-linear}
-use Rattle.steps.proofs.Places.{TwoIn}
 use Rattle.steps.proofs.Balanced.{Balanced}
 use Rattle.steps.proofs.Inversion.{two-passed, turned-made}
 use Rattle.steps.proofs.Decisions.{join-sound, split-sound, turn-sound}
@@ -46,12 +46,12 @@ Same n f g = (a : ℕ) → listValue n f a ≡ listValue n g a
 
 -- a ⊕ b → 0
 pub record DropRule (n : ℕ) (a b : Cube) : Type 0 where
-  pub decided : (count i j : ℕ) → TwoIn count i j → dropMove n count i j a b ≡ drops
+  pub decided : (count i j : ℕ) → TwoPlaces count i j → dropMove n count i j a b ≡ drops
   pub same : Same n (a ∷ b ∷ []) []
 
 -- a ⊕ b → x
 pub record JoinRule (n : ℕ) (a b x : Cube) : Type 0 where
-  pub decided : (count i j : ℕ) → TwoIn count i j → joinMove n count i j a b ≡ joins x
+  pub decided : (count i j : ℕ) → TwoPlaces count i j → joinMove n count i j a b ≡ joins x
   pub same : Same n (a ∷ b ∷ []) (x ∷ [])
 
 -- a → x ⊕ y, at v
@@ -61,12 +61,12 @@ pub record SplitRule (n v : ℕ) (a x y : Cube) : Type 0 where
 
 -- a ⊕ b → x ⊕ y, at v
 pub record TurnRule (n v : ℕ) (a b x y : Cube) : Type 0 where
-  pub decided : (count i j : ℕ) → TwoIn count i j → turnMove n count v i j a b ≡ turns x y
+  pub decided : (count i j : ℕ) → TwoPlaces count i j → turnMove n count v i j a b ≡ turns x y
   pub same : Same n (a ∷ b ∷ []) (x ∷ y ∷ [])
 
 -- places 0 and 1 of two
-first-two : TwoIn 2 0 1
-first-two = record { first = omega arith; second = omega arith; distinct = omega arith }
+first-two : TwoPlaces 2 0 1
+first-two = record { first = omega arith; second = omega arith; unlike = omega arith }
 
 -- ---- the steps' rules, over any codes
 
@@ -87,12 +87,12 @@ join-rule n a b x v g h e f = record {
       ∙ sym (xor-false (holds n x t) ∙ balanced t));
 }
   where
-    decided : (count i j : ℕ) → TwoIn count i j → joinMove n count i j a b ≡ joins x
+    decided : (count i j : ℕ) → TwoPlaces count i j → joinMove n count i j a b ≡ joins x
     decided count i j p = two-passed count i j (joined a b (apart n a b)) p ∙ ap (joined a b) e ∙ ap joins f
 
     balanced : (t : ℕ) → holds n x t ≡ holds n a t ⊕ holds n b t
     balanced t = subst (Balanced (λ c. holds n c t) a b) (decided 2 0 1 first-two)
-        (join-sound n 2 0 1 a b g h .balanced (λ c. holds n c t) (holds-linear n t))
+        (join-sound n 2 2 0 1 a b g h .balanced (λ c. holds n c t) (holds-linear n t))
 
 pub split-rule : (n v : ℕ) (a x y : Cube) → Good n a → v < n → put a v (lower (code a v)) ≡ x → put a v (higher (code a v)) ≡ y → SplitRule n v a x y
 unfolding sum splitMove
@@ -107,7 +107,7 @@ split-rule n v a x y g hv e f = record {
 
     balanced : (t : ℕ) → holds n x t ⊕ holds n y t ≡ holds n a t
     balanced t = subst (Balanced (λ c. holds n c t) a a) (decided 1 2 0 (omega arith) (omega arith))
-        (split-sound n 1 0 0 a a 2 v g hv .balanced (λ c. holds n c t) (holds-linear n t))
+        (split-sound n 1 2 0 0 a a v g hv .balanced (λ c. holds n c t) (holds-linear n t))
 
 -- two cubes that differ in v and u alone
 pub turn-rule : (n : ℕ) (a b x y : Cube) (v u : ℕ) → Good n a → Good n b → Two n a b v u → thirdAt a b v ≡ x → thirdAt b a u ≡ y → TurnRule n v a b x y
@@ -125,12 +125,12 @@ turn-rule n a b x y v u g h two e f = record {
       | no l ↦ inr (apart-of-two n a b u v (omega (arith, two .distinct)) (two .p-lt) (two .at-q) (two .at-p) (λ k hk p q. two .elsewhere k hk q p))
     ]
 
-    decided : (count i j : ℕ) → TwoIn count i j → turnMove n count v i j a b ≡ turns x y
+    decided : (count i j : ℕ) → TwoPlaces count i j → turnMove n count v i j a b ≡ turns x y
     decided count i j p = two-passed count i j (turned a b v (apart n a b)) p ∙ turned-made n a b v u differ ∙ ap₂ turns e f
 
     balanced : (t : ℕ) → holds n x t ⊕ holds n y t ≡ holds n a t ⊕ holds n b t
     balanced t = subst (Balanced (λ c. holds n c t) a b) (decided 2 0 1 first-two)
-        (turn-sound n 2 0 1 a b g h v .balanced (λ c. holds n c t) (holds-linear n t))
+        (turn-sound n 2 2 0 1 a b g h v .balanced (λ c. holds n c t) (holds-linear n t))
 
 -- ---- the same with the codes written out
 

@@ -1,33 +1,33 @@
 -- A step on the work buffer, put together: what each call asks, what the step answers and leaves, and that the buffer is ready for the next step.
 -- Assumes nothing.
 use mathlib.Core.Path.{_≡_, sym, ap, _∙_, subst}
-use mathlib.Core.List.{List, [], _∷_, map}
+use mathlib.Core.List.{List, map}
 use Prim.Native.Nat.{ℕ, _*_, _/_, _≤_, _<_}
 use native.Mathlib.Nat.{lt-of-lt-of-le}
 use native.Mathlib.Omega.{arith}
 use lib.ListN.{length, getD, length-map}
 use Rattle.bits.specs.Sums.{All}
-use Rattle.records.specs.Records.{Held, Holds, records, image}
+use Rattle.records.specs.Records.{Holds, records, image}
 use Rattle.records.proofs.Images.{length-image}
 use Rattle.records.proofs.Holding.{length-records, held-fits, holds-held, holds-records, image-holds}
 use Rattle.cube.specs.declared.Cube.{Cube}
 use Rattle.cube.specs.Cubes.{code, put, one, Good}
 use Rattle.cube.specs.Lists.{cubes, recordWidth, mostVariables}
-use Rattle.cube.proofs.Codes.{code-lt, good-more}
-use Rattle.cube.proofs.ListLaws.{lawful, good-narrow, good-at}
+use Rattle.cube.proofs.Codes.{code-lt}
+use Rattle.cube.proofs.ListLaws.{lawful, good-narrow, good-at, all-good-more}
 use Rattle.orders.specs.Orders.{orderCount, letterOrder}
 use Rattle.orders.proofs.OrderLaws.{image-letter, letter-lt}
 use Rattle.steps.specs.declared.Change.{Change}
 use Rattle.steps.specs.declared.StepRecord.{StepRecord}
 use Rattle.steps.specs.declared.Stepped.{Stepped}
 use Rattle.steps.specs.declared.Stepped.the-variants as stepped-is
-use Rattle.steps.specs.Moves.{Move, refuse, drops, joins, splits, turns, After, next, applied, dropAt, joinAt, splitAt, turnAt}
-use Rattle.steps.specs.Steps.{Step, drop, join, split, turn, L, meaning, exchanged, reordered, dropMove, joinMove, splitMove, turnMove, step, cubeAt}
+use Rattle.steps.specs.Moves.{Move, refuse, drops, joins, splits, turns, After, next, applied}
+use Rattle.steps.specs.Steps.{Step, drop, join, split, turn, L, Fits, meaning, exchanged, reordered, step}
 use Rattle.steps.specs.Calls.{Ready, Known, workStepped}
 use Rattle.steps.specs.Changes.{moveOf, Placed, Writes, Narrow, Decided, Done}
-use Rattle.steps.proofs.Performing.{length-drop, length-join, length-split, length-turn}
-use Rattle.steps.proofs.Reordering.{reordered-good}
-use Rattle.steps.proofs.Making.{means, means-fits, drop-placed, join-placed, turn-placed, split-placed}
+use Rattle.steps.proofs.Inversion.{split-accepted}
+use Rattle.steps.proofs.Kept.{step-count, step-kept}
+use Rattle.steps.proofs.Making.{means, means-fits}
 
 -- ---- L
 
@@ -36,17 +36,9 @@ pub exchanged-is : (v b : ℕ) (c : Cube) → b < 2 → exchanged v b c ≡ reor
 unfolding exchanged reordered
 exchanged-is v b c h = ap (put c v) (sym (image-letter b (code c v) h (code-lt c v)))
 
-all-more : (m n : ℕ) (l : List Cube) → m ≤ n → All (Good m) l → All (Good n) l
-all-more m n [] h a = tt {0}
-all-more m n (c ∷ l) h a = (good-more m n c h (a .0), all-more m n l h (a .1))
-
-all-reordered : (n v o : ℕ) → v < n → o < orderCount → (l : List Cube) → All (Good n) l → All (Good n) (map (reordered v o) l)
-all-reordered n v o hv ho [] a = tt {0}
-all-reordered n v o hv ho (c ∷ l) a = (reordered-good n v o c (a .0) hv ho, all-reordered n v o hv ho l (a .1))
-
 module _ (n count cap : ℕ) (b : List ℕ) (ready : Ready n count cap b) where
   pub ready-good : All (Good mostVariables) (records cubes count b)
-  ready-good = all-more n mostVariables (records cubes count b) (ready .few) (ready .good)
+  ready-good = all-good-more n mostVariables (records cubes count b) (ready .few) (ready .good)
 
   pub look-good : (i : ℕ) (c : Cube) → c ≡ getD (records cubes count b) i one → Good n c
   look-good i c e = subst (Good n) (sym e) (good-at n (records cubes count b) (ready .good) i)
@@ -110,44 +102,12 @@ module _ (n count cap : ℕ) (b : List ℕ) (ready : Ready n count cap b) where
 
 -- ---- the next list fits the buffer, which is then ready for the next step
 
-module _ (cap room : ℕ) (l m : List Cube) (many : length l ≤ room) (most : cap ≤ room) where
-  applied-fits : (i j : ℕ) (x : Move Cube) → Placed (length l) cap i j x → applied one i j l x ≡ next m → length m ≤ room
-  unfolding applied Placed
-  applied-fits i j (refuse number) p e = let z : _≡_ {A = ℕ} 0 1 = cc in absurd (omega arith)
-  applied-fits i j drops p e = let q : dropAt one l i j ≡ m = cc in omega (arith, ap length q, length-drop one l i j)
-  applied-fits i j (joins x) p e = let q : joinAt one l i j x ≡ m = cc in omega (arith, ap length q, length-join one l i j x)
-  applied-fits i j (splits x y) p e = let q : splitAt l i x y ≡ m = cc in omega (arith, ap length q, length-split one l i j x y, p .more)
-  applied-fits i j (turns x y) p e = let q : turnAt l i j x y ≡ m = cc in omega (arith, ap length q, length-turn one l i j x y)
-
-  pub step-fits : (n : ℕ) (x : Step) → step n cap x l ≡ next m → length m ≤ room
-  unfolding step
-  step-fits n (drop i j) e = applied-fits i j (dropMove n (length l) i j (cubeAt l i) (cubeAt l j)) (drop-placed (length l) cap i j n (cubeAt l i) (cubeAt l j)) e
-  step-fits n (join i j) e = applied-fits i j (joinMove n (length l) i j (cubeAt l i) (cubeAt l j)) (join-placed (length l) cap i j n (cubeAt l i) (cubeAt l j)) e
-  step-fits n (split v i) e = applied-fits i 0 (splitMove (length l) cap v i (cubeAt l i)) (split-placed (length l) cap i 0 v (cubeAt l i)) e
-  step-fits n (turn v i j) e =
-      applied-fits i j (turnMove n (length l) v i j (cubeAt l i) (cubeAt l j)) (turn-placed (length l) cap i j n v (cubeAt l i) (cubeAt l j)) e
-  step-fits n (L v b) e = let q : map (exchanged v b) l ≡ m = cc in omega (arith, ap length q, length-map l (exchanged v b))
-
--- a buffer in which the next list was put
-module _ (n count cap : ℕ) (b b′ : List ℕ) (m : List Cube) (ready : Ready n count cap b) (fits : recordWidth * length m ≤ length b)
-    (e : b′ ≡ image cubes (length b) m) where
-  next-holds : Holds cubes b′ m
-  next-holds = subst (λ (t : List ℕ). Holds cubes t m) (sym e) (image-holds cubes lawful (length b) m fits)
-
-  next-records : records cubes (length m) b′ ≡ m
-  next-records = holds-records cubes lawful b′ m next-holds
-
-  next-long : length b′ ≡ length b
-  unfolding image
-  next-long = ap length e ∙ length-image (cubes .enc) recordWidth (lawful .len) (length b) m fits
-
-  next-ready : All (Good n) m → Ready n (length m) cap b′
-  next-ready good = record {
-    held = holds-held cubes lawful b′ m next-holds;
-    good = subst (All (Good n)) (sym next-records) good;
-    few = ready .few;
-    room = subst (λ (k : ℕ). recordWidth * cap ≤ k) (sym next-long) (ready .room);
-  }
+pub step-fits : (n cap room : ℕ) (x : Step) (l m : List Cube) → length l ≤ room → cap ≤ room → step n cap x l ≡ next m → length m ≤ room
+step-fits n cap room (drop i j) l m h k e = omega (arith, step-count n cap (drop i j) l m e)
+step-fits n cap room (join i j) l m h k e = omega (arith, step-count n cap (join i j) l m e)
+step-fits n cap room (split v i) l m h k e = omega (arith, step-count n cap (split v i) l m e, split-accepted n cap v i l m e .room)
+step-fits n cap room (turn v i j) l m h k e = omega (arith, step-count n cap (turn v i j) l m e)
+step-fits n cap room (L v b) l m h k e = omega (arith, step-count n cap (L v b) l m e)
 
 -- after an accepted step
 module _ (n count cap : ℕ) (b b′ : List ℕ) (x : Step) (m : List Cube) (ready : Ready n count cap b)
@@ -155,42 +115,29 @@ module _ (n count cap : ℕ) (b b′ : List ℕ) (x : Step) (m : List Cube) (rea
   step-room : recordWidth * length m ≤ length b
   step-room =
       let h : length m ≤ length b / recordWidth =
-      step-fits cap (length b / recordWidth) (records cubes count b) m
-      (omega (arith, length-records cubes count b, held-fits cubes lawful count b (ready .held))) (omega (arith, ready .room)) n x e in
+      step-fits n cap (length b / recordWidth) x (records cubes count b) m
+      (omega (arith, length-records cubes count b, held-fits cubes lawful count b (ready .held))) (omega (arith, ready .room)) e in
       omega arith
 
   step-image : b′ ≡ image cubes (length b) m
   step-image = e′ ∙ ap (workStepped b) e
 
-  -- the records of the buffer are the next list, and zeros stand after them
-  pub step-records : records cubes (length m) b′ ≡ m
-  step-records = next-records n count cap b b′ m ready step-room step-image
+  step-holds : Holds cubes b′ m
+  step-holds = subst (λ (t : List ℕ). Holds cubes t m) (sym step-image) (image-holds cubes lawful (length b) m step-room)
 
-  pub step-held : Held cubes (length m) b′
-  step-held = holds-held cubes lawful b′ m (next-holds n count cap b b′ m ready step-room step-image)
+  -- the records of the buffer are the next list
+  pub step-records : records cubes (length m) b′ ≡ m
+  step-records = holds-records cubes lawful b′ m step-holds
 
   pub step-long : length b′ ≡ length b
-  step-long = next-long n count cap b b′ m ready step-room step-image
+  unfolding image
+  step-long = ap length step-image ∙ length-image (cubes .enc) recordWidth (lawful .len) (length b) m step-room
 
-  -- where the next list is good, the buffer is ready again
-  pub step-ready : All (Good n) m → Ready n (length m) cap b′
-  step-ready good = next-ready n count cap b b′ m ready step-room step-image good
-
--- after the codes at a variable were moved by an order
-module _ (n count cap v o : ℕ) (b b′ : List ℕ) (ready : Ready n count cap b) (e : b′ ≡ image cubes (length b) (map (reordered v o) (records cubes count b))) where
-  reordered-many : length (map (reordered v o) (records cubes count b)) ≡ count
-  reordered-many = length-map (records cubes count b) (reordered v o) ∙ length-records cubes count b
-
-  reordered-room : recordWidth * length (map (reordered v o) (records cubes count b)) ≤ length b
-  reordered-room = rw reordered-many (held-fits cubes lawful count b (ready .held))
-
-  pub reordered-records : records cubes count b′ ≡ map (reordered v o) (records cubes count b)
-  reordered-records =
-      ap (λ (k : ℕ). records cubes k b′) (sym reordered-many)
-      ∙ next-records n count cap b b′ (map (reordered v o) (records cubes count b)) ready reordered-room e
-
-  pub reordered-ready : v < n → o < orderCount → Ready n count cap b′
-  reordered-ready hv ho =
-      subst (λ (k : ℕ). Ready n k cap b′) reordered-many
-      (next-ready n count cap b b′ (map (reordered v o) (records cubes count b)) ready reordered-room e
-      (all-reordered n v o hv ho (records cubes count b) (ready .good)))
+  -- and it is ready for the next step
+  pub ready-onward : Fits n x → Ready n (length m) cap b′
+  ready-onward fits = record {
+    held = holds-held cubes lawful b′ m step-holds;
+    good = subst (All (Good n)) (sym step-records) (step-kept n cap (records cubes count b) m (ready .good) x fits e .good);
+    few = ready .few;
+    room = subst (λ (k : ℕ). recordWidth * cap ≤ k) (sym step-long) (ready .room);
+  }

@@ -12,6 +12,7 @@ use Rattle.bits.specs.Bits.{bit, withBit}
 use Rattle.bits.specs.Sums.{_⊕_, sum, All}
 use Rattle.bits.proofs.Bools.{beq-eq, all-at₃, xor-assoc, xor-swap, and-xor}
 use Rattle.bits.proofs.Bits.{bit-lt, with-same, with-other}
+use Rattle.bits.proofs.Sums.{map-map}
 use Rattle.cube.specs.declared.Cube.{Cube}
 use Rattle.cube.specs.Cubes.{code, put, Good, met, holds}
 use Rattle.cube.proofs.Codes.{code-lt, code-same, code-other, put-self}
@@ -45,8 +46,8 @@ module _ (n v b : ℕ) (hv : v < n) (hb : b < 2) where
 -- "it is commutative for literals corresponding to different variables"
 pub commutes : (u v a b : ℕ) → u ≢ v → (f : List Cube) → map (exchanged v b) (map (exchanged u a) f) ≡ map (exchanged u a) (map (exchanged v b) f)
 unfolding exchanged moved
-commutes u v a b d [] = refl
-commutes u v a b d (c ∷ f) = ap₂ (λ (x : Cube) (r : List Cube). x ∷ r) (moved-comm (exchange a) (exchange b) u v c d) (commutes u v a b d f)
+commutes u v a b d f =
+    map-map (exchanged v b) (exchanged u a) f ∙ (λ k. map (λ c. moved-comm (exchange a) (exchange b) u v c d k) f) ∙ sym (map-map (exchanged u a) (exchanged v b) f)
 
 -- ---- corollary 4.3
 

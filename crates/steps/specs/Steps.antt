@@ -1,7 +1,7 @@
 -- The five steps of a script on a list of cubes. Document 01, "The steps of a script"; 000's rules S1 to S6, 1S, 2S and definition 4.1.
 -- Assumes nothing.
 use Prim.Native.Nat.{ℕ, zero, suc, _<_}
-use mathlib.Core.Bool.{Bool, true, false, cond, _&&_}
+use mathlib.Core.Bool.{cond, _&&_}
 use mathlib.Core.List.{List, [], _∷_, map}
 use lib.Dec.{eqb, ltb}
 use lib.ListN.{length, getD}
@@ -10,7 +10,7 @@ use Rattle.cube.specs.Cubes.{code, put, one, apart}
 use Rattle.orders.specs.Codes.{third, lower, higher, exchange}
 use Rattle.orders.specs.Orders.{image}
 use Rattle.steps.specs.declared.StepRecord.{StepRecord}
-use Rattle.steps.specs.Moves.{Move, refuse, drops, joins, splits, turns, After, stop, next, applied}
+use Rattle.steps.specs.Moves.{Move, refuse, drops, joins, splits, turns, After, next, applied}
 
 pub data Step : Type 0 where
   drop : ℕ → ℕ → Step

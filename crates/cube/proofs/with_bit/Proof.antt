@@ -1,9 +1,5 @@
 -- `cube::with_bit` meets its contract.
 -- Assumes nothing.
-use mathlib.Core.Path.{ap, ap₂, _∙_}
-use Rattle.bits.specs.Sums.{oneIf}
-use Rattle.bits.specs.Bits.{withBit}
-use lib.Bits.{bitOr, bitAnd, bitXor}
 use Rattle.bits.proofs.Bits.{shl-one, set-bit, clear-bit}
 use borrow.Author.Needs.{needs}
 use Rattle.cube.proofs.with_bit.Statement.{statement}

@@ -1,13 +1,10 @@
 -- `Cube::code_at` meets its contract.
 -- Assumes nothing.
-use mathlib.Core.Path.{_≡_, sym, _∙_}
+use mathlib.Core.Path.{sym, _∙_}
 use Rattle.cube.proofs.Codes.{code-absent, code-present}
 use borrow.Author.Needs.{needs}
 use Rattle.cube.proofs.Cube.code_at.Statement.{statement}
 use Rattle.cube.proofs.Cube.code_at.Tie as tie
-use Rattle.cube.proofs.Cube.code_at.Reads as reads
-use Rattle.cube.proofs.Cube.code_at.Lts as lts
-use Rattle.bits.proofs.bit.Reads as bit-reads
 
 bit-requires : tie.Need-bit-requires
 bit-requires c κs = search needs

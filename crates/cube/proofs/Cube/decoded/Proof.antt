@@ -1,12 +1,8 @@
 -- `Cube::decoded` meets its contract.
 -- Assumes nothing.
-use mathlib.Core.Path.{_≡_}
 use borrow.Author.Needs.{needs}
 use Rattle.cube.proofs.Cube.decoded.Statement.{statement}
 use Rattle.cube.proofs.Cube.decoded.Tie as tie
-use Rattle.cube.proofs.Cube.decoded.Reads as reads
-use Rattle.cube.proofs.Cube.decoded.Lts as lts
-use Rattle.records.proofs.words.word.Reads as word-reads
 
 word-requires : tie.Need-word-requires
 word-requires c κs = search needs

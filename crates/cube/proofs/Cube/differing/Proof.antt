@@ -4,8 +4,6 @@ use borrow.Author.Needs.{needs}
 use Rattle.cube.specs.Cubes.{differing}
 use Rattle.cube.proofs.Cube.differing.Statement.{statement}
 use Rattle.cube.proofs.Cube.differing.Tie as tie
-use Rattle.cube.proofs.Cube.differing.Reads as reads
-use Rattle.cube.proofs.Cube.differing.Lts as lts
 
 returns : tie.Need-returns
 unfolding differing

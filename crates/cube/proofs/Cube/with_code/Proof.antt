@@ -1,6 +1,6 @@
 -- `Cube::with_code` meets its contract.
 -- Assumes nothing.
-use mathlib.Core.Path.{_≡_, sym, _∙_}
+use mathlib.Core.Path.{sym, _∙_}
 use native.Mathlib.Omega.{arith}
 use Rattle.cube.specs.Cubes.{put}
 use Rattle.cube.proofs.Codes.{with-kept, with-put}

@@ -3,8 +3,6 @@
 use Rattle.cube.proofs.ListLaws.{capacity-low, capacity-high}
 use Rattle.cube.proofs.list.capacity.Statement.{statement}
 use Rattle.cube.proofs.list.capacity.Tie as tie
-use Rattle.cube.proofs.list.capacity.Reads as reads
-use Rattle.cube.proofs.list.capacity.Lts as lts
 
 returns : tie.Need-returns
 returns c = search capacity-low

@@ -2,7 +2,6 @@
 -- Assumes nothing.
 use Prim.Native.Nat.{_-_, _^_}
 use native.Mathlib.Omega.{arith}
-use borrow.Author.Needs.{needs}
 use Rattle.cube.proofs.CallLaws.{Vectoring, vectoring-none, vectoring-more, vectoring-done}
 use Rattle.cube.proofs.value.fill_vector.Statement.{statement}
 use Rattle.cube.proofs.value.fill_vector.Tie as tie

@@ -10,7 +10,7 @@ use Rattle.cube.specs.Calls.{checkList}
 use Rattle.bits.proofs.Bits.{shl-one}
 use Rattle.cube.specs.Lists.{vectorVariables}
 use Rattle.cube.proofs.ListLaws.{Accepted, check-accepts}
-use Rattle.cube.proofs.CallLaws.{Vectored, vector-refused, vector-short, vector-done}
+use Rattle.cube.proofs.CallLaws.{vector-refused, vector-short, vector-done}
 use borrow.Author.Needs.{needs}
 use Rattle.cube.proofs.value.truth_vector.Statement.{statement}
 use Rattle.cube.proofs.value.truth_vector.Tie as tie

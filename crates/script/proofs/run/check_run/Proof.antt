@@ -1,6 +1,6 @@
 -- `run::check_run` meets its contract.
 -- Assumes nothing.
-use mathlib.Core.Path.{_≡_, sym, ap, _∙_}
+use mathlib.Core.Path.{sym, ap, _∙_}
 use Rattle.records.specs.Answers.{counted}
 use Rattle.script.proofs.RunLaws.{run-list-refused, run-short, run-script}
 use borrow.Author.Needs.{needs}

@@ -1,8 +1,7 @@
 -- `run::pended` meets its contract.
 -- Assumes nothing.
-use mathlib.Core.Path.{ap, ap₂, _∙_}
+use mathlib.Core.Path.{ap, _∙_}
 use native.Mathlib.Omega.{arith}
-use Prim.Native.Nat.{ℕ}
 use lib.ListN.{getD, set}
 use Rattle.orders.specs.Orders.{follow}
 use Rattle.script.proofs.RunLaws.{pend-other, pend-L, pend-out}

@@ -1,9 +1,10 @@
 -- `run::run_accepted` meets its contract.
 -- Assumes nothing.
-use mathlib.Core.Path.{_≡_, sym, _∙_}
+use Prim.Native.Nat.{ℕ, _<_}
 use native.Mathlib.Omega.{arith}
-use borrow.Author.Needs.{needs}
-use Rattle.script.proofs.RunLaws.{run-ready, run-fit, run-undo-held, run-undo-good, run-undo-few, run-undo-orders, run-done, run-stopped}
+use lib.ListN.{getD}
+use denote.Ref.{now}
+use Rattle.script.proofs.RunLaws.{run-ready, run-fit, run-undo-held, run-undo-good, run-few, run-undo-orders, run-done, run-stopped}
 use borrow.Author.Needs.{needs}
 use Rattle.script.proofs.run.run_accepted.Statement.{statement}
 use Rattle.script.proofs.run.run_accepted.Tie as tie
@@ -15,29 +16,25 @@ fill-requires : tie.Need-fill-requires
 fill-requires c κs = search needs
 
 run-steps-requires : tie.Need-run-steps-requires
-run-steps-requires c κs = (
-  run-ready _ _ _ _ (c .before .before .before .before .before .before .before .before .before .pre) (λ i. omega (arith, c .before .before .before .before .before .before .before .before .shared-slice-known .given i)) _ (c .before .before .before .before .before .capacity .ensures) _ (c .before .before .before .fill .ensures),
-  run-fit _ _ _ _ (c .before .before .before .before .before .before .before .before .before .pre) (λ i. omega (arith, c .before .before .before .before .before .before .before .before .shared-slice-known .given i)) _ (c .before .before .before .before .before .capacity .ensures) _ (c .before .before .before .fill .ensures),
-)
+run-steps-requires c κs =
+    let s = c .before .before .before .before .before .before .before .before in
+    let small : (i : ℕ) → getD (now (s .before .args .list)) i 0 < 256 = λ i. omega (arith, s .shared-slice-known .given i) in
+    (search run-ready, run-fit _ _ _ _ (s .before .pre))
 
 undo-requires : tie.Need-undo-requires
-undo-requires c κs = (
-  run-undo-held _ _ _ _ (c .before .before .before .before .before .before .before .before .before .before .before .before .before .before .before .pre) (λ i. omega (arith, c .before .before .before .before .before .before .before .before .before .before .before .before .before .before .shared-slice-known .given i)) _ (c .before .before .before .before .before .before .before .before .before .before .before .capacity .ensures) _ (c .before .before .before .before .before .before .before .before .before .fill .ensures) _ _ (c .before .before .before .before .before .run-steps .ensures) (c .before .before .if1 .taken) (search needs),
-  (
-    run-undo-good _ _ _ _ (c .before .before .before .before .before .before .before .before .before .before .before .before .before .before .before .pre) (λ i. omega (arith, c .before .before .before .before .before .before .before .before .before .before .before .before .before .before .shared-slice-known .given i)) _ (c .before .before .before .before .before .before .before .before .before .before .before .capacity .ensures) _ (c .before .before .before .before .before .before .before .before .before .fill .ensures) _ _ (c .before .before .before .before .before .run-steps .ensures) (c .before .before .if1 .taken) (search needs),
-    (
-      run-undo-few _ _ _ _ (c .before .before .before .before .before .before .before .before .before .before .before .before .before .before .before .pre) (λ i. omega (arith, c .before .before .before .before .before .before .before .before .before .before .before .before .before .before .shared-slice-known .given i)) _ (c .before .before .before .before .before .before .before .before .before .before .before .capacity .ensures) _ (c .before .before .before .before .before .before .before .before .before .fill .ensures) _ _ (c .before .before .before .before .before .run-steps .ensures) (c .before .before .if1 .taken) (search needs),
-      (run-undo-orders _ _ _ _ (c .before .before .before .before .before .before .before .before .before .before .before .before .before .before .before .pre) (λ i. omega (arith, c .before .before .before .before .before .before .before .before .before .before .before .before .before .before .shared-slice-known .given i)) _ (c .before .before .before .before .before .before .before .before .before .before .before .capacity .ensures) _ (c .before .before .before .before .before .before .before .before .before .fill .ensures) _ _ (c .before .before .before .before .before .run-steps .ensures) (c .before .before .if1 .taken) (search needs)),
-    ),
-  ),
-)
+undo-requires c κs =
+    let s = c .before .before .before .before .before .before .before .before .before .before .before .before .before .before in
+    let small : (i : ℕ) → getD (now (s .before .args .list)) i 0 < 256 = λ i. omega (arith, s .shared-slice-known .given i) in
+    (search run-undo-held, (search run-undo-good, (run-few _ _ _ _ (s .before .pre), search run-undo-orders)))
 
 same-length : tie.Need-same-length
 same-length c = search needs
 
 returns : tie.Need-returns
 returns c =
-    run-done _ _ _ _ (c .before .before .before .before .before .before .before .before .before .before .before .before .before .before .before .before .before .before .pre) (λ i. omega (arith, c .before .before .before .before .before .before .before .before .before .before .before .before .before .before .before .before .before .shared-slice-known .given i)) _ (c .before .before .before .before .before .before .before .before .before .before .before .before .before .before .capacity .ensures) _ (c .before .before .before .before .before .before .before .before .before .before .before .before .fill .ensures) _ _ (c .before .before .before .before .before .before .before .before .run-steps .ensures) (c .before .before .before .before .before .if1 .taken) (search needs) _ (c .before .before .undo .ensures)
+    let s = c .before .before .before .before .before .before .before .before .before .before .before .before .before .before .before .before .before in
+    let small : (i : ℕ) → getD (now (s .before .args .list)) i 0 < 256 = λ i. omega (arith, s .shared-slice-known .given i) in
+    search run-done
 
 new-requires : tie.Need-new-requires
 new-requires c κs = search needs
@@ -47,7 +44,9 @@ same-length-2 c = search needs
 
 returns-2 : tie.Need-returns-2
 returns-2 c =
-    run-stopped _ _ _ _ (c .before .before .before .before .before .before .before .before .before .before .before .before .before .before .pre) (λ i. omega (arith, c .before .before .before .before .before .before .before .before .before .before .before .before .before .shared-slice-known .given i)) _ (c .before .before .before .before .before .before .before .before .before .before .capacity .ensures) _ (c .before .before .before .before .before .before .before .before .fill .ensures) _ _ (c .before .before .before .before .run-steps .ensures) (c .before .if1 .left) _ (c .new .ensures)
+    let s = c .before .before .before .before .before .before .before .before .before .before .before .before .before in
+    let small : (i : ℕ) → getD (now (s .before .args .list)) i 0 < 256 = λ i. omega (arith, s .shared-slice-known .given i) in
+    search run-stopped
 
 pub run-accepted-spec : {M : Type 1} → statement M
 run-accepted-spec =

@@ -1,8 +1,6 @@
 -- `run::run_steps` meets its contract: the loop keeps `Running`.
 -- Assumes nothing.
-use mathlib.Core.Path.{_≡_, sym, _∙_}
 use Prim.Native.Nat.{_-_, _/_}
-use native.Mathlib.Omega.{arith}
 use lib.ListN.{length}
 use borrow.Author.Needs.{needs}
 use Rattle.script.specs.Scripts.{stepWidth}
@@ -38,7 +36,7 @@ returns : tie.Need-returns Inv-loop μ-loop
 returns c =
     let s = c .before .before .before .before .before .before .before .before .before .before .before .before .before in
     running-stop _ _ _ _ _ _ _ _ _ _ (s .loop .inv) (c .before .before .before .before .before .before .before .before .before .before .before .before .loop-test .taken) (s .before .before .before .pre .1) _ (c .before .before .before .before .before .before .before .before .before .before .before .step-at .ensures)
-    _ (c .before .before .before .before .before .before .before .before .before .do-step .ensures .1) _ (sym (c .before .before .before .before .before .stepped .given .1) ∙ c .before .before .before .before .before .before .before .before .before .do-step .ensures .0) _ (c .before .before .clear .ensures)
+    _ (c .before .before .before .before .before .before .before .before .before .do-step .ensures .1) _ (c .before .before .before .before .before .before .before .before .before .do-step .ensures .0) _ (c .before .before .before .before .before .stepped .given .1) _ (c .before .before .clear .ensures)
 
 enum-known-stepped-2 : tie.Need-enum-known-stepped-2 Inv-loop μ-loop
 enum-known-stepped-2 c = search needs
@@ -59,7 +57,7 @@ loop-again : tie.Need-loop-again Inv-loop μ-loop
 loop-again c =
     let s = c .before .before .before .before .before .before .before .before .before .before .before in
     running-more _ _ _ _ _ _ _ _ _ _ (s .loop .inv) (c .before .before .before .before .before .before .before .before .before .before .loop-test .taken) (s .before .before .before .pre .1) _ (c .before .before .before .before .before .before .before .before .before .step-at .ensures)
-    _ (c .before .before .before .before .before .before .before .do-step .ensures .1) _ (sym (c .before .before .before .stepped2 .given .1) ∙ c .before .before .before .before .before .before .before .do-step .ensures .0) _ (c .before .larger .ensures) _ (c .pended .ensures)
+    _ (c .before .before .before .before .before .before .before .do-step .ensures .1) _ (c .before .before .before .before .before .before .before .do-step .ensures .0) _ (c .before .before .before .stepped2 .given .1) _ (c .before .larger .ensures) _ (c .pended .ensures)
 
 same-length-2 : tie.Need-same-length-2 Inv-loop μ-loop
 same-length-2 c = search needs

@@ -21,8 +21,8 @@ same-length : tie.Need-same-length
 same-length c = search needs
 
 returns : tie.Need-returns
-returns c = 
-    let s = c .before .before .before .before .before .before .before .before .before .before .before  in
+returns c =
+    let s = c .before .before .before .before .before .before .before .before .before .before .before in
     let v = vector-written _ _ (s .pre .0) _ _ (s .pre .1) (c .before .before .before .before .before .before .before .truth-vector .ensures .1) in
     (best-polarity-found _ _ (s .pre .0) _ v _ _ _ (c .before .p .given .1) (c .before .before .before .best-polarity .ensures), v)
 
@@ -30,8 +30,8 @@ same-length-2 : tie.Need-same-length-2
 same-length-2 c = search needs
 
 returns-2 : tie.Need-returns-2
-returns-2 c = 
-    let s = c .before .before .before .before .before .before .before .before .before .before  in
+returns-2 c =
+    let s = c .before .before .before .before .before .before .before .before .before .before in
     let v = vector-written _ _ (s .pre .0) _ _ (s .pre .1) (c .before .before .before .before .before .before .truth-vector .ensures .1) in
     absurd (best-polarity-not-refused _ _ (s .pre .0) _ v _ _ (c .enum-told .given .1) (c .before .before .best-polarity .ensures))
 

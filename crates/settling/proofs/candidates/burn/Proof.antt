@@ -30,7 +30,7 @@ enum-known-w : tie.Need-enum-known-w
 enum-known-w c = search needs
 
 put-form-requires : tie.Need-put-form-requires
-put-form-requires c κs = 
+put-form-requires c κs =
     let b = burn-formable _ _ _ _ _ _ _ _ (c .before .before .before .before .before .before .before .before .before .before .pre) _ (c .before .before .before .w .given .1) in
     (b .vector-is, (b .polarity, (b .long, burn-room _ _ _ _ _ _ _ _ (c .before .before .before .before .before .before .before .before .before .before .pre) _ (c .before .before .before .w .given .1))))
 

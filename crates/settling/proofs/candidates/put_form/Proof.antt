@@ -27,8 +27,8 @@ same-length-2 : tie.Need-same-length-2
 same-length-2 c = search needs
 
 returns : tie.Need-returns
-returns c = 
-    let s = c .before .before .before .before .before .before .before .before .before .before .before .before .before .before .before .before .before .before .before  in
+returns c =
+    let s = c .before .before .before .before .before .before .before .before .before .before .before .before .before .before .before .before .before .before .before in
     let k = coefficients-written _ _ _ (s .pre .0) (s .pre .1 .0) _ _ (s .pre .1 .1 .0) (c .before .before .before .before .before .before .before .before .before .before .before .before .before .before .coefficients .ensures .1) in
     form-burned _ _ _ (s .pre .0) (s .pre .1 .0) _ k _ (s .pre .1 .1 .1) _ _ (c .before .count .given .1) _ (c .before .before .before .before .before .before .before .before .before .before .clear .ensures)
     (c .before .before .before .before .before .write-form .ensures .0) _ (c .before .before .before .before .before .write-form .ensures .1)
@@ -40,8 +40,8 @@ same-length-4 : tie.Need-same-length-4
 same-length-4 c = search needs
 
 returns-2 : tie.Need-returns-2
-returns-2 c = 
-    let s = c .before .before .before .before .before .before .before .before .before .before .before .before .before .before .before .before .before .before  in
+returns-2 c =
+    let s = c .before .before .before .before .before .before .before .before .before .before .before .before .before .before .before .before .before .before in
     let k = coefficients-written _ _ _ (s .pre .0) (s .pre .1 .0) _ _ (s .pre .1 .1 .0) (c .before .before .before .before .before .before .before .before .before .before .before .before .before .coefficients .ensures .1) in
     absurd (form-not-refused _ _ _ (s .pre .0) (s .pre .1 .0) _ k (s .args .out .now) (s .pre .1 .1 .1) _ _ (c .enum-told .given .1) _ (c .before .before .before .before .before .before .before .before .before .clear .ensures)
     (c .before .before .before .before .write-form .ensures .0))

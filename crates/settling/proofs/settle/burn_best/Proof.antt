@@ -1,61 +1,63 @@
+-- `settle::burn_best` meets its contract.
+-- Assumes nothing.
+use mathlib.Core.Path.{_≡_, sym, _∙_}
+use Prim.Native.Nat.{ℕ, _*_, _%_, _^_, _≤_}
+use native.Mathlib.Omega.{arith}
+use lib.Pow.{pow-mono}
+use lib.Seq.{length-take-le}
+use Rattle.bits.proofs.Bits.{shl-one}
+use Rattle.cube.specs.Lists.{vectorVariables}
+use Rattle.settling.proofs.SettleLaws.{two-burnable, two-burned}
 use borrow.Author.Needs.{needs}
 use Rattle.settling.proofs.settle.burn_best.Statement.{statement}
 use Rattle.settling.proofs.settle.burn_best.Tie as tie
-use Rattle.settling.proofs.settle.burn_best.Reads as reads
-use Rattle.settling.proofs.settle.burn_best.Lts as lts
-use Rattle.settling.proofs.candidates.burn.Reads as burn-reads
-use Rattle.settling.proofs.candidates.winner.Reads as winner-reads
-use Rattle.settling.proofs.settle.burn_three.Reads as burn-three-reads
 
--- src/settle.rt:51:13
+-- as many bytes as assignments, and at most 256
+size-is : (n : ℕ) → n ≤ vectorVariables → (1 * 2 ^ n) % 2 ^ 64 ≡ 2 ^ n
+size-is n h = shl-one n 64 (omega (arith, h))
+
+size-small : (n : ℕ) → n ≤ vectorVariables → (1 * 2 ^ n) % 2 ^ 64 ≤ 256
+size-small n h = omega (arith, size-is n h, pow-mono h)
+
 winner-requires : tie.Need-winner-requires
 winner-requires c κs = search needs
 
--- src/settle.rt:52:70
 slice-aggregate-burn : tie.Need-slice-aggregate-burn
 slice-aggregate-burn c = search needs
 
--- src/settle.rt:52:13
 burn-requires : tie.Need-burn-requires
-burn-requires c κs = ?
+burn-requires c κs = two-burnable _ _ _ _ _ (c .before .before .before .before .before .before .before .pre) (c .before .before .before .if1 .taken) _ _ (c .before .before .winner .ensures) _
 
--- src/settle.rt:53:9
 same-length : tie.Need-same-length
 same-length c = search needs
 
--- src/settle.rt:53:9
 returns : tie.Need-returns
-returns c = ?
+returns c = two-burned _ _ _ _ _ (c .before .before .before .before .before .before .before .before .before .before .before .pre) (c .before .before .before .before .before .before .before .if1 .taken) _ _ (c .before .before .before .before .before .before .winner .ensures) _ _ (c .before .before .before .burn .ensures)
 
--- src/settle.rt:58:23
 shl-size : tie.Need-shl-size
 shl-size c = search needs
 
--- src/settle.rt:64:9
 array-borrow-prefix-vector : tie.Need-array-borrow-prefix-vector
-array-borrow-prefix-vector c = ?
+array-borrow-prefix-vector c = size-small _ (c .if1 .left)
 
--- src/settle.rt:64:9
 slice-aggregate-burn-three : tie.Need-slice-aggregate-burn-three
-slice-aggregate-burn-three c = ?
+slice-aggregate-burn-three c = sym (length-take-le _ _ (size-small _ (c .before .if1 .left)))
 
--- src/settle.rt:65:9
 array-borrow-prefix-coefficients : tie.Need-array-borrow-prefix-coefficients
-array-borrow-prefix-coefficients c = ?
+array-borrow-prefix-coefficients c = size-small _ (c .before .if1 .left)
 
--- src/settle.rt:65:9
 slice-aggregate-burn-three-2 : tie.Need-slice-aggregate-burn-three-2
-slice-aggregate-burn-three-2 c = ?
+slice-aggregate-burn-three-2 c = sym (length-take-le _ _ (size-small _ (c .before .before .if1 .left)))
 
--- src/settle.rt:59:5
 burn-three-requires : tie.Need-burn-three-requires
-burn-three-requires c κs = ?
+burn-three-requires c κs =
+    let h = c .before .before .before .if1 .left in
+    let long = length-take-le _ _ (size-small _ h) ∙ size-is _ h in
+    (c .before .before .before .before .before .before .before .pre, (h, (long, long)))
 
--- src/settle.rt:43:1
 same-length-2 : tie.Need-same-length-2
 same-length-2 c = search needs
 
--- src/settle.rt:43:1
 returns-2 : tie.Need-returns-2
 returns-2 c = search needs
 

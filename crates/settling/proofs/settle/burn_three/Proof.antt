@@ -1,39 +1,34 @@
+-- `settle::burn_three` meets its contract.
+-- Assumes nothing.
+use Rattle.settling.proofs.SettleLaws.{passed-few, three-burnable, three-burned}
 use borrow.Author.Needs.{needs}
 use Rattle.settling.proofs.settle.burn_three.Statement.{statement}
 use Rattle.settling.proofs.settle.burn_three.Tie as tie
-use Rattle.settling.proofs.settle.burn_three.Reads as reads
-use Rattle.settling.proofs.settle.burn_three.Lts as lts
-use Rattle.settling.proofs.candidates.best_of.Reads as best-of-reads
-use Rattle.settling.proofs.candidates.burn.Reads as burn-reads
-use Rattle.settling.proofs.candidates.winner.Reads as winner-reads
 
--- src/settle.rt:36:9
 best-of-requires : tie.Need-best-of-requires
-best-of-requires c κs = ?
+best-of-requires c κs = let s = c .before .before .before .before .before .before in (passed-few _ _ (s .pre .0 .passed) (s .pre .1 .0), s .pre .1 .1 .0)
 
--- src/settle.rt:37:9
 winner-requires : tie.Need-winner-requires
 winner-requires c κs = search needs
 
--- src/settle.rt:38:9
 burn-requires : tie.Need-burn-requires
-burn-requires c κs = ?
+burn-requires c κs =
+    let s = c .before .before .before .before .before .before .before .before .before .before .before .before .before in
+    three-burnable _ _ _ _ _ (s .pre .0) (s .pre .1 .0) _ (c .before .before .before .before .before .before .best-of .ensures .1) _ (c .before .before .before .before .before .before .best-of .ensures .0) _ (c .before .before .before .winner .ensures) _ (s .pre .1 .1 .1)
 
--- src/settle.rt:20:1
 same-length : tie.Need-same-length
 same-length c = search needs
 
--- src/settle.rt:20:1
 same-length-2 : tie.Need-same-length-2
 same-length-2 c = search needs
 
--- src/settle.rt:20:1
 same-length-3 : tie.Need-same-length-3
 same-length-3 c = search needs
 
--- src/settle.rt:20:1
 returns : tie.Need-returns
-returns c = ?
+returns c =
+    let s = c .before .before .before .before .before .before .before .before .before .before .before .before .before .before .before .before .before .before in
+    three-burned _ _ _ _ _ (s .pre .0) (s .pre .1 .0) _ (c .before .before .before .before .before .before .before .before .before .before .before .best-of .ensures .1) _ (c .before .before .before .before .before .before .before .before .before .before .before .best-of .ensures .0) _ (c .before .before .before .before .before .before .before .before .winner .ensures) _ _ (c .before .before .before .before .burn .ensures)
 
 pub burn-three-spec : {M : Type 1} → statement M
 burn-three-spec =

@@ -1,0 +1,172 @@
+-- The whole call of settle, by the first thing that refuses it.
+-- Assumes nothing.
+use mathlib.Core.Path.{_≡_, refl, sym, ap, ap₂, _∙_, subst}
+use mathlib.Core.Bool.{Bool, true, false}
+use mathlib.Core.List.{List, [], _∷_, _++_}
+use Prim.Native.Nat.{ℕ, _*_, _/_, _%_, _≤_, _<_, max}
+use native.Mathlib.Nat.{le-trans, mul-le-mul-left}
+use native.Mathlib.Omega.{arith}
+use borrow.Author.Tests.{le-leb, lt-leb}
+use lib.Dec.{leb, eqb}
+use lib.ListN.{length, getD}
+use Rattle.records.specs.declared.Refusal.{Refusal}
+use Rattle.records.specs.Records.{Holds, Held, records, image, zeros}
+use Rattle.records.specs.Answers.{Outcome, accepted, refused, refusal, unless, andThen}
+use Rattle.records.proofs.Answering.{not-both, accepted-values, unless-accepted, unless-at-accepted, and-then, and-not}
+use Rattle.records.proofs.Holding.{length-list, capacity-fits, holds-held, holds-records, image-holds}
+use Rattle.cube.specs.declared.Cube.{Cube}
+use Rattle.cube.specs.Cubes.{good}
+use Rattle.cube.specs.Lists.{cubes, cubesOf, cubeCapacity, recordWidth, mostRecords, mostVariables}
+use Rattle.cube.specs.Calls.{checkList}
+use Rattle.cube.proofs.ListLaws.{lawful}
+use Rattle.script.specs.Run.{Ran, stopped, ended}
+use Rattle.script.specs.Scripts.{stepsOf}
+use Rattle.script.specs.Calls.{checkScript, checkRun, runOf, ranOutcome, runOutcome, workAfter, runAfter}
+use Rattle.script.proofs.Counting.{run-peak-capacity, run-last}
+use Rattle.settling.specs.declared.Burning.{Burning}
+use Rattle.settling.specs.declared.Settlement.{Settlement}
+use Rattle.settling.specs.Candidates.{burnedList, fixedOf}
+use Rattle.settling.specs.Choice.{Burns, BurningIs}
+use Rattle.settling.specs.Calls.{checkSettle, fixedValues, ranSettled, settleOutcome, settleWorkBy, settleWork, settleOutBy, settleOut}
+
+-- the answer and both buffers are what document 01 says
+pub record Settles (n : ℕ) (list script work out work′ out′ : List ℕ) (o : Outcome) : Type 0 where
+  pub answer : o ≡ settleOutcome n list script (length work) (length out)
+  pub work-is : work′ ≡ settleWork n list script work (length out)
+  pub out-is : out′ ≡ settleOut n list script (length work) out
+
+module _ (n : ℕ) (list script work out : List ℕ) where
+  -- by the checks before the first step, and the run
+  by-parts : (o : Outcome) (ran : Ran) → checkSettle n list script (length work) (length out) ≡ o → runOf n list script (length work) ≡ ran
+      → (work′ out′ : List ℕ) (a : Outcome) → a ≡ andThen o (ranSettled n (cubesOf list) ran) → work′ ≡ settleWorkBy o work → out′ ≡ settleOutBy o n (cubesOf list) ran out
+      → Settles n list script work out work′ out′ a
+  unfolding settleOutcome settleWork settleOut
+  by-parts o ran e er work′ out′ a ea ew eo = record {
+    answer = ea ∙ sym (ap₂ (λ (x : Outcome) (t : Ran). andThen x (ranSettled n (cubesOf list) t)) e er);
+    work-is = ew ∙ sym (ap (λ (x : Outcome). settleWorkBy x work) e);
+    out-is = eo ∙ sym (ap₂ (λ (x : Outcome) (t : Ran). settleOutBy x n (cubesOf list) t out) e er);
+  }
+
+  settle-refused : (r : Refusal) → checkSettle n list script (length work) (length out) ≡ refused r → Settles n list script work out work out (refused r)
+  settle-refused r e = by-parts (refused r) _ e refl work out (refused r) refl refl refl
+
+  pub list-refused : (r : Refusal) → checkList mostVariables n list ≡ refused r → Settles n list script work out work out (refused r)
+  unfolding checkSettle
+  list-refused r e = settle-refused r (and-not _ _ r e)
+
+  module _ (given : ℕ) (eg : checkList mostVariables n list ≡ accepted (given ∷ [])) where
+    given-is : given ≡ length (cubesOf list)
+    unfolding checkList
+    given-is =
+        let p = unless-accepted (leb n mostVariables) 1 0 _ _ eg in
+        let q = unless-accepted (eqb (length list % recordWidth) 0) 2 0 _ _ (p .1) in
+        let r = unless-accepted (leb (length list / recordWidth) mostRecords) 3 0 _ _ (q .1) in
+        let s = unless-at-accepted (good n) 4 (cubesOf list) _ _ (r .1) in
+        ap (λ (v : List ℕ). getD v 0 0) (sym (accepted-values (s .1)))
+
+    pub work-short : (room : ℕ) → room ≡ cubeCapacity (length work) → room < given → (r : Refusal) → r ≡ refusal 5 0 → Settles n list script work out work out (refused r)
+    unfolding checkSettle
+    work-short room er h r e =
+        settle-refused r
+        (and-then _ _ _ eg
+        ∙ ap (λ (t : Bool). unless t 5 0 (unless (leb (length (cubesOf list)) (cubeCapacity (length out))) 5 0 (checkScript n script)))
+        (lt-leb (length (cubesOf list)) (cubeCapacity (length work)) (omega (arith, er, given-is, h)))
+        ∙ sym (ap refused e))
+
+    module _ (room : ℕ) (er : room ≡ cubeCapacity (length work)) (h : given ≤ room) where
+      room-work : length (cubesOf list) ≤ cubeCapacity (length work)
+      room-work = omega (arith, er, given-is, h)
+
+      pub out-short : (place : ℕ) → place ≡ cubeCapacity (length out) → place < given → (r : Refusal) → r ≡ refusal 5 0 → Settles n list script work out work out (refused r)
+      unfolding checkSettle
+      out-short place ep k r e =
+          settle-refused r
+          (and-then _ _ _ eg
+          ∙ ap (λ (t : Bool). unless t 5 0 (unless (leb (length (cubesOf list)) (cubeCapacity (length out))) 5 0 (checkScript n script))) (le-leb _ _ room-work)
+          ∙ ap (λ (t : Bool). unless t 5 0 (checkScript n script)) (lt-leb (length (cubesOf list)) (cubeCapacity (length out)) (omega (arith, ep, given-is, k)))
+          ∙ sym (ap refused e))
+
+      module _ (place : ℕ) (ep : place ≡ cubeCapacity (length out)) (k : given ≤ place) where
+        room-out : length (cubesOf list) ≤ cubeCapacity (length out)
+        room-out = omega (arith, ep, given-is, k)
+
+        -- what is left of both checks is the check of the script
+        same-check : checkSettle n list script (length work) (length out) ≡ checkRun n list script (length work)
+        unfolding checkSettle checkRun
+        same-check =
+            ap (andThen (checkList mostVariables n list))
+            (ap (λ (t : Bool). unless (leb (length (cubesOf list)) (cubeCapacity (length work))) 5 0 (unless t 5 0 (checkScript n script))) (le-leb _ _ room-out))
+
+        pub run-refused : (r : Refusal) (work′ : List ℕ) → refused r ≡ runOutcome n list script (length work) → work′ ≡ runAfter n list script work
+            → Settles n list script work out work′ out (refused r)
+        unfolding runOutcome runAfter
+        run-refused r work′ e ew = go (checkRun n list script (length work)) refl (runOf n list script (length work)) refl e ew
+          where
+            go : (o : Outcome) → checkRun n list script (length work) ≡ o → (ran : Ran) → runOf n list script (length work) ≡ ran
+                → refused r ≡ andThen o (ranOutcome ran) → work′ ≡ workAfter o work ran → Settles n list script work out work′ out (refused r)
+            go (accepted v) eo (stopped number step) et a w = by-parts (accepted v) (stopped number step) (same-check ∙ eo) et work′ out (refused r) a w refl
+            go (accepted v) eo (ended m p) et a w = absurd (not-both (sym a))
+            go (refused q) eo ran et a w = by-parts (refused q) ran (same-check ∙ eo) et work′ out (refused r) a w refl
+
+        -- an accepted run: its list fills the front of the work buffer
+        record Ran-to (count peak : ℕ) (work′ : List ℕ) : Type 0 where
+          values : List ℕ
+          checked : checkRun n list script (length work) ≡ accepted values
+          result : List Cube
+          is : runOf n list script (length work) ≡ ended result peak
+          many : count ≡ length result
+          buffer : work′ ≡ image cubes (length work) result
+
+        module _ (count peak : ℕ) (work′ : List ℕ) (e : accepted (count ∷ peak ∷ []) ≡ runOutcome n list script (length work)) (ew : work′ ≡ runAfter n list script work) where
+          ran-to : Ran-to count peak work′
+          unfolding runOutcome runAfter
+          ran-to = go (checkRun n list script (length work)) refl (runOf n list script (length work)) refl e ew
+            where
+              go : (o : Outcome) → checkRun n list script (length work) ≡ o → (ran : Ran) → runOf n list script (length work) ≡ ran
+                  → accepted (count ∷ peak ∷ []) ≡ andThen o (ranOutcome ran) → work′ ≡ workAfter o work ran → Ran-to count peak work′
+              go (accepted v) eo (stopped number step) et a w = absurd (not-both a)
+              go (accepted v) eo (ended m p) et a w = record {
+                values = v;
+                checked = eo;
+                result = m;
+                is = et ∙ ap (ended m) (sym (ap (λ (x : List ℕ). getD x 1 0) (accepted-values a)));
+                many = ap (λ (x : List ℕ). getD x 0 0) (accepted-values a);
+                buffer = w;
+              }
+              go (refused q) eo ran et a w = absurd (not-both a)
+
+          fits-in : cubes .width * length (ran-to .result) ≤ length work
+          unfolding runOf
+          fits-in =
+              let t = ran-to in
+              let few : length (t .result) ≤ cubeCapacity (length work) =
+              omega (
+                arith,
+                room-work,
+                run-last n (cubeCapacity (length work)) (stepsOf script) (cubesOf list) (t .result) peak (t .is),
+                run-peak-capacity n (cubeCapacity (length work)) (stepsOf script) (cubesOf list) (t .result) peak (t .is),
+              ) in
+              le-trans (mul-le-mul-left (cubes .width) few) (capacity-fits cubes mostRecords (length work))
+
+          holds : Holds cubes work′ (ran-to .result)
+          holds = subst (λ (b : List ℕ). Holds cubes b (ran-to .result)) (sym (ran-to .buffer)) (image-holds cubes lawful (length work) (ran-to .result) fits-in)
+
+          result-is : records cubes count work′ ≡ ran-to .result
+          result-is = ap (λ (i : ℕ). records cubes i work′) (ran-to .many) ∙ holds-records cubes lawful work′ (ran-to .result) holds
+
+          pub run-burns : Burns n count list work′ out
+          run-burns = record {
+            held = subst (λ (i : ℕ). Held cubes i work′) (sym (ran-to .many)) (holds-held cubes lawful work′ (ran-to .result) holds);
+            passed = record { values = given ∷ []; is = eg };
+            room = omega (arith, room-out, length-list cubes list);
+          }
+
+          pub run-settled : (out′ : List ℕ) (b : Burning) → BurningIs n (records cubes count work′) (cubesOf list) out out′ b
+              → (work″ : List ℕ) → work″ ≡ zeros (length work′) → length work′ ≡ length work
+              → Settles n list script work out work″ out′ (accepted (given ∷ peak ∷ count ∷ (fixedValues (b .fixed) ++ (b .burned ∷ []))))
+          run-settled out′ b is work″ cleared long =
+              let t = ran-to in
+              by-parts (accepted (t .values)) (ended (t .result) peak) (same-check ∙ t .checked) (t .is) work″ out′ _
+              (λ i. accepted (given-is i ∷ peak ∷ t .many i ∷ (fixedValues (is .fixed i) ++ ((is .burned ∙ ap (λ (m : List Cube). length (burnedList n m (cubesOf list))) result-is) i ∷ []))))
+              (cleared ∙ ap zeros long)
+              (is .buffer ∙ ap (λ (m : List Cube). image cubes (length out) (burnedList n m (cubesOf list))) result-is)

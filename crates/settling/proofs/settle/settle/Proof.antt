@@ -1,0 +1,108 @@
+-- `settle::settle` meets its contract.
+-- Assumes nothing.
+use mathlib.Core.Path.{_≡_, sym, ap, _∙_}
+use Rattle.records.specs.Answers.{counted}
+use Rattle.script.specs.Calls.{finished}
+use Rattle.settling.proofs.Settling.{list-refused, work-short, out-short, run-refused, run-burns, run-settled}
+use borrow.Author.Needs.{needs}
+use Rattle.settling.proofs.settle.settle.Statement.{statement}
+use Rattle.settling.proofs.settle.settle.Tie as tie
+
+check-requires : tie.Need-check-requires
+check-requires c κs = search needs
+
+enum-known-r : tie.Need-enum-known-r
+enum-known-r c = search needs
+
+enum-known-given : tie.Need-enum-known-given
+enum-known-given c = search needs
+
+capacity-requires : tie.Need-capacity-requires
+capacity-requires c κs = search needs
+
+new-requires : tie.Need-new-requires
+new-requires c κs = search needs
+
+returns : tie.Need-returns
+returns c =
+    let r = work-short _ _ _ _ _ _ (sym (c .before .before .before .before .before .before .check .ensures) ∙ ap counted (c .before .before .before .before .given .given .1)) _ (c .before .before .capacity .ensures) (c .before .if1 .taken) _ (c .new .ensures) in
+    (r .answer, (r .work-is, r .out-is))
+
+capacity-requires-2 : tie.Need-capacity-requires-2
+capacity-requires-2 c κs = search needs
+
+new-requires-2 : tie.Need-new-requires-2
+new-requires-2 c κs = search needs
+
+returns-2 : tie.Need-returns-2
+returns-2 c =
+    let r = out-short _ _ _ _ _ _ (sym (c .before .before .before .before .before .before .before .before .check .ensures) ∙ ap counted (c .before .before .before .before .before .before .given .given .1)) _ (c .before .before .before .before .capacity .ensures) (c .before .before .before .if1 .left) _ (c .before .before .capacity2 .ensures) (c .before .if2 .taken) _ (c .new2 .ensures) in
+    (r .answer, (r .work-is, r .out-is))
+
+run-requires : tie.Need-run-requires
+run-requires c κs = search needs
+
+enum-known-r-2 : tie.Need-enum-known-r-2
+enum-known-r-2 c = search needs
+
+enum-known-count : tie.Need-enum-known-count
+enum-known-count c = search needs
+
+burn-best-requires : tie.Need-burn-best-requires
+burn-best-requires c κs =
+    run-burns _ _ _ _ _ _ (sym (c .before .before .before .before .before .before .before .before .before .before .before .before .before .before .before .before .check .ensures) ∙ ap counted (c .before .before .before .before .before .before .before .before .before .before .before .before .before .before .given .given .1)) _ (c .before .before .before .before .before .before .before .before .before .before .before .before .capacity .ensures) (c .before .before .before .before .before .before .before .before .before .before .before .if1 .left) _ (c .before .before .before .before .before .before .before .before .before .before .capacity2 .ensures) (c .before .before .before .before .before .before .before .before .before .if2 .left) _ _ _
+    (sym (ap finished (c .before .before .before .count .given .1)) ∙ c .before .before .before .before .before .before .before .run .ensures .0) (c .before .before .before .before .before .before .before .run .ensures .1)
+
+clear-requires : tie.Need-clear-requires
+clear-requires c κs = search needs
+
+returns-3 : tie.Need-returns-3
+returns-3 c =
+    let r = list-refused _ _ _ _ _ _ (sym (c .before .before .before .check .ensures) ∙ ap counted (c .before .r .given .1)) in
+    (r .answer, (r .work-is, r .out-is))
+
+same-length : tie.Need-same-length
+same-length c = search needs
+
+returns-4 : tie.Need-returns-4
+returns-4 c =
+    let r = run-refused _ _ _ _ _ _ (sym (c .before .before .before .before .before .before .before .before .before .before .before .before .before .before .check .ensures) ∙ ap counted (c .before .before .before .before .before .before .before .before .before .before .before .before .given .given .1)) _ (c .before .before .before .before .before .before .before .before .before .before .capacity .ensures) (c .before .before .before .before .before .before .before .before .before .if1 .left) _ (c .before .before .before .before .before .before .before .before .capacity2 .ensures) (c .before .before .before .before .before .before .before .if2 .left) _ _
+    (sym (ap finished (c .before .r2 .given .1)) ∙ c .before .before .before .before .before .run .ensures .0) (c .before .before .before .before .before .run .ensures .1) in
+    (r .answer, (r .work-is, r .out-is))
+
+same-length-2 : tie.Need-same-length-2
+same-length-2 c = search needs
+
+same-length-3 : tie.Need-same-length-3
+same-length-3 c = search needs
+
+returns-5 : tie.Need-returns-5
+returns-5 c =
+    let r = run-settled _ _ _ _ _ _ (sym (c .before .before .before .before .before .before .before .before .before .before .before .before .before .before .before .before .before .before .before .before .before .before .before .check .ensures) ∙ ap counted (c .before .before .before .before .before .before .before .before .before .before .before .before .before .before .before .before .before .before .before .before .before .given .given .1)) _ (c .before .before .before .before .before .before .before .before .before .before .before .before .before .before .before .before .before .before .before .capacity .ensures) (c .before .before .before .before .before .before .before .before .before .before .before .before .before .before .before .before .before .before .if1 .left) _ (c .before .before .before .before .before .before .before .before .before .before .before .before .before .before .before .before .before .capacity2 .ensures) (c .before .before .before .before .before .before .before .before .before .before .before .before .before .before .before .before .if2 .left) _ _ _
+    (sym (ap finished (c .before .before .before .before .before .before .before .before .before .before .count .given .1)) ∙ c .before .before .before .before .before .before .before .before .before .before .before .before .before .before .run .ensures .0) (c .before .before .before .before .before .before .before .before .before .before .before .before .before .before .run .ensures .1) _ _ (c .before .before .before .before .before .before .burn-best .ensures) _ (c .before .before .clear .ensures) (search needs) in
+    (r .answer, (r .work-is, r .out-is))
+
+pub settle-spec : {M : Type 1} → statement M
+settle-spec =
+    tie.close
+    (tie.spec
+    check-requires
+    enum-known-r
+    enum-known-given
+    capacity-requires
+    new-requires
+    returns
+    capacity-requires-2
+    new-requires-2
+    returns-2
+    run-requires
+    enum-known-r-2
+    enum-known-count
+    burn-best-requires
+    clear-requires
+    returns-3
+    same-length
+    returns-4
+    same-length-2
+    same-length-3
+    returns-5)
