@@ -13,10 +13,10 @@ use lib.Seq.{length-take-le}
 use borrow.Author.Tests.{le-leb, lt-leb, lt-ltb, le-ltb, eq-eqb, ne-eqb, leb-true, ltb-true, eqb-true}
 use Rattle.bits.specs.Sums.{firstBad, All}
 use Rattle.bits.proofs.Bits.{shl-one}
-use Rattle.bits.proofs.Sums.{looking-on, looking-here, looking-end, first-none, all-get-or}
+use Rattle.bits.proofs.Sums.{looking-on, looking-here, looking-end, all-get-or}
 use Rattle.records.specs.declared.Refusal.{Refusal}
 use Rattle.records.specs.Answers.{Outcome, accepted, refused, refusal, afterCall}
-use Rattle.records.proofs.Answering.{unless-accepted, both-accepted, accepted-values, and-then, and-not, after-accepted, after-refused}
+use Rattle.records.proofs.Answering.{unless-accepted, unless-at-accepted, both-accepted, accepted-values, and-then, and-not, after-accepted, after-refused}
 use Rattle.cube.specs.Lists.{vectorVariables}
 use Rattle.polarity.specs.Vectors.{byteAt, Vector, isBit, checkVector}
 use Rattle.polarity.specs.Calls.{coefficientsOutcome}
@@ -83,11 +83,11 @@ module _ (n : ℕ) (l v : List ℕ) (e : checkVector n l ≡ accepted v) where
   check-accepts =
       let p = unless-accepted (leb n vectorVariables) 1 0 _ v e in
       let q = unless-accepted (eqb (length l) (2 ^ n)) 14 (2 ^ n) _ v (p .1) in
-      let r = unless-accepted (eqb (firstBad isBit l) (length l)) 14 (firstBad isBit l) _ v (q .1) in
+      let r = unless-at-accepted isBit 14 l _ v (q .1) in
       record {
         few = leb-true n vectorVariables (p .0);
         long = eqb-true (length l) (2 ^ n) (q .0);
-        bits = bits-of l (first-none isBit l (eqb-true _ _ (r .0)));
+        bits = bits-of l (r .0);
       }
 
   check-values : v ≡ 2 ^ n ∷ []
@@ -95,7 +95,7 @@ module _ (n : ℕ) (l v : List ℕ) (e : checkVector n l ≡ accepted v) where
   check-values =
       let p = unless-accepted (leb n vectorVariables) 1 0 _ v e in
       let q = unless-accepted (eqb (length l) (2 ^ n)) 14 (2 ^ n) _ v (p .1) in
-      let r = unless-accepted (eqb (firstBad isBit l) (length l)) 14 (firstBad isBit l) _ v (q .1) in
+      let r = unless-at-accepted isBit 14 l _ v (q .1) in
       sym (accepted-values (r .1))
 
 pub check-size : (n : ℕ) (l : List ℕ) (m : ℕ) → checkVector n l ≡ accepted (m ∷ []) → m ≡ 2 ^ n

@@ -4,32 +4,34 @@
 -- Assumes nothing.
 use mathlib.Core.Path.{_≡_, refl, sym, ap, _∙_, subst}
 use mathlib.Core.Logic.{_⊎_, inl, inr, ⊎-elim}
-use mathlib.Core.Bool.{Bool, true, false}
+use mathlib.Core.Bool.{Bool, true, false, true≢false}
 use mathlib.Core.List.{List}
 use Prim.Native.Nat.{ℕ, _/_, _%_, _≤_, _<_}
 use native.Mathlib.Omega.{arith}
 use borrow.Author.Tests.{leb-false, eqb-false}
 use lib.Dec.{leb, eqb}
-use lib.ListN.{length, getD, length-map}
+use lib.ListN.{length, getD}
 use Rattle.bits.specs.Sums.{firstBad}
-use Rattle.bits.proofs.Sums.{first-le, first-fails, first-lowest}
+use Rattle.bits.proofs.Sums.{all-get, first-le, first-fails, first-lowest}
 use Rattle.records.specs.declared.Refusal.{Refusal}
 use Rattle.records.specs.Records.{listOf, zeros}
 use Rattle.records.specs.Answers.{Outcome, accepted, refused, refusal, unless, unlessAt, andThen}
 use Rattle.records.proofs.Answering.{not-both, refused-same}
+use Rattle.cube.specs.declared.Cube.{Cube}
 use Rattle.cube.specs.Cubes.{good, one}
 use Rattle.cube.specs.Lists.{mostVariables, mostRecords, recordWidth, cubesOf, cubeCapacity}
 use Rattle.cube.specs.Calls.{checkList}
-use Rattle.steps.specs.Moves.{stop}
-use Rattle.steps.specs.Steps.{drop, step, meaning}
-use Rattle.script.specs.Run.{stopped, run}
+use Rattle.cube.proofs.Codes.{parts-good}
+use Rattle.cube.proofs.ListLaws.{good-at}
+use Rattle.script.specs.Run.{stopped, ended, run}
 use Rattle.script.specs.Scripts.{stepRecords, stepWidth, mostSteps, fits, stepsOf}
 use Rattle.script.specs.Calls.{checkScript, runOf}
+use Rattle.script.proofs.Value.{not-ended}
 use Rattle.script.proofs.Stopping.{Refused, run-refused, run-refused-place, run-refused-number}
 use Rattle.settling.specs.declared.Settled.the-variants as settled-is
 use Rattle.settling.specs.declared.Settlement.{Settlement}
-use Rattle.settling.specs.Calls.{checkSettle, settleOutcome}
-use Rattle.settling.proofs.Calling.{Called, Before, AtStep, called-refused, called-accepted}
+use Rattle.settling.specs.Calls.{checkSettle}
+use Rattle.settling.proofs.Calling.{Called, Passing, called-refused, called-accepted}
 
 -- ---- the refusals before the first step, by number and place
 
@@ -102,6 +104,20 @@ module _ (n : ℕ) (list script : List ℕ) (work out : ℕ) (r : Refusal) where
       wrong-script))
       e
 
+-- what was accepted has none of these
+not-wrong : {n : ℕ} {list script : List ℕ} {work out number place : ℕ} → Passing n list script work out → Wrong n list script work out number place → ⊥
+not-wrong p (many-variables h) = omega (arith, p .list-is .few)
+not-wrong p (broken-list h) = h (p .list-is .whole)
+not-wrong p (long-list h) = omega (arith, p .list-is .short)
+not-wrong {n} {list} p (bad-record place low) =
+    true≢false (sym (parts-good n _ (good-at n (cubesOf list) (p .list-is .good) place)) ∙ low .fails)
+not-wrong p (short-work h) = omega (arith, p .work-room)
+not-wrong p (short-out h) = omega (arith, p .out-room)
+not-wrong p (broken-script h) = h (p .script-is .whole)
+not-wrong p (long-script h) = omega (arith, p .script-is .short)
+not-wrong {n} {list} {script} p (bad-step place low) =
+    true≢false (sym (all-get (λ r. fits n r ≡ true) (listOf stepRecords script) place (stepRecords .none) (p .script-is .fit) (low .inside)) ∙ low .fails)
+
 -- ---- the demand
 
 -- found before the first step, it says what is wrong, and writes nothing
@@ -140,6 +156,22 @@ module _ (n : ℕ) (list script work out : List ℕ) (work′ out′ : List ℕ)
         work-cleared = s .work-cleared;
         nothing-in-out = s .out-kept;
       }))
+      (called-refused n list script work out work′ out′ r c)
+
+  -- Bad input is refused: of an accepted call nothing is wrong ..
+  pub accepted-not-wrong : (s : Settlement) → Called n list script work out (settled-is.Burned s) work′ out′
+      → (number place : ℕ) → Wrong n list script (length work) (length out) number place → ⊥
+  accepted-not-wrong s c number place w = not-wrong (called-accepted n list script work out work′ out′ s c .passed) w
+
+  -- .. and nothing else is: where nothing is wrong and the script ends, the call is not refused.
+  pub only-bad-refused : (r : Refusal) → Called n list script work out (settled-is.Refused r) work′ out′
+      → ((number place : ℕ) → Wrong n list script (length work) (length out) number place → ⊥)
+      → (m : List Cube) (peak : ℕ) → run n (cubeCapacity (length work)) (stepsOf script) (cubesOf list) ≡ ended m peak → ⊥
+  unfolding runOf
+  only-bad-refused r c fine m peak e =
+      ⊎-elim
+      (λ b. fine (r .number) (r .place) (early-refusal n list script (length work) (length out) r (b .found)))
+      (λ s. not-ended (sym (s .found) ∙ e))
       (called-refused n list script work out work′ out′ r c)
 
   -- An accepted call leaves the work buffer all zero.

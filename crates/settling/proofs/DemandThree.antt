@@ -27,7 +27,8 @@ use Rattle.script.proofs.Value.{run-value, run-good, ended-list}
 use Rattle.settling.specs.declared.Settled.the-variants as settled-is
 use Rattle.settling.specs.declared.Settlement.{Settlement}
 use Rattle.settling.specs.Candidates.{bestOf, bestForm, burnedList}
-use Rattle.settling.proofs.Fewest.{burned-two, burned-form, burned-one, best-form-value, best-form-least}
+use Rattle.settling.proofs.SettleLaws.{burned-le-given, burned-le-result}
+use Rattle.settling.proofs.Fewest.{burned-form, burned-one, best-form-value, best-form-least}
 use Rattle.settling.proofs.Calling.{Called, Accepting, called-accepted}
 
 -- the list we burn: the first records of the output buffer, as many as settle answers
@@ -55,7 +56,7 @@ module _ (n : ℕ) (list script work out : List ℕ) (s : Settlement) (work′ o
 
   fits-out : recordWidth * length (burnedList n result (cubesOf list)) ≤ length out
   fits-out =
-      le-trans (mul-le-mul-left recordWidth (le-trans (burned-two n result (cubesOf list) .1) (acc .passed .out-room))) (capacity-fits cubes mostRecords (length out))
+      le-trans (mul-le-mul-left recordWidth (le-trans (burned-le-given n result (cubesOf list)) (acc .passed .out-room))) (capacity-fits cubes mostRecords (length out))
 
   -- the output buffer's front is the list to burn
   is-burned : burnedIn s out′ ≡ burnedList n result (cubesOf list)
@@ -95,14 +96,14 @@ module _ (n : ℕ) (list script work out : List ℕ) (s : Settlement) (work′ o
 
   -- It has no more products than the given one ..
   pub no-more-than-given : length (burnedIn s out′) ≤ length (cubesOf list)
-  no-more-than-given = subst (λ (l : List Cube). length l ≤ length (cubesOf list)) (sym is-burned) (burned-two n result (cubesOf list) .1)
+  no-more-than-given = subst (λ (l : List Cube). length l ≤ length (cubesOf list)) (sym is-burned) (burned-le-given n result (cubesOf list))
 
   -- .. nor than the list the script ends in, after the undoing; the script, which was not refused, does end in one ..
   pub no-more-than-script : (m : List Cube) (peak : ℕ) → run n (cubeCapacity (length work)) (stepsOf script) (cubesOf list) ≡ ended m peak
       → length (burnedIn s out′) ≤ length m
   no-more-than-script m peak e =
       subst (λ (l : List Cube). length (burnedIn s out′) ≤ length l) (ended-list (sym ran ∙ e))
-      (subst (λ (l : List Cube). length l ≤ length result) (sym is-burned) (burned-two n result (cubesOf list) .0))
+      (subst (λ (l : List Cube). length l ≤ length result) (sym is-burned) (burned-le-result n result (cubesOf list)))
 
   pub script-ends : EndsIn n list script work s
   unfolding result

@@ -1,12 +1,10 @@
--- The list to burn is one of the candidates, has their value, and no more products than any of them, nor than the form of any polarity.
+-- The list to burn is one of the candidates; for few variables the form of the best polarity has the value, and no more products than any polarity's form.
 -- Assumes nothing.
 use mathlib.Core.Path.{_≡_, refl, sym, _∙_, subst}
 use mathlib.Core.Bool.{Bool, true, false, cond}
 use mathlib.Core.List.{List}
 use Prim.Native.Nat.{ℕ, _^_, _≤_, _<_}
-use native.Mathlib.Nat.{le-trans}
-use native.Mathlib.Omega.{arith}
-use borrow.Author.Tests.{leb-true, ltb-true, ltb-false, le-leb}
+use borrow.Author.Tests.{leb-true, le-leb}
 use lib.Bits.{bitXor, xor-lt}
 use lib.Dec.{leb, ltb}
 use lib.ListN.{length}
@@ -19,39 +17,18 @@ use Rattle.polarity.proofs.Listing.{form-cong}
 use Rattle.polarity.proofs.Parities.{parity-cong}
 use Rattle.polarity.proofs.Theorems.{form-has-the-value, best-has-fewest}
 use Rattle.settling.specs.Candidates.{bestOf, bestForm, better, burnedList}
-use Rattle.settling.proofs.Winning.{rank-is}
 use Rattle.settling.proofs.Forming.{truth-vector-is}
+use Rattle.settling.proofs.SettleLaws.{better-le-later}
 
 -- ---- the candidates
 
--- the better of two lists has no more products than either
-better-least : (earlier later : List Cube) → (length (better earlier later) ≤ length earlier) × (length (better earlier later) ≤ length later)
-better-least earlier later = go (ltb (rank later) (rank earlier)) refl
-  where
-    go : (b : Bool) → ltb (rank later) (rank earlier) ≡ b → (length (cond b later earlier) ≤ length earlier) × (length (cond b later earlier) ≤ length later)
-    go true e = let l = ltb-true (rank later) (rank earlier) e in (omega (arith, rank-is later, rank-is earlier), omega arith)
-    go false e = let l = ltb-false (rank later) (rank earlier) e in (omega arith, omega (arith, rank-is later, rank-is earlier))
-
 module _ (n : ℕ) (result given : List Cube) where
-  -- the list to burn has no more products than the script's result and the given list
-  pub burned-two : (length (burnedList n result given) ≤ length result) × (length (burnedList n result given) ≤ length given)
-  unfolding burnedList
-  burned-two = go (leb n vectorVariables)
-    where
-      go : (b : Bool) → (length (cond b (better (better result given) (bestForm n given)) (better result given)) ≤ length result)
-          × (length (cond b (better (better result given) (bestForm n given)) (better result given)) ≤ length given)
-      go true =
-          let x = better-least (better result given) (bestForm n given) in
-          let y = better-least result given in
-          (le-trans (x .0) (y .0), le-trans (x .0) (y .1))
-      go false = better-least result given
-
-  -- nor, for few variables, than the form of the best polarity
+  -- for few variables it has no more products than the form of the best polarity
   pub burned-form : n ≤ vectorVariables → length (burnedList n result given) ≤ length (bestForm n given)
   unfolding burnedList
   burned-form h =
       subst (λ (b : Bool). length (cond b (better (better result given) (bestForm n given)) (better result given)) ≤ length (bestForm n given))
-      (sym (le-leb n vectorVariables h)) (better-least (better result given) (bestForm n given) .1)
+      (sym (le-leb n vectorVariables h)) (better-le-later (better result given) (bestForm n given))
 
   -- it is one of them
   pub burned-one : (P : List Cube → Type 0) → P result → P given → (n ≤ vectorVariables → P (bestForm n given)) → P (burnedList n result given)

@@ -1,31 +1,31 @@
 -- The truth vector of a list, its best polarity, and the form written to the output buffer.
 -- Assumes nothing.
-use mathlib.Core.Path.{_≡_, refl, sym, ap, ap₂, _∙_, subst}
-use mathlib.Core.Bool.{Bool, true, false, cond}
+use mathlib.Core.Path.{_≡_, sym, ap, ap₂, _∙_, subst}
+use mathlib.Core.Bool.{Bool, true, cond}
 use mathlib.Core.List.{List, [], _∷_, _++_, append-nil}
-use Prim.Native.Nat.{ℕ, zero, suc, _+_, _-_, _*_, _%_, _^_, _≤_, _<_}
+use Prim.Native.Nat.{ℕ, zero, suc, _-_, _*_, _^_, _≤_, _<_}
 use native.Mathlib.Nat.{mod-lt, zero-lt-suc, sub-zero, zero-sub, suc-sub-suc}
 use native.Mathlib.Decide.{decLt}
 use native.Mathlib.Omega.{arith}
-use borrow.Author.Tests.{le-leb, lt-ltb, leb-true, eq-eqb}
-use lib.Dec.{leb, eqb, ltb, lit<}
+use borrow.Author.Tests.{le-leb, lt-ltb, eq-eqb}
+use lib.Dec.{leb, lit<}
 use lib.ListN.{length, getD, drop, replicate, drop-of-length-le, List·getD-eq-default, length-replicate}
 use Rattle.bits.specs.Below.{listBelow}
-use Rattle.bits.specs.Sums.{All, firstBad}
+use Rattle.bits.specs.Sums.{firstBad}
 use Rattle.bits.proofs.Below.{length-listBelow, getD-listBelow}
 use Rattle.bits.proofs.Sums.{none-first, all-of}
 use Rattle.records.specs.declared.Refusal.{Refusal}
 use Rattle.records.specs.Records.{image, filled, flat, zeros, written}
-use Rattle.records.specs.Answers.{Outcome, accepted, refused, refusal, unless, unlessAt, andThen, afterCall, counted}
+use Rattle.records.specs.Answers.{accepted, unless, counted}
 use Rattle.records.specs.declared.Counted.{Counted}
 use Rattle.records.specs.declared.Counted.the-variants as counted-is
-use Rattle.records.proofs.Answering.{not-both, accepted-values, and-then, after-accepted}
+use Rattle.records.proofs.Answering.{not-both, and-then, after-accepted}
 use Rattle.records.proofs.Images.{length-flat}
 use Rattle.records.proofs.Holding.{written-front, capacity-fits}
 use Rattle.cube.specs.declared.Cube.{Cube}
-use Rattle.cube.specs.Lists.{cubes, cubesOf, cubeCapacity, truthVector, listValue, trues, vectorVariables, mostVariables, mostRecords, recordWidth}
+use Rattle.cube.specs.Lists.{cubes, cubesOf, cubeCapacity, truthVector, listValue, trues, vectorVariables, mostRecords, recordWidth}
 use Rattle.cube.specs.Calls.{checkList, vectorOutcome, vectorAfter}
-use Rattle.cube.proofs.ListLaws.{lawful, Accepted, check-accepts}
+use Rattle.cube.proofs.ListLaws.{lawful, check-accepts}
 use Rattle.script.specs.Progress.{Passed}
 use Rattle.polarity.specs.declared.Best.{Best}
 use Rattle.polarity.specs.declared.Best.the-variants as best-is
@@ -33,7 +33,6 @@ use Rattle.polarity.specs.Forms.{parityWithin, coefficient, formFrom, formList,
 use Rattle.polarity.specs.Vectors.{byteAt, Vector, isBit, checkVector, coefficientVector}
 use Rattle.polarity.specs.Calls.{coefficientsOutcome, coefficientsAfter, formOutcome, formAfter, bestOutcome, found}
 use Rattle.polarity.proofs.Listing.{form-cong}
-use Rattle.settling.specs.declared.Fixed.{Fixed}
 use Rattle.settling.specs.declared.Fixed.the-variants as fixed-is
 use Rattle.settling.specs.Candidates.{bestOf, bestForm, fixedOf}
 use Rattle.settling.specs.Choice.{BurnedIs}

@@ -2,44 +2,30 @@
 -- Assumes nothing.
 use mathlib.Core.Path.{_≡_, refl, sym, ap, ap₂, _∙_, subst}
 use mathlib.Core.Bool.{Bool, true, false, cond}
-use mathlib.Core.List.{List, [], _∷_, _++_}
-use Prim.Native.Nat.{ℕ, _+_, _*_, _/_, _%_, _^_, _≤_, _<_, max}
-use native.Mathlib.Nat.{le-trans, le-refl, mul-le-mul-left}
+use mathlib.Core.List.{List}
+use Prim.Native.Nat.{ℕ, _/_, _^_, _≤_, _<_}
+use native.Mathlib.Nat.{le-trans, le-refl}
 use native.Mathlib.Omega.{arith}
-use borrow.Author.Tests.{le-leb, lt-leb, leb-true, ltb-true, ltb-false}
-use lib.Dec.{leb, ltb, eqb}
-use lib.ListN.{length, getD}
-use Rattle.bits.specs.Sums.{All}
-use Rattle.bits.proofs.Sums.{all-map}
-use Rattle.records.specs.declared.Refusal.{Refusal}
-use Rattle.records.specs.Records.{Holds, Held, records, listOf, image, zeros}
-use Rattle.records.specs.Answers.{Outcome, accepted, refused, refusal, unless, andThen}
-use Rattle.records.proofs.Answering.{not-both, refused-same, unless-accepted, both-accepted, and-then, and-not}
-use Rattle.records.proofs.Holding.{length-records, length-list, capacity-fits, holds-held, holds-records, image-holds}
+use borrow.Author.Tests.{le-leb, lt-leb, ltb-true, ltb-false}
+use lib.Dec.{leb, ltb}
+use lib.ListN.{length}
+use Rattle.records.specs.Records.{records, image}
+use Rattle.records.proofs.Answering.{unless-accepted}
+use Rattle.records.proofs.Holding.{length-records, length-list}
 use Rattle.cube.specs.declared.Cube.{Cube}
-use Rattle.cube.specs.Lists.{cubes, cubesOf, cubeCapacity, recordWidth, mostRecords, mostVariables, vectorVariables, truthVector}
+use Rattle.cube.specs.Lists.{cubes, cubesOf, cubeCapacity, recordWidth, mostVariables, vectorVariables, truthVector}
 use Rattle.cube.specs.Calls.{checkList}
-use Rattle.cube.proofs.ListLaws.{lawful, Accepted, check-accepts}
-use Rattle.script.specs.declared.Finished.{Finished}
-use Rattle.script.specs.declared.Finished.the-variants as finished-is
-use Rattle.script.specs.Run.{Ran, stopped, ended}
-use Rattle.script.specs.Scripts.{stepsOf}
-use Rattle.script.specs.Calls.{checkScript, checkRun, runOf, ranOutcome, runOutcome, ranWork, workAfter, runAfter, finished}
+use Rattle.cube.proofs.ListLaws.{Accepted, check-accepts}
 use Rattle.script.specs.Progress.{Passed}
-use Rattle.script.proofs.Counting.{run-peak-capacity, run-last}
-use Rattle.polarity.specs.Forms.{formList, rank, bestPolarity}
+use Rattle.polarity.specs.Forms.{rank}
 use Rattle.polarity.specs.Vectors.{byteAt, Vector}
 use Rattle.polarity.proofs.Theorems.{best-has-fewest}
-use Rattle.settling.specs.declared.Burning.{Burning}
 use Rattle.settling.specs.declared.Fixed.{Fixed}
 use Rattle.settling.specs.declared.Fixed.the-variants as fixed-is
-use Rattle.settling.specs.declared.Settled.{Settled}
-use Rattle.settling.specs.declared.Settled.the-variants as settled-is
 use Rattle.settling.specs.declared.Winner.{Winner}
 use Rattle.settling.specs.declared.Winner.the-variants as winner-is
 use Rattle.settling.specs.Candidates.{bestOf, bestForm, better, burnedList, fixedOf}
 use Rattle.settling.specs.Choice.{isBetter, pick, winnerOf, winnerList, Formable, FormNeeds, Burnable, Burns, BurnedIs, BurningIs}
-use Rattle.settling.specs.Calls.{checkSettle, fixedValues, ranSettled, settleOutcome, settleWorkBy, settleWork, ranBurned, settleOutBy, settleOut, settled}
 use Rattle.settling.proofs.Winning.{rank-is, winner-burned, winner-absent}
 use Rattle.settling.proofs.Forming.{truth-vector-is}
 

@@ -1,9 +1,9 @@
 -- The whole call of settle, by the first thing that refuses it.
 -- Assumes nothing.
 use mathlib.Core.Path.{_≡_, refl, sym, ap, ap₂, _∙_, subst}
-use mathlib.Core.Bool.{Bool, true, false}
+use mathlib.Core.Bool.{Bool}
 use mathlib.Core.List.{List, [], _∷_, _++_}
-use Prim.Native.Nat.{ℕ, _*_, _/_, _%_, _≤_, _<_, max}
+use Prim.Native.Nat.{ℕ, _*_, _/_, _%_, _≤_, _<_}
 use native.Mathlib.Nat.{le-trans, mul-le-mul-left}
 use native.Mathlib.Omega.{arith}
 use borrow.Author.Tests.{le-leb, lt-leb}
@@ -24,8 +24,7 @@ use Rattle.script.specs.Scripts.{stepsOf}
 use Rattle.script.specs.Calls.{checkScript, checkRun, runOf, ranOutcome, runOutcome, workAfter, runAfter}
 use Rattle.script.proofs.Counting.{run-peak-capacity, run-last}
 use Rattle.settling.specs.declared.Burning.{Burning}
-use Rattle.settling.specs.declared.Settlement.{Settlement}
-use Rattle.settling.specs.Candidates.{burnedList, fixedOf}
+use Rattle.settling.specs.Candidates.{burnedList}
 use Rattle.settling.specs.Choice.{Burns, BurningIs}
 use Rattle.settling.specs.Calls.{checkSettle, fixedValues, ranSettled, settleOutcome, settleWorkBy, settleWork, settleOutBy, settleOut}
 

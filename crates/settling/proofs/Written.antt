@@ -1,11 +1,11 @@
 -- The winner's list at the front of the output buffer, and zeros after it.
 -- Assumes nothing.
-use mathlib.Core.Path.{_≡_, refl, sym, ap, ap₂, _∙_, subst}
-use mathlib.Core.List.{List, [], _∷_, _++_}
-use Prim.Native.Nat.{ℕ, _+_, _-_, _*_, _/_, _%_, _^_, _≤_, _<_}
+use mathlib.Core.Path.{_≡_, sym, ap, ap₂, _∙_, subst}
+use mathlib.Core.List.{List}
+use Prim.Native.Nat.{ℕ, _-_, _*_, _/_, _≤_, _<_}
 use native.Mathlib.Omega.{arith}
 use lib.ListN.{length, getD, take, replicate}
-use lib.Seq.{take-append-seam, length-take-le}
+use lib.Seq.{take-append-seam}
 use Rattle.records.specs.Records.{Holds, Held, records, listOf, image, filled, filledBy, flat}
 use Rattle.records.proofs.Filling.{filled-by}
 use Rattle.records.proofs.Images.{length-flat}

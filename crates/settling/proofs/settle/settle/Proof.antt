@@ -1,6 +1,6 @@
 -- `settle::settle` meets its contract.
 -- Assumes nothing.
-use mathlib.Core.Path.{_≡_, sym, ap, _∙_}
+use mathlib.Core.Path.{sym, ap, _∙_}
 use Rattle.records.specs.Answers.{counted}
 use Rattle.script.specs.Calls.{finished}
 use Rattle.settling.proofs.Settling.{list-refused, work-short, out-short, run-refused, run-burns, run-settled}

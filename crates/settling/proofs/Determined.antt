@@ -1,0 +1,44 @@
+-- Two outcomes that satisfy the contract of settle are equal.
+-- Assumes nothing.
+use mathlib.Core.Path.{_≡_, refl, ap₂}
+use mathlib.Core.List.{List, [], _∷_}
+use Prim.Native.Nat.{ℕ}
+use Rattle.bits.specs.Outcomes.{Determined}
+use Rattle.bits.proofs.Determined.{same, same-told}
+use Rattle.records.specs.Answers.{Outcome, accepted, refused, refusal}
+use Rattle.settling.specs.declared.Fixed.{Fixed}
+use Rattle.settling.specs.declared.Fixed.the-variants as fixed-is
+use Rattle.settling.specs.declared.Settled.{Settled}
+use Rattle.settling.specs.declared.Settled.the-variants as settled-is
+use Rattle.settling.specs.Calls.{settled}
+use Rattle.settling.proofs.settle.settle.Kinds as settle-kinds
+use Rattle.settling.proofs.settle.settle.Reads as settle-reads
+
+-- the answer, read back: four counts above 8 variables, six for at most 8
+settled-from : List ℕ → Settled
+settled-from (given ∷ peak ∷ script ∷ burned ∷ []) =
+    settled-is.Burned (record { given = given; peak = peak; script = script; fixed = fixed-is.Absent; burned = burned })
+settled-from (given ∷ peak ∷ script ∷ p ∷ size ∷ burned ∷ []) =
+    settled-is.Burned (record { given = given; peak = peak; script = script; fixed = fixed-is.Polarity p size; burned = burned })
+settled-from _ = settled-is.Refused (refusal 0 0)
+
+pub settled-back : Outcome → Settled
+settled-back (accepted v) = settled-from v
+settled-back (refused r) = settled-is.Refused r
+
+counts-known : (given peak script burned : ℕ) (f : Fixed)
+    → settled-back (settled (settled-is.Burned (record { given = given; peak = peak; script = script; fixed = f; burned = burned })))
+    ≡ settled-is.Burned (record { given = given; peak = peak; script = script; fixed = f; burned = burned })
+unfolding settled-back settled-from
+counts-known given peak script burned (fixed-is.Polarity p size) = refl
+counts-known given peak script burned fixed-is.Absent = refl
+
+pub settled-known : (a : Settled) → settled-back (settled a) ≡ a
+unfolding settled-back
+settled-known (settled-is.Burned s) = counts-known (s .given) (s .peak) (s .script) (s .burned) (s .fixed)
+settled-known (settled-is.Refused r) = refl
+
+pub settle-determined : Determined 4 settle-kinds.ps settle-kinds.r settle-reads.Learnt
+settle-determined κs a z z′ ws ws′ p q =
+    (same-told settled settled-back settled-known (p .0) (q .0),
+    ap₂ (λ (w o : List ℕ). (tt, (tt, (tt, (w, (o, tt)))))) (same (p .1 .0) (q .1 .0)) (same (p .1 .1) (q .1 .1)))
