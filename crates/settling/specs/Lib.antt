@@ -1,3 +1,4 @@
 pub mod Candidates
 pub mod Choice
 pub mod Calls
+pub mod Marked

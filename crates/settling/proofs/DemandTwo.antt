@@ -1,0 +1,212 @@
+-- Demand 2. The value of a list, each rewrite, each L-transformation and each fixed-polarity Reed-Muller form are exactly what the published papers
+-- define. Truth vector to coefficients and back returns the vector, under every polarity. 000, 001 and 002 are the source documents of document 01.
+-- The theorems are proved in cube (Meaning), steps (Rules, Transformation, Inversion), polarity (Theorems) and script (Counting), and stand here as one page.
+-- Assumes nothing.
+use mathlib.Core.Path.{_≡_, refl, sym, ap, _∙_, subst}
+use mathlib.Core.Logic.{_≢_, _⊎_}
+use mathlib.Core.Bool.{Bool, true, cond}
+use mathlib.Core.List.{List, [], _∷_, map}
+use Prim.Native.Nat.{ℕ, suc, _+_, _*_, _^_, _≤_, _<_}
+use native.Mathlib.Omega.{arith}
+use borrow.Author.Tests.{le-leb, lt-leb}
+use lib.Bits.{bitAnd}
+use lib.Dec.{eqb}
+use lib.ListN.{length, getD}
+use Rattle.bits.specs.Bits.{bit}
+use Rattle.bits.specs.Sums.{sum, oneIf, All}
+use Rattle.bits.proofs.Least.{Least}
+use Rattle.cube.specs.declared.Cube.{Cube}
+use Rattle.cube.specs.Cubes.{code, put, Good, met, holds}
+use Rattle.cube.specs.Lists.{cubesOf, cubeCapacity, listValue, truthVector, vectorVariables}
+use Rattle.cube.proofs.Meaning as meaning
+use Rattle.steps.specs.Moves.{next}
+use Rattle.steps.specs.Steps.{drop, join, split, turn, L, step, exchanged}
+use Rattle.steps.proofs.Inversion.{Dropped, Joined, Split, Turned}
+use Rattle.steps.proofs.Inversion as inversion
+use Rattle.steps.proofs.Rules.{complemented, plain, absent, Same, DropRule, JoinRule, SplitRule, TurnRule}
+use Rattle.steps.proofs.Rules as rules
+use Rattle.steps.proofs.Transformation.{Transformed}
+use Rattle.steps.proofs.Transformation as transformation
+use Rattle.script.specs.Run.{ended, undo, run}
+use Rattle.script.specs.Counts.{isSplit, isJoin, isDrop, howMany, lists, greatest}
+use Rattle.script.specs.Scripts.{stepsOf}
+use Rattle.script.specs.Calls.{runOf}
+use Rattle.script.proofs.Counting as counting
+use Rattle.polarity.specs.Forms.{parityWithin, coefficient, formFrom, formList, size, bestPolarity}
+use Rattle.polarity.specs.Vectors.{byteAt, Vector, coefficientVector, vectorBack}
+use Rattle.polarity.proofs.Theorems as theorems
+use Rattle.settling.specs.declared.Fixed.{Fixed}
+use Rattle.settling.specs.declared.Fixed.the-variants as fixed-is
+use Rattle.settling.specs.declared.Settled.the-variants as settled-is
+use Rattle.settling.specs.declared.Settlement.{Settlement}
+use Rattle.settling.specs.Candidates.{bestForm, fixedOf}
+use Rattle.settling.proofs.Calling.{Called, Accepting, called-accepted}
+
+-- ---- "The value of a list"
+
+-- A list's value is the EXOR of its products.
+pub value-is-exor : (n : ℕ) (l : List Cube) (a : ℕ) → listValue n l a ≡ oneIf (sum (λ c. holds n c a) l)
+value-is-exor = meaning.value-is-exor
+
+-- A product is true where each of its literals is met, per variable, and only there (002, definition 3.3) ..
+pub product-true : (n : ℕ) (c : Cube) (a : ℕ) → ((k : ℕ) → k < n → met (code c k) (bit a k) ≡ true) → holds n c a ≡ true
+product-true = meaning.product-true
+
+pub true-product : (n : ℕ) (c : Cube) (a : ℕ) → holds n c a ≡ true → (k : ℕ) → k < n → met (code c k) (bit a k) ≡ true
+true-product = meaning.true-product
+
+-- .. which is one masked comparison of its record's numbers.
+pub product-by-mask : (n : ℕ) (c : Cube) (a : ℕ) → Good n c → a < 2 ^ n → holds n c a ≡ eqb (bitAnd (c .seen) a) (c .value)
+product-by-mask = meaning.product-by-mask
+
+-- ---- "each rewrite": the rules of 000, in any product t, at variables x and y
+
+-- A rule says what the step decides of its left side, wherever the cubes stand, and that both sides are the same function.
+module _ (n : ℕ) (t : Cube) (g : Good n t) where
+  -- (S6) 1 ⊕ 1 → 0
+  pub rule-S6 : DropRule n t t
+  rule-S6 = rules.rule-S6 n t g
+
+  module _ (x : ℕ) (hx : x < n) where
+    -- (S1) x ⊕ x̄ → 1
+    pub rule-S1 : JoinRule n (put t x plain) (put t x complemented) (put t x absent)
+    rule-S1 = rules.rule-S1 n t g x hx
+
+    -- (S2) x ⊕ 1 → x̄
+    pub rule-S2 : JoinRule n (put t x plain) (put t x absent) (put t x complemented)
+    rule-S2 = rules.rule-S2 n t g x hx
+
+    -- (1S) 1 → x ⊕ x̄
+    pub rule-1S : SplitRule n x (put t x absent) (put t x complemented) (put t x plain)
+    rule-1S = rules.rule-1S n t g x hx
+
+    -- (2S) x̄ → x ⊕ 1
+    pub rule-2S : SplitRule n x (put t x complemented) (put t x plain) (put t x absent)
+    rule-2S = rules.rule-2S n t g x hx
+
+    module _ (y : ℕ) (hy : y < n) (xy : x ≢ y) where
+      -- (S3) xy ⊕ ȳ → 1 ⊕ x̄y
+      pub rule-S3 : TurnRule n x (put (put t x plain) y plain) (put (put t x absent) y complemented)
+          (put (put t x complemented) y plain) (put (put t x absent) y absent)
+      rule-S3 = rules.rule-S3 n t g x hx y hy xy
+
+      -- (S4) xy ⊕ x̄ȳ → x̄ ⊕ y
+      pub rule-S4 : TurnRule n x (put (put t x plain) y plain) (put (put t x complemented) y complemented)
+          (put (put t x absent) y plain) (put (put t x complemented) y absent)
+      rule-S4 = rules.rule-S4 n t g x hx y hy xy
+
+      -- (S5) xy ⊕ x̄ȳ → x ⊕ ȳ
+      pub rule-S5 : TurnRule n y (put (put t x plain) y plain) (put (put t x complemented) y complemented)
+          (put (put t x plain) y absent) (put (put t x absent) y complemented)
+      rule-S5 = rules.rule-S5 n t g x hx y hy xy
+
+-- What a step that is done does to the list: its places and cubes are as document 01's table needs them, and the next list is the one it names.
+module _ (n cap i j : ℕ) (l m : List Cube) where
+  pub drop-done : step n cap (drop i j) l ≡ next m → Dropped n i j l m
+  drop-done = inversion.drop-accepted n cap i j l m
+
+  pub join-done : step n cap (join i j) l ≡ next m → Joined n i j l m
+  join-done = inversion.join-accepted n cap i j l m
+
+  pub turn-done : (v : ℕ) → step n cap (turn v i j) l ≡ next m → Turned n v i j l m
+  turn-done v = inversion.turn-accepted n cap v i j l m
+
+  pub split-done : (v : ℕ) → step n cap (split v i) l ≡ next m → Split cap v i l m
+  split-done v = inversion.split-accepted n cap v i l m
+
+-- ---- "each L-transformation"
+
+module _ (n v b : ℕ) (hv : v < n) (hb : b < 2) where
+  -- The step is made of every cube of the list ..
+  pub L-step : (cap : ℕ) (f : List Cube) → step n cap (L v b) f ≡ next (map (exchanged v b) f)
+  L-step cap f = inversion.L-accepted n cap v b f
+
+  -- .. as 000, definition 4.1 has it: the literal is deleted where it stands and added where the variable has none.
+  pub definition-4-1 : (c : Cube) → Good n c → Transformed v b c (exchanged v b c)
+  definition-4-1 = transformation.definition-4-1 n v b hv hb
+
+  -- It is its own inverse.
+  pub own-inverse : (f : List Cube) → All (Good n) f → map (exchanged v b) (map (exchanged v b) f) ≡ f
+  own-inverse = transformation.own-inverse n v b hv hb
+
+  -- 000, corollary 4.3: two lists are the same function just where they are after it.
+  pub corollary-4-3 : (f g : List Cube) → All (Good n) f → All (Good n) g
+      → (Same n f g → Same n (map (exchanged v b) f) (map (exchanged v b) g)) × (Same n (map (exchanged v b) f) (map (exchanged v b) g) → Same n f g)
+  corollary-4-3 = transformation.corollary-4-3 n v b hv hb
+
+-- Two on different variables commute.
+pub commutes : (u v a b : ℕ) → u ≢ v → (f : List Cube) → map (exchanged v b) (map (exchanged u a) f) ≡ map (exchanged u a) (map (exchanged v b) f)
+commutes = transformation.commutes
+
+-- ---- "each fixed-polarity Reed-Muller form"
+
+module _ (n p : ℕ) where
+  -- "Truth vector to coefficients and back returns the vector, under every polarity"; and coefficients to truth vector and back.
+  pub there-and-back : (l : List ℕ) → Vector n l → p < 2 ^ n → vectorBack n p (coefficientVector n p l) ≡ l
+  there-and-back = theorems.there-and-back n p
+
+  pub back-and-there : (l : List ℕ) → Vector n l → p < 2 ^ n → coefficientVector n p (vectorBack n p l) ≡ l
+  back-and-there = theorems.back-and-there n p
+
+  -- The form has the function's value at every assignment.
+  pub form-has-the-value : (f : ℕ → ℕ) → ((t : ℕ) → f t < 2) → p < 2 ^ n → (a : ℕ) → a < 2 ^ n → listValue n (formList n p f) a ≡ f a
+  form-has-the-value = theorems.form-has-the-value n p
+
+  -- 001, definition 3: the literal whose code is the polarity's entry does not appear.
+  pub literal-of-polarity-missing : (c : ℕ → ℕ) → All (λ d. (k : ℕ) → code d k ≢ bit p k) (formFrom n p c)
+  literal-of-polarity-missing = theorems.literal-of-polarity-missing n p
+
+  -- 001, property 2: under a polarity no other form has the function's values.
+  pub form-unique : p < 2 ^ n → (f c : ℕ → ℕ) → ((s : ℕ) → c s < 2) → ((a : ℕ) → a < 2 ^ n → listValue n (formFrom n p c) a ≡ f a) → formFrom n p c ≡ formList n p f
+  form-unique = theorems.form-unique n p
+
+module _ (n : ℕ) (f : ℕ → ℕ) where
+  -- 002, lemma 2.2: polarity 0 is the positive form; its literals are plain, and f is the EXOR of the coefficients of the sets whose variables are all 1.
+  pub positive-literals : All (λ d. (k : ℕ) → (code d k ≡ 2) ⊎ (code d k ≡ 1)) (formList n 0 f)
+  positive-literals = theorems.positive-literals n f
+
+  pub positive-form : ((t : ℕ) → f t < 2) → (a : ℕ) → a < 2 ^ n → f a ≡ parityWithin n (parityWithin n f) a
+  positive-form = theorems.positive-form n f
+
+  -- The best polarity has the fewest products, and of those with as few it is the smallest.
+  pub best-has-fewest : Least (λ p. size n p f) (2 ^ n) (bestPolarity n f)
+  best-has-fewest = theorems.best-has-fewest n f
+
+-- ---- the counts that settle answers, of a call that was not refused
+
+module _ (n : ℕ) (list script work out : List ℕ) (s : Settlement) (work′ out′ : List ℕ)
+    (c : Called n list script work out (settled-is.Burned s) work′ out′) where
+  acc : Accepting n list script work out s work′ out′
+  acc = called-accepted n list script work out work′ out′ s c
+
+  ran : run n (cubeCapacity (length work)) (stepsOf script) (cubesOf list) ≡ ended (acc .result) (s .peak)
+  unfolding runOf
+  ran = acc .ran
+
+  -- given: the number of the given products
+  pub given-count : s .given ≡ length (cubesOf list)
+  given-count = acc .given-is
+
+  -- script: "the first count plus splits, less joins, less twice the drops"
+  pub script-count : s .script + howMany isJoin (stepsOf script) + 2 * howMany isDrop (stepsOf script) ≡ length (cubesOf list) + howMany isSplit (stepsOf script)
+  script-count =
+      let many : s .script ≡ length (acc .result) = acc .script-is in
+      omega (arith, counting.run-count n (cubeCapacity (length work)) (stepsOf script) (cubesOf list) (acc .result) (s .peak) ran)
+
+  -- peak: "the greatest count met, the first included", of the lists between the steps, of which there is one more than there are steps
+  pub peak-is : s .peak ≡ greatest (lists n (cubeCapacity (length work)) (stepsOf script) (cubesOf list))
+  peak-is = counting.run-peak n (cubeCapacity (length work)) (stepsOf script) (cubesOf list) (acc .result) (s .peak) ran
+
+  pub lists-met : length (lists n (cubeCapacity (length work)) (stepsOf script) (cubesOf list)) ≡ suc (length (stepsOf script))
+  lists-met = counting.run-lists n (cubeCapacity (length work)) (stepsOf script) (cubesOf list) (acc .result) (s .peak) ran
+
+  -- fixed: the best polarity of the given list's function, by its truth vector, and its size; none above 8 variables
+  pub fixed-few : n ≤ vectorVariables → s .fixed
+      ≡ fixed-is.Polarity (bestPolarity n (byteAt (truthVector n (cubesOf list))))
+      (size n (bestPolarity n (byteAt (truthVector n (cubesOf list)))) (byteAt (truthVector n (cubesOf list))))
+  unfolding fixedOf bestForm
+  fixed-few h = acc .fixed-is ∙ simp (le-leb n vectorVariables h)
+
+  pub fixed-many : vectorVariables < n → s .fixed ≡ fixed-is.Absent
+  unfolding fixedOf
+  fixed-many h = acc .fixed-is ∙ simp (lt-leb n vectorVariables h)
