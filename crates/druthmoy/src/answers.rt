@@ -1,0 +1,63 @@
+// Answers as eight words: the number of a refusal, its place, and six values.
+use cube::Valued;
+use polarity::Best;
+use records::Counted;
+use records::Refusal;
+use script::Finished;
+ghost use mathlib.Core.Path.{_≡_};
+ghost use mathlib.Core.List.{[], _∷_};
+ghost use Rattle.records.specs.Answers.{accepted, refused, counted};
+ghost use Rattle.cube.specs.Calls.{valued};
+ghost use Rattle.polarity.specs.Calls.{found};
+ghost use Rattle.script.specs.Calls.{finished};
+ghost use Rattle.druthmoy.specs.Faces.{words};
+
+// A refusal: its number and its place.
+fn put_refusal(answer: &mut [u64; 8], r: Refusal)
+    ensures { λ _. ⌜ now (answer .exit) ≡ words (refused r) ⌝ }
+{
+    *answer = [r.number as u64, r.place as u64, 0, 0, 0, 0, 0, 0];
+}
+
+// Two values of an accepted call.
+fn put_values(answer: &mut [u64; 8], first: usize, second: usize)
+    ensures { λ _. ⌜ now (answer .exit) ≡ words (accepted (first ∷ second ∷ [])) ⌝ }
+{
+    *answer = [0, 0, first as u64, second as u64, 0, 0, 0, 0];
+}
+
+pub(crate) fn put_counted(answer: &mut [u64; 8], r: Counted)
+    ensures { λ _. ⌜ now (answer .exit) ≡ words (counted r) ⌝ }
+{
+    match r {
+        Counted::Count(count) => put_values(answer, count, 0),
+        Counted::Refused(why) => put_refusal(answer, why),
+    }
+}
+
+pub(crate) fn put_valued(answer: &mut [u64; 8], r: Valued)
+    ensures { λ _. ⌜ now (answer .exit) ≡ words (valued r) ⌝ }
+{
+    match r {
+        Valued::Bit(bit) => put_values(answer, bit as usize, 0),
+        Valued::Refused(why) => put_refusal(answer, why),
+    }
+}
+
+pub(crate) fn put_best(answer: &mut [u64; 8], r: Best)
+    ensures { λ _. ⌜ now (answer .exit) ≡ words (found r) ⌝ }
+{
+    match r {
+        Best::Found(p, size) => put_values(answer, p, size),
+        Best::Refused(why) => put_refusal(answer, why),
+    }
+}
+
+pub(crate) fn put_finished(answer: &mut [u64; 8], r: Finished)
+    ensures { λ _. ⌜ now (answer .exit) ≡ words (finished r) ⌝ }
+{
+    match r {
+        Finished::Done(count, peak) => put_values(answer, count, peak),
+        Finished::Refused(why) => put_refusal(answer, why),
+    }
+}
