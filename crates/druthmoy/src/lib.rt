@@ -96,13 +96,7 @@ pub extern "C" fn dm_best_polarity(n: u64, vector: &[u8], answer: &mut [u64; 8])
 
 // Runs a script on a list. Values: the count and the peak.
 #[no_mangle]
-pub extern "C" fn dm_run(
-    n: u64,
-    list: &[u8],
-    script: &[u8],
-    work: &mut [u8],
-    answer: &mut [u64; 8],
-)
+pub extern "C" fn dm_run(n: u64, list: &[u8], script: &[u8], work: &mut [u8], answer: &mut [u64; 8])
     ensures { λ _. ⌜ now (answer .exit) ≡ words (runOutcome n (now (list .entry)) (now (script .entry)) (length (now (work .entry)))) ⌝ }
     ensures { λ _. ⌜ now (work .exit) ≡ runAfter n (now (list .entry)) (now (script .entry)) (now (work .entry)) ⌝ }
 {
