@@ -16,7 +16,9 @@ ghost use Rattle.druthmoy.specs.Faces.{words};
 fn put_refusal(answer: &mut [u64; 8], r: Refusal)
     ensures { λ _. ⌜ now (answer .exit) ≡ words (refused r) ⌝ }
 {
-    *answer = [r.number as u64, r.place as u64, 0, 0, 0, 0, 0, 0];
+    let number = r.number as u64;
+    let place = r.place as u64;
+    *answer = [number, place, 0, 0, 0, 0, 0, 0];
 }
 
 // Two values of an accepted call.

@@ -6,12 +6,12 @@ use borrow.Author.Needs.{needs}
 use Rattle.druthmoy.proofs.answers.put_refusal.Statement.{statement}
 use Rattle.druthmoy.proofs.answers.put_refusal.Tie as tie
 
-cast-t3 : tie.Need-cast-t3
-cast-t3 c = search needs
+cast-number : tie.Need-cast-number
+cast-number c = search needs
 
 returns : tie.Need-returns
 unfolding words
 returns c = refl
 
 pub put-refusal-spec : {M : Type 1} → statement M
-put-refusal-spec = tie.close (tie.spec cast-t3 returns)
+put-refusal-spec = tie.close (tie.spec cast-number returns)
