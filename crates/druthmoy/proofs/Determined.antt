@@ -21,6 +21,8 @@ use Rattle.druthmoy.proofs.dm_best_polarity.Kinds as dm-best-polarity-k
 use Rattle.druthmoy.proofs.dm_best_polarity.Reads as dm-best-polarity-reads
 use Rattle.druthmoy.proofs.dm_run.Kinds as dm-run-kinds
 use Rattle.druthmoy.proofs.dm_run.Reads as dm-run-reads
+use Rattle.druthmoy.proofs.dm_settle.Kinds as dm-settle-kinds
+use Rattle.druthmoy.proofs.dm_settle.Reads as dm-settle-reads
 
 pub dm-check-determined : Determined 2 dm-check-kinds.ps dm-check-kinds.r dm-check-reads.Learnt
 dm-check-determined κs a z z′ ws ws′ p q = (refl, ap (λ (w : List ℕ). (tt, (tt, (w, tt)))) (same p q))
@@ -45,3 +47,11 @@ dm-best-polarity-determined κs a z z′ ws ws′ p q = (refl, ap (λ (w : List 
 
 pub dm-run-determined : Determined 4 dm-run-kinds.ps dm-run-kinds.r dm-run-reads.Learnt
 dm-run-determined κs a z z′ ws ws′ p q = (refl, ap₂ (λ (w b : List ℕ). (tt, (tt, (tt, (b, (w, tt)))))) (same (p .0) (q .0)) (same (p .1) (q .1)))
+
+pub dm-settle-determined : Determined 5 dm-settle-kinds.ps dm-settle-kinds.r dm-settle-reads.Learnt
+dm-settle-determined κs a z z′ ws ws′ p q = (
+  refl,
+  ap₂ (λ (w : List ℕ) (bs : List ℕ × List ℕ). (tt, (tt, (tt, (bs .0, (bs .1, (w, tt)))))))
+      (same (p .0) (q .0))
+      (ap₂ (λ (b d : List ℕ). (b, d)) (same (p .1 .0) (q .1 .0)) (same (p .1 .1) (q .1 .1))),
+)

@@ -4,13 +4,18 @@ use polarity::Best;
 use records::Counted;
 use records::Refusal;
 use script::Finished;
+use settling::Fixed;
+use settling::Settled;
+use settling::Settlement;
 ghost use mathlib.Core.Path.{_≡_};
 ghost use mathlib.Core.List.{[], _∷_};
 ghost use Rattle.records.specs.Answers.{accepted, refused, counted};
 ghost use Rattle.cube.specs.Calls.{valued};
 ghost use Rattle.polarity.specs.Calls.{found};
 ghost use Rattle.script.specs.Calls.{finished};
-ghost use Rattle.druthmoy.specs.Faces.{words};
+ghost use Rattle.settling.specs.declared.Settled.the-variants.{Burned};
+ghost use Rattle.settling.specs.Calls.{settled};
+ghost use Rattle.druthmoy.specs.Faces.{words, settledWords};
 
 // A refusal: its number and its place.
 fn put_refusal(answer: &mut [u64; 8], r: Refusal)
@@ -61,5 +66,36 @@ pub(crate) fn put_finished(answer: &mut [u64; 8], r: Finished)
     match r {
         Finished::Done(count, peak) => put_values(answer, count, peak),
         Finished::Refused(why) => put_refusal(answer, why),
+    }
+}
+
+// What stands for the best polarity and for its size where there is none.
+const ABSENT: u64 = u64::MAX;
+
+// The counts of a settled map.
+fn put_settlement(answer: &mut [u64; 8], s: Settlement)
+    ensures { λ _. ⌜ now (answer .exit) ≡ settledWords (settled (Burned s)) ⌝ }
+{
+    let given = s.given as u64;
+    let peak = s.peak as u64;
+    let script = s.script as u64;
+    let burned = s.burned as u64;
+    let fixed = s.fixed;
+    match fixed {
+        Fixed::Polarity(p, size) => {
+            *answer = [0, 0, given, peak, script, p as u64, size as u64, burned];
+        }
+        Fixed::Absent => {
+            *answer = [0, 0, given, peak, script, ABSENT, ABSENT, burned];
+        }
+    }
+}
+
+pub(crate) fn put_settled(answer: &mut [u64; 8], r: Settled)
+    ensures { λ _. ⌜ now (answer .exit) ≡ settledWords (settled r) ⌝ }
+{
+    match r {
+        Settled::Burned(s) => put_settlement(answer, s),
+        Settled::Refused(why) => put_refusal(answer, why),
     }
 }

@@ -7,7 +7,8 @@ ghost use Rattle.cube.specs.Lists.{mostVariables};
 ghost use Rattle.cube.specs.Calls.{checkList, valueOutcome, vectorOutcome, vectorAfter};
 ghost use Rattle.polarity.specs.Calls.{coefficientsOutcome, coefficientsAfter, backAfter, formOutcome, formAfter, bestOutcome};
 ghost use Rattle.script.specs.Calls.{runOutcome, runAfter};
-ghost use Rattle.druthmoy.specs.Faces.{words};
+ghost use Rattle.settling.specs.Calls.{settleOutcome, settleWork, settleOut};
+ghost use Rattle.druthmoy.specs.Faces.{words, settledWords};
 
 // Checking a list. Values: its count.
 #[no_mangle]
@@ -102,4 +103,22 @@ pub extern "C" fn dm_run(n: u64, list: &[u8], script: &[u8], work: &mut [u8], an
 {
     let finished = script::run::run(n as usize, list, script, work);
     answers::put_finished(answer, finished);
+}
+
+// Settles a map. Values: given, peak, the script's count, the best polarity and its size (both all ones above 8 variables), burned.
+#[no_mangle]
+pub extern "C" fn dm_settle(
+    n: u64,
+    list: &[u8],
+    script: &[u8],
+    work: &mut [u8],
+    out: &mut [u8],
+    answer: &mut [u64; 8],
+)
+    ensures { λ _. ⌜ now (answer .exit) ≡ settledWords (settleOutcome n (now (list .entry)) (now (script .entry)) (length (now (work .entry))) (length (now (out .entry)))) ⌝ }
+    ensures { λ _. ⌜ now (work .exit) ≡ settleWork n (now (list .entry)) (now (script .entry)) (now (work .entry)) (length (now (out .entry))) ⌝ }
+    ensures { λ _. ⌜ now (out .exit) ≡ settleOut n (now (list .entry)) (now (script .entry)) (length (now (work .entry))) (now (out .entry)) ⌝ }
+{
+    let settled = settling::settle::settle(n as usize, list, script, work, out);
+    answers::put_settled(answer, settled);
 }

@@ -1,5 +1,6 @@
 -- `dm_coefficients` meets its contract.
 -- Assumes nothing.
+use Rattle.druthmoy.specs.Faces.{words}
 use Rattle.druthmoy.proofs.Words.{words-of}
 use borrow.Author.Needs.{needs}
 use Rattle.druthmoy.proofs.dm_coefficients.Statement.{statement}
@@ -15,7 +16,7 @@ same-length : tie.Need-same-length
 same-length c = search needs
 
 returns : tie.Need-returns
-returns c = (search words-of, search needs)
+returns c = (search (words-of words), search needs)
 
 pub dm-coefficients-spec : {M : Type 1} → statement M
 dm-coefficients-spec =

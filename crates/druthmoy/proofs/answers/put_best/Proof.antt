@@ -2,6 +2,7 @@
 -- Assumes nothing.
 use mathlib.Core.Path.{_≡_, sym, ap}
 use Rattle.polarity.specs.Calls.{found}
+use Rattle.druthmoy.specs.Faces.{words}
 use Rattle.druthmoy.proofs.Words.{words-of}
 use borrow.Author.Needs.{needs}
 use Rattle.druthmoy.proofs.answers.put_best.Statement.{statement}
@@ -20,10 +21,10 @@ put-refusal-requires : tie.Need-put-refusal-requires
 put-refusal-requires c κs = search needs
 
 returns : tie.Need-returns
-returns c = words-of (c .put-values .ensures) (sym (ap found (c .before .before .before .r .given .1)))
+returns c = words-of words (c .put-values .ensures) (sym (ap found (c .before .before .before .r .given .1)))
 
 returns-2 : tie.Need-returns-2
-returns-2 c = words-of (c .put-refusal .ensures) (sym (ap found (c .before .before .before .r2 .given .1)))
+returns-2 c = words-of words (c .put-refusal .ensures) (sym (ap found (c .before .before .before .r2 .given .1)))
 
 pub put-best-spec : {M : Type 1} → statement M
 put-best-spec =

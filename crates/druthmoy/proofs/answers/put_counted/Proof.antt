@@ -22,10 +22,10 @@ put-refusal-requires c κs = search needs
 
 returns : tie.Need-returns
 unfolding words
-returns c = words-of (c .put-values .ensures) (sym (ap counted (c .before .before .before .r .given .1)))
+returns c = words-of words (c .put-values .ensures) (sym (ap counted (c .before .before .before .r .given .1)))
 
 returns-2 : tie.Need-returns-2
-returns-2 c = words-of (c .put-refusal .ensures) (sym (ap counted (c .before .before .before .r2 .given .1)))
+returns-2 c = words-of words (c .put-refusal .ensures) (sym (ap counted (c .before .before .before .r2 .given .1)))
 
 pub put-counted-spec : {M : Type 1} → statement M
 put-counted-spec =
