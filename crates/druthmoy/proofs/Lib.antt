@@ -1,2 +1,3 @@
 pub mod Words
+pub mod AboveEight
 pub mod Determined

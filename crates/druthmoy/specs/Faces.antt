@@ -20,7 +20,7 @@ words (refused r) = eight (r .number) (r .place) []
 abbrev pub allOnes : ℕ
 allOnes = 18446744073709551615
 
--- settle answers six values, and four where it has no best polarity: then both of its words are all ones
+-- settle answers six values, and four above 8 variables, where it has no best polarity: then both of its words are all ones
 abbrev pub withAbsent : List ℕ → List ℕ
 withAbsent v = cond (eqb (length v) 4) (take 3 v ++ (allOnes ∷ allOnes ∷ drop 3 v)) v
 

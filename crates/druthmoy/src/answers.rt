@@ -17,6 +17,9 @@ ghost use Rattle.settling.specs.declared.Settled.the-variants.{Burned};
 ghost use Rattle.settling.specs.Calls.{settled};
 ghost use Rattle.druthmoy.specs.Faces.{words, settledWords};
 
+// What stands for the best polarity and for its size where there is none.
+const ABSENT: u64 = u64::MAX;
+
 // A refusal: its number and its place.
 fn put_refusal(answer: &mut [u64; 8], r: Refusal)
     ensures { λ _. ⌜ now (answer .exit) ≡ words (refused r) ⌝ }
@@ -26,13 +29,14 @@ fn put_refusal(answer: &mut [u64; 8], r: Refusal)
     *answer = [number, place, 0, 0, 0, 0, 0, 0];
 }
 
-// Two values of an accepted call.
+// The values of an accepted call that has two, or one and 0.
 fn put_values(answer: &mut [u64; 8], first: usize, second: usize)
     ensures { λ _. ⌜ now (answer .exit) ≡ words (accepted (first ∷ second ∷ [])) ⌝ }
 {
     *answer = [0, 0, first as u64, second as u64, 0, 0, 0, 0];
 }
 
+// A count, or a refusal.
 pub(crate) fn put_counted(answer: &mut [u64; 8], r: Counted)
     ensures { λ _. ⌜ now (answer .exit) ≡ words (counted r) ⌝ }
 {
@@ -42,6 +46,7 @@ pub(crate) fn put_counted(answer: &mut [u64; 8], r: Counted)
     }
 }
 
+// The bit, or a refusal.
 pub(crate) fn put_valued(answer: &mut [u64; 8], r: Valued)
     ensures { λ _. ⌜ now (answer .exit) ≡ words (valued r) ⌝ }
 {
@@ -51,6 +56,7 @@ pub(crate) fn put_valued(answer: &mut [u64; 8], r: Valued)
     }
 }
 
+// The best polarity and its size, or a refusal.
 pub(crate) fn put_best(answer: &mut [u64; 8], r: Best)
     ensures { λ _. ⌜ now (answer .exit) ≡ words (found r) ⌝ }
 {
@@ -60,6 +66,7 @@ pub(crate) fn put_best(answer: &mut [u64; 8], r: Best)
     }
 }
 
+// The count and the peak of a run, or a refusal.
 pub(crate) fn put_finished(answer: &mut [u64; 8], r: Finished)
     ensures { λ _. ⌜ now (answer .exit) ≡ words (finished r) ⌝ }
 {
@@ -68,9 +75,6 @@ pub(crate) fn put_finished(answer: &mut [u64; 8], r: Finished)
         Finished::Refused(why) => put_refusal(answer, why),
     }
 }
-
-// What stands for the best polarity and for its size where there is none.
-const ABSENT: u64 = u64::MAX;
 
 // The counts of a settled map.
 fn put_settlement(answer: &mut [u64; 8], s: Settlement)
@@ -91,6 +95,7 @@ fn put_settlement(answer: &mut [u64; 8], s: Settlement)
     }
 }
 
+// The counts of a settled map, or a refusal.
 pub(crate) fn put_settled(answer: &mut [u64; 8], r: Settled)
     ensures { λ _. ⌜ now (answer .exit) ≡ settledWords (settled r) ⌝ }
 {

@@ -1,5 +1,5 @@
 // The calls for C and Rust: a slice passes as a pointer and a length, and every answer is eight words.
-pub mod answers;
+mod answers;
 
 ghost use mathlib.Core.Path.{_≡_};
 ghost use lib.ListN.{length};
