@@ -1,0 +1,57 @@
+-- Two outcomes that satisfy the contract of a face are equal: the answer's words, and every byte of each buffer.
+-- Assumes nothing.
+use mathlib.Core.Path.{_≡_, refl, ap, ap₂}
+use mathlib.Core.List.{List}
+use Prim.Native.Nat.{ℕ}
+use Rattle.bits.specs.Outcomes.{Determined}
+use Rattle.bits.proofs.Determined.{same}
+use Rattle.druthmoy.proofs.dm_check.Kinds as dm-check-kinds
+use Rattle.druthmoy.proofs.dm_check.Reads as dm-check-reads
+use Rattle.druthmoy.proofs.dm_value.Kinds as dm-value-kinds
+use Rattle.druthmoy.proofs.dm_value.Reads as dm-value-reads
+use Rattle.druthmoy.proofs.dm_truth_vector.Kinds as dm-truth-vector-kinds
+use Rattle.druthmoy.proofs.dm_truth_vector.Reads as dm-truth-vector-reads
+use Rattle.druthmoy.proofs.dm_coefficients.Kinds as dm-coefficients-kinds
+use Rattle.druthmoy.proofs.dm_coefficients.Reads as dm-coefficients-reads
+use Rattle.druthmoy.proofs.dm_vector.Kinds as dm-vector-kinds
+use Rattle.druthmoy.proofs.dm_vector.Reads as dm-vector-reads
+use Rattle.druthmoy.proofs.dm_write_form.Kinds as dm-write-form-kinds
+use Rattle.druthmoy.proofs.dm_write_form.Reads as dm-write-form-reads
+use Rattle.druthmoy.proofs.dm_best_polarity.Kinds as dm-best-polarity-kinds
+use Rattle.druthmoy.proofs.dm_best_polarity.Reads as dm-best-polarity-reads
+use Rattle.druthmoy.proofs.dm_run.Kinds as dm-run-kinds
+use Rattle.druthmoy.proofs.dm_run.Reads as dm-run-reads
+use Rattle.druthmoy.proofs.dm_settle.Kinds as dm-settle-kinds
+use Rattle.druthmoy.proofs.dm_settle.Reads as dm-settle-reads
+
+pub dm-check-determined : Determined 2 dm-check-kinds.ps dm-check-kinds.r dm-check-reads.Learnt
+dm-check-determined κs a z z′ ws ws′ p q = (refl, ap (λ (w : List ℕ). (tt, (tt, (w, tt)))) (same p q))
+
+pub dm-value-determined : Determined 2 dm-value-kinds.ps dm-value-kinds.r dm-value-reads.Learnt
+dm-value-determined κs a z z′ ws ws′ p q = (refl, ap (λ (w : List ℕ). (tt, (tt, (tt, (w, tt))))) (same p q))
+
+pub dm-truth-vector-determined : Determined 3 dm-truth-vector-kinds.ps dm-truth-vector-kinds.r dm-truth-vector-reads.Learnt
+dm-truth-vector-determined κs a z z′ ws ws′ p q = (refl, ap₂ (λ (w b : List ℕ). (tt, (tt, (b, (w, tt))))) (same (p .0) (q .0)) (same (p .1) (q .1)))
+
+pub dm-coefficients-determined : Determined 3 dm-coefficients-kinds.ps dm-coefficients-kinds.r dm-coefficients-reads.Learnt
+dm-coefficients-determined κs a z z′ ws ws′ p q = (refl, ap₂ (λ (w b : List ℕ). (tt, (tt, (tt, (b, (w, tt)))))) (same (p .0) (q .0)) (same (p .1) (q .1)))
+
+pub dm-vector-determined : Determined 3 dm-vector-kinds.ps dm-vector-kinds.r dm-vector-reads.Learnt
+dm-vector-determined κs a z z′ ws ws′ p q = (refl, ap₂ (λ (w b : List ℕ). (tt, (tt, (tt, (b, (w, tt)))))) (same (p .0) (q .0)) (same (p .1) (q .1)))
+
+pub dm-write-form-determined : Determined 3 dm-write-form-kinds.ps dm-write-form-kinds.r dm-write-form-reads.Learnt
+dm-write-form-determined κs a z z′ ws ws′ p q = (refl, ap₂ (λ (w b : List ℕ). (tt, (tt, (tt, (b, (w, tt)))))) (same (p .0) (q .0)) (same (p .1) (q .1)))
+
+pub dm-best-polarity-determined : Determined 2 dm-best-polarity-kinds.ps dm-best-polarity-kinds.r dm-best-polarity-reads.Learnt
+dm-best-polarity-determined κs a z z′ ws ws′ p q = (refl, ap (λ (w : List ℕ). (tt, (tt, (w, tt)))) (same p q))
+
+pub dm-run-determined : Determined 4 dm-run-kinds.ps dm-run-kinds.r dm-run-reads.Learnt
+dm-run-determined κs a z z′ ws ws′ p q = (refl, ap₂ (λ (w b : List ℕ). (tt, (tt, (tt, (b, (w, tt)))))) (same (p .0) (q .0)) (same (p .1) (q .1)))
+
+pub dm-settle-determined : Determined 5 dm-settle-kinds.ps dm-settle-kinds.r dm-settle-reads.Learnt
+dm-settle-determined κs a z z′ ws ws′ p q = (
+  refl,
+  ap₂ (λ (w : List ℕ) (bs : List ℕ × List ℕ). (tt, (tt, (tt, (bs .0, (bs .1, (w, tt)))))))
+      (same (p .0) (q .0))
+      (ap₂ (λ (b d : List ℕ). (b, d)) (same (p .1 .0) (q .1 .0)) (same (p .1 .1) (q .1 .1))),
+)

@@ -1,0 +1,106 @@
+// Answers as eight words: the number of a refusal, its place, and six values.
+use cube::Valued;
+use polarity::Best;
+use records::Counted;
+use records::Refusal;
+use script::Finished;
+use settling::Fixed;
+use settling::Settled;
+use settling::Settlement;
+ghost use mathlib.Core.Path.{_≡_};
+ghost use mathlib.Core.List.{[], _∷_};
+ghost use Rattle.records.specs.Answers.{accepted, refused, counted};
+ghost use Rattle.cube.specs.Calls.{valued};
+ghost use Rattle.polarity.specs.Calls.{found};
+ghost use Rattle.script.specs.Calls.{finished};
+ghost use Rattle.settling.specs.declared.Settled.the-variants.{Burned};
+ghost use Rattle.settling.specs.Calls.{settled};
+ghost use Rattle.druthmoy.specs.Faces.{words, settledWords};
+
+// What stands for the best polarity and for its size where there is none.
+const ABSENT: u64 = u64::MAX;
+
+// A refusal: its number and its place.
+fn put_refusal(answer: &mut [u64; 8], r: Refusal)
+    ensures { λ _. ⌜ now (answer .exit) ≡ words (refused r) ⌝ }
+{
+    let number = r.number as u64;
+    let place = r.place as u64;
+    *answer = [number, place, 0, 0, 0, 0, 0, 0];
+}
+
+// The values of an accepted call that has two, or one and 0.
+fn put_values(answer: &mut [u64; 8], first: usize, second: usize)
+    ensures { λ _. ⌜ now (answer .exit) ≡ words (accepted (first ∷ second ∷ [])) ⌝ }
+{
+    *answer = [0, 0, first as u64, second as u64, 0, 0, 0, 0];
+}
+
+// A count, or a refusal.
+pub(crate) fn put_counted(answer: &mut [u64; 8], r: Counted)
+    ensures { λ _. ⌜ now (answer .exit) ≡ words (counted r) ⌝ }
+{
+    match r {
+        Counted::Count(count) => put_values(answer, count, 0),
+        Counted::Refused(why) => put_refusal(answer, why),
+    }
+}
+
+// The bit, or a refusal.
+pub(crate) fn put_valued(answer: &mut [u64; 8], r: Valued)
+    ensures { λ _. ⌜ now (answer .exit) ≡ words (valued r) ⌝ }
+{
+    match r {
+        Valued::Bit(bit) => put_values(answer, bit as usize, 0),
+        Valued::Refused(why) => put_refusal(answer, why),
+    }
+}
+
+// The best polarity and its size, or a refusal.
+pub(crate) fn put_best(answer: &mut [u64; 8], r: Best)
+    ensures { λ _. ⌜ now (answer .exit) ≡ words (found r) ⌝ }
+{
+    match r {
+        Best::Found(p, size) => put_values(answer, p, size),
+        Best::Refused(why) => put_refusal(answer, why),
+    }
+}
+
+// The count and the peak of a run, or a refusal.
+pub(crate) fn put_finished(answer: &mut [u64; 8], r: Finished)
+    ensures { λ _. ⌜ now (answer .exit) ≡ words (finished r) ⌝ }
+{
+    match r {
+        Finished::Done(count, peak) => put_values(answer, count, peak),
+        Finished::Refused(why) => put_refusal(answer, why),
+    }
+}
+
+// The counts of a settled map.
+fn put_settlement(answer: &mut [u64; 8], s: Settlement)
+    ensures { λ _. ⌜ now (answer .exit) ≡ settledWords (settled (Burned s)) ⌝ }
+{
+    let given = s.given as u64;
+    let peak = s.peak as u64;
+    let script = s.script as u64;
+    let burned = s.burned as u64;
+    let fixed = s.fixed;
+    match fixed {
+        Fixed::Polarity(p, size) => {
+            *answer = [0, 0, given, peak, script, p as u64, size as u64, burned];
+        }
+        Fixed::Absent => {
+            *answer = [0, 0, given, peak, script, ABSENT, ABSENT, burned];
+        }
+    }
+}
+
+// The counts of a settled map, or a refusal.
+pub(crate) fn put_settled(answer: &mut [u64; 8], r: Settled)
+    ensures { λ _. ⌜ now (answer .exit) ≡ settledWords (settled r) ⌝ }
+{
+    match r {
+        Settled::Burned(s) => put_settlement(answer, s),
+        Settled::Refused(why) => put_refusal(answer, why),
+    }
+}

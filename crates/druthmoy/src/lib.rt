@@ -1,0 +1,124 @@
+// The calls for C and Rust: a slice passes as a pointer and a length, and every answer is eight words.
+mod answers;
+
+ghost use mathlib.Core.Path.{_≡_};
+ghost use lib.ListN.{length};
+ghost use Rattle.cube.specs.Lists.{mostVariables};
+ghost use Rattle.cube.specs.Calls.{checkList, valueOutcome, vectorOutcome, vectorAfter};
+ghost use Rattle.polarity.specs.Calls.{coefficientsOutcome, coefficientsAfter, backAfter, formOutcome, formAfter, bestOutcome};
+ghost use Rattle.script.specs.Calls.{runOutcome, runAfter};
+ghost use Rattle.settling.specs.Calls.{settleOutcome, settleWork, settleOut};
+ghost use Rattle.druthmoy.specs.Faces.{words, settledWords};
+
+// Checking a list. Values: its count.
+#[no_mangle]
+pub extern "C" fn dm_check(n: u64, list: &[u8], answer: &mut [u64; 8])
+    ensures { λ _. ⌜ now (answer .exit) ≡ words (checkList mostVariables n (now (list .entry))) ⌝ }
+{
+    let counted = cube::list::check(n as usize, list);
+    answers::put_counted(answer, counted);
+}
+
+// The value of a list at the assignment a. Values: the bit.
+#[no_mangle]
+pub extern "C" fn dm_value(n: u64, list: &[u8], a: u64, answer: &mut [u64; 8])
+    ensures { λ _. ⌜ now (answer .exit) ≡ words (valueOutcome n (now (list .entry)) a) ⌝ }
+{
+    let valued = cube::value::value(n as usize, list, a);
+    answers::put_valued(answer, valued);
+}
+
+// The truth vector of a list. Values: 2^n.
+#[no_mangle]
+pub extern "C" fn dm_truth_vector(n: u64, list: &[u8], out: &mut [u8], answer: &mut [u64; 8])
+    ensures { λ _. ⌜ now (answer .exit) ≡ words (vectorOutcome n (now (list .entry)) (length (now (out .entry)))) ⌝ }
+    ensures { λ _. ⌜ now (out .exit) ≡ vectorAfter n (now (list .entry)) (now (out .entry)) ⌝ }
+{
+    let counted = cube::value::truth_vector(n as usize, list, out);
+    answers::put_counted(answer, counted);
+}
+
+// The coefficients of a truth vector under the polarity p. Values: 2^n.
+#[no_mangle]
+pub extern "C" fn dm_coefficients(
+    n: u64,
+    vector: &[u8],
+    p: u64,
+    out: &mut [u8],
+    answer: &mut [u64; 8],
+)
+    ensures { λ _. ⌜ now (answer .exit) ≡ words (coefficientsOutcome n (now (vector .entry)) p (length (now (out .entry)))) ⌝ }
+    ensures { λ _. ⌜ now (out .exit) ≡ coefficientsAfter n (now (vector .entry)) p (now (out .entry)) ⌝ }
+{
+    let counted = polarity::transform::coefficients(n as usize, vector, p, out);
+    answers::put_counted(answer, counted);
+}
+
+// The truth vector of coefficients under the polarity p. Values: 2^n.
+#[no_mangle]
+pub extern "C" fn dm_vector(
+    n: u64,
+    coefficients: &[u8],
+    p: u64,
+    out: &mut [u8],
+    answer: &mut [u64; 8],
+)
+    ensures { λ _. ⌜ now (answer .exit) ≡ words (coefficientsOutcome n (now (coefficients .entry)) p (length (now (out .entry)))) ⌝ }
+    ensures { λ _. ⌜ now (out .exit) ≡ backAfter n (now (coefficients .entry)) p (now (out .entry)) ⌝ }
+{
+    let counted = polarity::transform::vector_back(n as usize, coefficients, p, out);
+    answers::put_counted(answer, counted);
+}
+
+// The list of a form from its coefficients under the polarity p. Values: its count.
+#[no_mangle]
+pub extern "C" fn dm_write_form(
+    n: u64,
+    coefficients: &[u8],
+    p: u64,
+    out: &mut [u8],
+    answer: &mut [u64; 8],
+)
+    ensures { λ _. ⌜ now (answer .exit) ≡ words (formOutcome n (now (coefficients .entry)) p (length (now (out .entry)))) ⌝ }
+    ensures { λ _. ⌜ now (out .exit) ≡ formAfter n (now (coefficients .entry)) p (now (out .entry)) ⌝ }
+{
+    let counted = polarity::form::write_form(n as usize, coefficients, p, out);
+    answers::put_counted(answer, counted);
+}
+
+// The best polarity of a truth vector. Values: it and its size.
+#[no_mangle]
+pub extern "C" fn dm_best_polarity(n: u64, vector: &[u8], answer: &mut [u64; 8])
+    ensures { λ _. ⌜ now (answer .exit) ≡ words (bestOutcome n (now (vector .entry))) ⌝ }
+{
+    let best = polarity::choose::best_polarity(n as usize, vector);
+    answers::put_best(answer, best);
+}
+
+// Runs a script on a list. Values: the count and the peak.
+#[no_mangle]
+pub extern "C" fn dm_run(n: u64, list: &[u8], script: &[u8], work: &mut [u8], answer: &mut [u64; 8])
+    ensures { λ _. ⌜ now (answer .exit) ≡ words (runOutcome n (now (list .entry)) (now (script .entry)) (length (now (work .entry)))) ⌝ }
+    ensures { λ _. ⌜ now (work .exit) ≡ runAfter n (now (list .entry)) (now (script .entry)) (now (work .entry)) ⌝ }
+{
+    let finished = script::run::run(n as usize, list, script, work);
+    answers::put_finished(answer, finished);
+}
+
+// Settles a map. Values: given, peak, the script's count, the best polarity and its size (both all ones above 8 variables), burned.
+#[no_mangle]
+pub extern "C" fn dm_settle(
+    n: u64,
+    list: &[u8],
+    script: &[u8],
+    work: &mut [u8],
+    out: &mut [u8],
+    answer: &mut [u64; 8],
+)
+    ensures { λ _. ⌜ now (answer .exit) ≡ settledWords (settleOutcome n (now (list .entry)) (now (script .entry)) (length (now (work .entry))) (length (now (out .entry)))) ⌝ }
+    ensures { λ _. ⌜ now (work .exit) ≡ settleWork n (now (list .entry)) (now (script .entry)) (now (work .entry)) (length (now (out .entry))) ⌝ }
+    ensures { λ _. ⌜ now (out .exit) ≡ settleOut n (now (list .entry)) (now (script .entry)) (length (now (work .entry))) (now (out .entry)) ⌝ }
+{
+    let settled = settling::settle::settle(n as usize, list, script, work, out);
+    answers::put_settled(answer, settled);
+}
