@@ -1,0 +1,4 @@
+// The line `016`, of three digits: refusal 1.
+fn main() {
+    map_files::run();
+}

@@ -1,0 +1,4 @@
+// The line `16` with no newline: 16 variables.
+fn main() {
+    map_files::run();
+}

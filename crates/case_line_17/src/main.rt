@@ -1,0 +1,4 @@
+// The line `17`: refusal 1.
+fn main() {
+    map_files::run();
+}

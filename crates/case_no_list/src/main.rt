@@ -1,0 +1,4 @@
+// `map.cub` is missing: no file.
+fn main() {
+    map_files::run();
+}

@@ -1,0 +1,3 @@
+-- The laws of reading the line and of printing a cube. Assumes nothing.
+pub mod Lines
+pub mod Texts
