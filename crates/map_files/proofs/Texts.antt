@@ -28,16 +28,16 @@ module _ {n : ℕ} {c : Cube} {line₀ line : List ℕ} {k : ℕ} (s : Spelt n c
   pub more : {x g : ℕ} → k < n → x ≡ code c k → g ≡ glyph x → Spelt n c line₀ (set line k g) (k + 1)
   unfolding glyphs
   more {x} {g} h e d =
-      record
-          { upto = omega arith
-          ; room = simp length-set (s .room)
-          ; same = simp length-set (s .same)
-          ; front =
-              rw add-one
-              (take-suc-set line k g (omega (arith, s .room, h))
-              ∙ ap (λ (l : List ℕ). l ++ (g ∷ [])) (s .front)
-              ∙ ap (λ (y : ℕ). glyphs k c ++ (y ∷ [])) (d ∙ ap glyph e))
-          }
+      record {
+        upto = omega arith;
+        room = simp length-set (s .room);
+        same = simp length-set (s .same);
+        front =
+            rw add-one
+            (take-suc-set line k g (omega (arith, s .room, h))
+            ∙ ap (λ (l : List ℕ). l ++ (g ∷ [])) (s .front)
+            ∙ ap (λ (y : ℕ). glyphs k c ++ (y ∷ [])) (d ∙ ap glyph e));
+      }
 
   pub ended : n ≤ k → take (n + 1) (set line n 10) ≡ cubeText n c
   unfolding cubeText

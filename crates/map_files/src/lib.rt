@@ -6,7 +6,6 @@ use line::Line;
 use records::Counted;
 use records::Refusal;
 use settling::Settled;
-
 ghost use Prim.Native.Nat.{_≤_};
 ghost use Rattle.io.specs.Counts.{Counts};
 ghost use Rattle.cube.specs.Lists.{mostVariables};

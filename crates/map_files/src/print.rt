@@ -4,7 +4,6 @@ use libc::STDOUT_FILENO;
 use records::Refusal;
 use settling::Fixed;
 use settling::Settlement;
-
 ghost use mathlib.Core.Path.{_≡_};
 ghost use Prim.Native.Nat.{_≤_, _<_};
 ghost use lib.ListN.{length, take};

@@ -68,9 +68,9 @@ failed-at : {A : Type 0} (P : Refusal → Type 0) (test : A → Bool) (d : A) (n
 failed-at P test d number l o r f g e =
     failed P (eqb (firstBad test l) (length l)) number (firstBad test l) o r
     (λ t.
-        let ne : firstBad test l ≡ length l → ⊥ = eqb-false (firstBad test l) (length l) t in
-        let inside : firstBad test l < length l = omega (arith, first-le test l, ne) in
-        f (firstBad test l) (record { inside = inside; fails = first-fails test d l inside; passed = first-lowest test d l }))
+    let ne : firstBad test l ≡ length l → ⊥ = eqb-false (firstBad test l) (length l) t in
+    let inside : firstBad test l < length l = omega (arith, first-le test l, ne) in
+    f (firstBad test l) (record { inside = inside; fails = first-fails test d l inside; passed = first-lowest test d l }))
     g e
 
 module _ (n : ℕ) (list script : List ℕ) (work out : ℕ) (r : Refusal) where

@@ -1,0 +1,169 @@
+/* Druthmoy: cube lists, scripts, fixed-polarity forms, and settling a map.
+ *
+ * A number of variables n, an assignment a and a polarity p are uint64_t; bit k stands for variable k.
+ *
+ * A list is cube records end to end, 4 bytes each: two bytes "seen", two bytes "value", little-endian. Seen is set where
+ * a literal stands; value holds 0 for the complemented literal, 1 for the plain one. At most 4,096 records.
+ *
+ * A script is steps end to end, 8 bytes each: operation, variable v, place i (2 bytes, little-endian), place j (2 bytes,
+ * little-endian), literal, zero. Fields that an operation does not use are zero. At most 1,024 steps.
+ *
+ *     1 drop    i, j       equal cubes: both removed
+ *     2 join    i, j       they differ in one variable: i gets the third code there, j is removed
+ *     3 split   v, i       of the two codes that i does not have at v, the lower stays at i, the higher is appended
+ *     4 turn    v, i, j    they differ in two variables, v one of them: i gets the third at v, j the third at the other
+ *     5 L       v, literal in every cube, at v, that literal and none are exchanged; undone when the last step is done
+ *
+ * A truth vector is 2^n bytes, each 0 or 1, indexed by assignment; coefficients are 2^n bytes, each 0 or 1, indexed by
+ * the set of variables. A set bit k of a polarity means that variable k appears only complemented.
+ *
+ * The limit of n is 16 for check, value, run and settle, and 8 for the other calls.
+ *
+ * A buffer is passed as a pointer and a length in bytes. Pointers are not null, even where a length is 0, need no
+ * alignment (but answer, which is aligned as uint64_t is), and no buffer that a call writes overlaps another argument.
+ * The capacity of a work or output buffer for records is its length divided by 4, rounded down, and at most 4,096.
+ *
+ * Every call fills all eight words of `answer`:
+ *
+ *     answer[0]    0 when accepted, else the number of the refusal
+ *     answer[1]    the place of the refusal; 0 when accepted
+ *     answer[2..]  the values that stand with each call below; 0 for the rest, and when refused
+ *
+ *     DM_N                1   n above the call's limit                                    place 0
+ *     DM_LIST_LENGTH      2   list length not a multiple of 4                             place 0
+ *     DM_LIST_RECORDS     3   more than 4,096 records                                     place 0
+ *     DM_RECORD           4   a value bit outside seen, or a seen bit at or above n       the lowest such record
+ *     DM_BUFFER           5   capacity or length of a written buffer too small            place 0
+ *     DM_ASSIGNMENT       6   assignment has a bit at or above n                          place 0
+ *     DM_SCRIPT_LENGTH    7   script length not a multiple of 8                           place 0
+ *     DM_SCRIPT_STEPS     8   more than 1,024 steps                                       place 0
+ *     DM_STEP             9   unknown operation, unused field not zero,
+ *                             a used v at or above n, a used literal above 1              the lowest such step
+ *     DM_PLACE           10   a used i or j not below the present count                   the step
+ *     DM_SAME_PLACE      11   i equals j in a step with two cubes                         the step
+ *     DM_CUBES           12   the cubes are not as the step needs                         the step
+ *     DM_FULL            13   split with the count at the work buffer's capacity          the step
+ *     DM_VECTOR          14   vector or coefficient length not 2^n                        2^n
+ *                             else a byte above 1                                         the lowest such byte
+ *     DM_POLARITY        15   polarity has a bit at or above n                            place 0
+ *
+ * What a refusal leaves behind: 1 to 9, 14 and 15 are found before anything is written, and every buffer but `answer` is
+ * as it was. 10 to 13 are found at a step (run and settle only): then every byte of `work` is zero, and `out` is as it
+ * was. Lists, scripts, vectors and coefficients are only read.
+ */
+#ifndef DRUTHMOY_H
+#define DRUTHMOY_H
+
+#include <stddef.h>
+#include <stdint.h>
+
+#ifdef __cplusplus
+extern "C" {
+#endif
+
+enum dm_refusal {
+    DM_ACCEPTED = 0,
+    DM_N = 1,
+    DM_LIST_LENGTH = 2,
+    DM_LIST_RECORDS = 3,
+    DM_RECORD = 4,
+    DM_BUFFER = 5,
+    DM_ASSIGNMENT = 6,
+    DM_SCRIPT_LENGTH = 7,
+    DM_SCRIPT_STEPS = 8,
+    DM_STEP = 9,
+    DM_PLACE = 10,
+    DM_SAME_PLACE = 11,
+    DM_CUBES = 12,
+    DM_FULL = 13,
+    DM_VECTOR = 14,
+    DM_POLARITY = 15
+};
+
+#define DM_ANSWER_WORDS 8
+
+/* Tests a list. answer[2]: the number of its records.
+ * Refuses, in this order: 1, 2, 3, 4. */
+void dm_check(uint64_t n,
+              const uint8_t *list, size_t list_length,
+              uint64_t *answer);
+
+/* The list's value at an assignment: the parity of how many of its products are true there. answer[2]: 0 or 1.
+ * Refuses, in this order: 1, 2, 3, 4, 6. */
+void dm_value(uint64_t n,
+              const uint8_t *list, size_t list_length,
+              uint64_t a,
+              uint64_t *answer);
+
+/* The list's values at all assignments. answer[2]: 2^n.
+ * Writes the first 2^n bytes of out, and no other byte; a refusal writes none.
+ * Refuses, in this order: 1, 2, 3, 4, 5 (out_length below 2^n). */
+void dm_truth_vector(uint64_t n,
+                     const uint8_t *list, size_t list_length,
+                     uint8_t *out, size_t out_length,
+                     uint64_t *answer);
+
+/* The coefficients of a truth vector under polarity p. answer[2]: 2^n.
+ * Writes the first 2^n bytes of out, and no other byte; a refusal writes none.
+ * Refuses, in this order: 1, 14, 15, 5 (out_length below 2^n). */
+void dm_coefficients(uint64_t n,
+                     const uint8_t *vector, size_t vector_length,
+                     uint64_t p,
+                     uint8_t *out, size_t out_length,
+                     uint64_t *answer);
+
+/* The truth vector of coefficients under polarity p. answer[2]: 2^n.
+ * Writes the first 2^n bytes of out, and no other byte; a refusal writes none.
+ * Refuses, in this order: 1, 14, 15, 5 (out_length below 2^n). */
+void dm_vector(uint64_t n,
+               const uint8_t *coefficients, size_t coefficients_length,
+               uint64_t p,
+               uint8_t *out, size_t out_length,
+               uint64_t *answer);
+
+/* The list of a form: a cube for each nonzero coefficient, sets of variables ascending. answer[2]: its count.
+ * Writes the first 4 * count bytes of out, and no other byte; a refusal writes none.
+ * Refuses, in this order: 1, 14, 15, 5 (capacity of out below the count). */
+void dm_write_form(uint64_t n,
+                   const uint8_t *coefficients, size_t coefficients_length,
+                   uint64_t p,
+                   uint8_t *out, size_t out_length,
+                   uint64_t *answer);
+
+/* The polarity with the fewest products, the smallest on a tie. answer[2]: the polarity; answer[3]: its products.
+ * Refuses, in this order: 1, 14. */
+void dm_best_polarity(uint64_t n,
+                      const uint8_t *vector, size_t vector_length,
+                      uint64_t *answer);
+
+/* Runs a script on a list. answer[2]: the count of the result; answer[3]: the peak, the greatest count met.
+ * Accepted: the result fills the front of work, and every other byte of work is zero.
+ * Refused with 1 to 9: work is as it was. Refused with 10 to 13: every byte of work is zero.
+ * Refuses, in this order: 1, 2, 3, 4, 5 (capacity of work below the given count), 7, 8, 9; then steps in turn,
+ * each 10, 11, 12, 13. */
+void dm_run(uint64_t n,
+            const uint8_t *list, size_t list_length,
+            const uint8_t *script, size_t script_length,
+            uint8_t *work, size_t work_length,
+            uint64_t *answer);
+
+/* Settles a map: of the script's result, the given list and, where n is at most 8, the form of the best polarity, the
+ * one with the fewest products is burned; ties go to the earlier.
+ * answer[2]: given; answer[3]: peak; answer[4]: the script's result; answer[5], answer[6]: the best polarity and its
+ * products, both UINT64_MAX where n is above 8; answer[7]: burned.
+ * Accepted: the burned list fills the front of out, every other byte of out is zero, and every byte of work is zero.
+ * Refused with 1 to 9: work and out are as they were. Refused with 10 to 13: every byte of work is zero, and out is as
+ * it was.
+ * Refuses as dm_run does; 5 tests work, then out, against the given count. */
+void dm_settle(uint64_t n,
+               const uint8_t *list, size_t list_length,
+               const uint8_t *script, size_t script_length,
+               uint8_t *work, size_t work_length,
+               uint8_t *out, size_t out_length,
+               uint64_t *answer);
+
+#ifdef __cplusplus
+}
+#endif
+
+#endif

@@ -1,0 +1,65 @@
+//! Lists, scripts and vectors of the sizes that are measured.
+
+/// Numbers that look random and are the same in every run (splitmix64).
+pub struct Random(pub u64);
+
+impl Random {
+    pub fn next(&mut self) -> u64 {
+        self.0 = self.0.wrapping_add(0x9e3779b97f4a7c15);
+        let mut z = self.0;
+        z = (z ^ z >> 30).wrapping_mul(0xbf58476d1ce4e5b9);
+        z = (z ^ z >> 27).wrapping_mul(0x94d049bb133111eb);
+        z ^ z >> 31
+    }
+}
+
+/// `count` cubes over n variables. The cube half the list further on differs in `apart` variables, from 0 on.
+pub fn paired_list(count: usize, n: u32, apart: u32) -> Vec<u8> {
+    let mut random = Random(count as u64 + u64::from(n));
+    let mask = ((1u32 << n) - 1) as u16;
+    let half: Vec<(u16, u16)> = (0..count.div_ceil(2))
+        .map(|_| {
+            let seen = random.next() as u16 & mask | ((1 << apart) - 1);
+            (seen, random.next() as u16 & seen)
+        })
+        .collect();
+    let partners = half.iter().map(|&(seen, value)| (seen, value ^ ((1 << apart) - 1)));
+    half.iter().copied().chain(partners).take(count).flat_map(|(seen, value)| record(seen, value)).collect()
+}
+
+pub fn record(seen: u16, value: u16) -> [u8; 4] {
+    let ([a, b], [c, d]) = (seen.to_le_bytes(), value.to_le_bytes());
+    [a, b, c, d]
+}
+
+/// Joins of places k and k + `half`, whose cubes differ in one variable.
+pub fn joins(steps: usize, half: usize) -> Vec<u8> {
+    (0..steps).flat_map(|k| step(2, 0, k, k + half, 0)).collect()
+}
+
+/// Turns at variable 0 of places k and k + `half`, whose cubes differ in variables 0 and 1.
+pub fn turns(steps: usize, half: usize) -> Vec<u8> {
+    (0..steps).flat_map(|k| step(4, 0, k, k + half, 0)).collect()
+}
+
+/// L steps over all variables in turn, the literal changing with each round.
+pub fn exchanges(steps: usize, n: usize) -> Vec<u8> {
+    (0..steps).flat_map(|k| step(5, k % n, 0, 0, k / n % 2)).collect()
+}
+
+/// Three joins and an L step, again and again.
+pub fn mixed(steps: usize, half: usize, n: usize) -> Vec<u8> {
+    (0..steps)
+        .flat_map(|k| if k % 4 == 3 { step(5, k % n, 0, 0, k / 4 % 2) } else { step(2, 0, k, k + half, 0) })
+        .collect()
+}
+
+pub fn step(op: u8, v: usize, i: usize, j: usize, literal: usize) -> [u8; 8] {
+    let ([i, i_high], [j, j_high]) = ((i as u16).to_le_bytes(), (j as u16).to_le_bytes());
+    [op, v as u8, i, i_high, j, j_high, literal as u8, 0]
+}
+
+pub fn bits(n: u32) -> Vec<u8> {
+    let mut random = Random(u64::from(n));
+    (0..1 << n).map(|_| (random.next() & 1) as u8).collect()
+}

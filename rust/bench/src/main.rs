@@ -1,0 +1,215 @@
+//! Each call of the library beside plain Rust with the same algorithm, on the same buffers, in one run.
+//!
+//! Prints a table in Markdown: medians of a call, and their ratio. Before a pair is measured, both are called once, and
+//! their answers and buffers must be equal.
+
+mod inputs;
+mod measure;
+mod plain;
+
+use druthmoy::words;
+use inputs::{bits, exchanges, joins, mixed, paired_list, record, step, turns};
+use std::hint::black_box;
+
+const RECORDS: usize = 4096;
+const STEPS: usize = 1024;
+const BUFFER: usize = 4 * RECORDS;
+
+fn main() {
+    if cfg!(feature = "standin") {
+        println!("STAND-IN: the calls are answered by the model; the table says nothing of the library.\n");
+    }
+    println!("| call | size | library | plain Rust | ratio |");
+    println!("|---|---|---:|---:|---:|");
+    let mut highest: f64 = 0.0;
+    lists(&mut highest);
+    polarities(&mut highest);
+    scripts(&mut highest);
+    settling(&mut highest);
+    println!("\nHighest ratio: {highest:.2}");
+}
+
+fn lists(highest: &mut f64) {
+    for (count, n, size) in [(4, 4, "4 records, n = 4"), (RECORDS, 16, "4,096 records, n = 16")] {
+        let list = &paired_list(count, n, 1);
+        let n = u64::from(n);
+        row(
+            highest,
+            "check",
+            size,
+            |_, _| words::check(n, black_box(list)),
+            |_, _| answered(|answer| plain::check(n, black_box(list), answer)),
+        );
+        row(
+            highest,
+            "value",
+            size,
+            |_, _| words::value(n, black_box(list), 5),
+            |_, _| answered(|answer| plain::value(n, black_box(list), 5, answer)),
+        );
+    }
+    for (count, n, size) in [(4, 4, "4 records, n = 4"), (RECORDS, 8, "4,096 records, n = 8")] {
+        let list = &paired_list(count, n, 1);
+        let n = u64::from(n);
+        row(
+            highest,
+            "truth vector",
+            size,
+            |_, out| words::truth_vector(n, black_box(list), out),
+            |_, out| answered(|answer| plain::truth_vector(n, black_box(list), out, answer)),
+        );
+    }
+}
+
+fn polarities(highest: &mut f64) {
+    for (n, p, size) in [(3, 5, "n = 3"), (8, 0xa6, "n = 8")] {
+        let vector = &bits(n);
+        let n = u64::from(n);
+        row(
+            highest,
+            "coefficients",
+            size,
+            |_, out| words::coefficients(n, black_box(vector), p, out),
+            |_, out| answered(|answer| plain::coefficients(n, black_box(vector), p, out, answer)),
+        );
+        row(
+            highest,
+            "vector",
+            size,
+            |_, out| words::vector(n, black_box(vector), p, out),
+            |_, out| answered(|answer| plain::vector(n, black_box(vector), p, out, answer)),
+        );
+        row(
+            highest,
+            "write form",
+            size,
+            |_, out| words::write_form(n, black_box(vector), p, out),
+            |_, out| answered(|answer| plain::write_form(n, black_box(vector), p, out, answer)),
+        );
+        row(
+            highest,
+            "best polarity",
+            size,
+            |_, _| words::best_polarity(n, black_box(vector)),
+            |_, _| answered(|answer| plain::best_polarity(n, black_box(vector), answer)),
+        );
+    }
+}
+
+fn scripts(highest: &mut f64) {
+    let half = RECORDS / 2;
+    let one_apart = paired_list(RECORDS, 16, 1);
+    let two_apart = paired_list(RECORDS, 16, 2);
+    let (small, small_script) = small_map();
+    for (n, list, script, size) in [
+        (2, &small, &small_script, "3 records, 2 steps, n = 2"),
+        (16, &one_apart, &joins(STEPS, half), "4,096 records, 1,024 joins, n = 16"),
+        (16, &two_apart, &turns(STEPS, half), "4,096 records, 1,024 turns, n = 16"),
+        (16, &one_apart, &exchanges(STEPS, 16), "4,096 records, 1,024 L steps, n = 16"),
+    ] {
+        row(
+            highest,
+            "run",
+            size,
+            |work, _| words::run(n, black_box(list), black_box(script), work),
+            |work, _| answered(|answer| plain::run(n, black_box(list), black_box(script), work, answer)),
+        );
+    }
+}
+
+fn settling(highest: &mut f64) {
+    let half = RECORDS / 2;
+    let (small, small_script) = small_map();
+    let (eight, sixteen) = (paired_list(RECORDS, 8, 1), paired_list(RECORDS, 16, 1));
+    for (n, list, script, size) in [
+        (2, &small, &small_script, "3 records, 2 steps, n = 2"),
+        (8, &eight, &joins(STEPS, half), "4,096 records, 1,024 joins, n = 8"),
+        (8, &eight, &exchanges(STEPS, 8), "4,096 records, 1,024 L steps, n = 8"),
+        (16, &sixteen, &joins(STEPS, half), "4,096 records, 1,024 joins, n = 16"),
+        (16, &sixteen, &mixed(STEPS, half, 16), "4,096 records, 768 joins and 256 L steps, n = 16"),
+    ] {
+        row(
+            highest,
+            "settle",
+            size,
+            |work, out| words::settle(n, black_box(list), black_box(script), work, out),
+            |work, out| answered(|answer| plain::settle(n, black_box(list), black_box(script), work, out, answer)),
+        );
+    }
+}
+
+/// Document 01's example: `1-` `-1` `11`; join 1 2, turn v=0 0 1.
+fn small_map() -> (Vec<u8>, Vec<u8>) {
+    let list = [record(1, 1), record(2, 2), record(3, 3)].concat();
+    let script = [step(2, 0, 1, 2, 0), step(4, 0, 0, 1, 0)].concat();
+    (list, script)
+}
+
+/// Prints one line of the table. Both functions get a work and an output buffer of the greatest useful length.
+fn row(
+    highest: &mut f64,
+    call: &str,
+    size: &str,
+    library: impl Fn(&mut [u8], &mut [u8]) -> [u64; 8],
+    plain: impl Fn(&mut [u8], &mut [u8]) -> [u64; 8],
+) {
+    let mut work = (vec![7; BUFFER], vec![7; BUFFER]);
+    let mut out = (vec![7; BUFFER], vec![7; BUFFER]);
+    let answers = (library(&mut work.0, &mut out.0), plain(&mut work.1, &mut out.1));
+    assert_eq!(answers.0, answers.1, "answers of {call}, {size}");
+    assert_eq!(answers.0[0], 0, "{call}, {size} is refused");
+    assert!(work.0 == work.1 && out.0 == out.1, "buffers of {call}, {size} differ");
+
+    // The same buffers for both: a call leaves nothing that the next one sees.
+    let (library, plain) = measure::medians(
+        (0..PLACEMENTS).map(Buffers::placed),
+        |buffers| {
+            let (work, out) = buffers.lent();
+            black_box(library(black_box(work), black_box(out)));
+        },
+        |buffers| {
+            let (work, out) = buffers.lent();
+            black_box(plain(black_box(work), black_box(out)));
+        },
+    );
+    let ratio = library / plain;
+    *highest = highest.max(ratio);
+    println!("| {call} | {size} | {} | {} | {ratio:.2} |", time(library), time(plain));
+}
+
+/// How many placements of the buffers are measured.
+const PLACEMENTS: usize = 9;
+
+/// A work and an output buffer, some way into their memory.
+struct Buffers {
+    memory: [Vec<u8>; 2],
+    start: usize,
+}
+
+impl Buffers {
+    /// Each placement is 472 bytes further on, so that nine of them are spread over a page.
+    fn placed(placement: usize) -> Buffers {
+        Buffers { memory: [vec![7; BUFFER + 4096], vec![7; BUFFER + 4096]], start: 472 * placement }
+    }
+
+    fn lent(&mut self) -> (&mut [u8], &mut [u8]) {
+        let [work, out] = &mut self.memory;
+        (&mut work[self.start..][..BUFFER], &mut out[self.start..][..BUFFER])
+    }
+}
+
+/// The eight words of a call, kept and filled as the wrapper of the library does.
+#[inline]
+fn answered(call: impl FnOnce(&mut plain::Words)) -> plain::Words {
+    let mut answer = [u64::MAX; 8];
+    call(&mut answer);
+    answer
+}
+
+fn time(nanoseconds: f64) -> String {
+    match nanoseconds {
+        small if small < 1e3 => format!("{small:.1} ns"),
+        middle if middle < 1e6 => format!("{:.2} µs", middle / 1e3),
+        large => format!("{:.3} ms", large / 1e6),
+    }
+}

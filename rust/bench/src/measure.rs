@@ -1,0 +1,43 @@
+//! Two functions by turns, and the medians of their times.
+
+use std::time::{Duration, Instant};
+
+/// Samples of each function at each placement of the buffers.
+const SAMPLES: usize = 11;
+
+/// A sample repeats a function for about this long.
+const SAMPLE: Duration = Duration::from_micros(200);
+
+/// Medians in nanoseconds a call, over all samples at all placements. The two functions are sampled by turns, so that
+/// both meet the same machine; where buffers stand in memory can cost more than what is measured, so they are moved.
+pub fn medians<P>(placements: impl Iterator<Item = P>, first: impl Fn(&mut P), second: impl Fn(&mut P)) -> (f64, f64) {
+    let mut samples = (Vec::new(), Vec::new());
+    for mut on in placements {
+        let repeats = (repeats(&mut on, &first), repeats(&mut on, &second));
+        for _ in 0..SAMPLES {
+            samples.0.push(sample(&mut on, &first, repeats.0));
+            samples.1.push(sample(&mut on, &second, repeats.1));
+        }
+    }
+    (median(samples.0), median(samples.1))
+}
+
+/// How often a function fits into a sample.
+fn repeats<P>(on: &mut P, function: &impl Fn(&mut P)) -> u32 {
+    let fills = |&repeats: &u32| sample(on, function, repeats) * f64::from(repeats) >= SAMPLE.as_nanos() as f64;
+    (0..31).map(|k| 1 << k).find(fills).expect("a call takes time")
+}
+
+/// Nanoseconds a call.
+fn sample<P>(on: &mut P, function: &impl Fn(&mut P), repeats: u32) -> f64 {
+    let start = Instant::now();
+    for _ in 0..repeats {
+        function(on);
+    }
+    start.elapsed().as_nanos() as f64 / f64::from(repeats)
+}
+
+fn median(mut samples: Vec<f64>) -> f64 {
+    samples.sort_by(f64::total_cmp);
+    samples[samples.len() / 2]
+}

@@ -1,0 +1,39 @@
+//! The calls in plain Rust: the library's algorithms on the same buffers, as one would write them without proofs.
+//! Every call tests its input as the library does, answers the same eight words and, like the library's, is not inlined.
+
+mod cube;
+mod lists;
+mod orders;
+mod polarity;
+mod script;
+mod settling;
+
+pub use lists::{check, truth_vector, value};
+pub use polarity::{best_polarity, coefficients, vector, write_form};
+pub use script::run;
+pub use settling::settle;
+
+pub type Words = [u64; 8];
+
+struct Refusal {
+    number: u64,
+    place: usize,
+}
+
+fn refusal<T>(number: u64, place: usize) -> Result<T, Refusal> {
+    Err(Refusal { number, place })
+}
+
+/// Refuses at place 0, where `broken` says so.
+fn refuse_if(broken: bool, number: u64) -> Result<(), Refusal> {
+    if broken { refusal(number, 0) } else { Ok(()) }
+}
+
+fn words<const N: usize>(outcome: Result<[u64; N], Refusal>) -> Words {
+    let mut words = [0; 8];
+    match outcome {
+        Ok(values) => words[2..2 + N].copy_from_slice(&values),
+        Err(Refusal { number, place }) => words[..2].copy_from_slice(&[number, place as u64]),
+    }
+    words
+}

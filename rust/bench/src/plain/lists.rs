@@ -1,0 +1,57 @@
+//! Check, value and truth vector: one masked comparison a record.
+
+use super::cube::{Cube, RECORD};
+use super::{Refusal, Words, refusal, refuse_if, words};
+
+pub type Records<'a> = &'a [[u8; RECORD]];
+
+#[inline(never)]
+pub fn check(n: u64, list: &[u8], answer: &mut Words) {
+    *answer = words(checked(n, 16, list).map(|records| [records.len() as u64]));
+}
+
+#[inline(never)]
+pub fn value(n: u64, list: &[u8], a: u64, answer: &mut Words) {
+    *answer = words(try_value(n, list, a));
+}
+
+#[inline(never)]
+pub fn truth_vector(n: u64, list: &[u8], out: &mut [u8], answer: &mut Words) {
+    *answer = words(try_truth_vector(n, list, out));
+}
+
+/// Rules 1 to 4.
+pub fn checked(n: u64, limit: u64, list: &[u8]) -> Result<Records<'_>, Refusal> {
+    refuse_if(n > limit, 1)?;
+    let (records, rest) = list.as_chunks();
+    refuse_if(!rest.is_empty(), 2)?;
+    refuse_if(records.len() > 4096, 3)?;
+    match records.iter().position(|record| !Cube::read(record).is_good(n)) {
+        Some(place) => refusal(4, place),
+        None => Ok(records),
+    }
+}
+
+pub fn value_at(records: Records, a: u32) -> u8 {
+    (records.iter().filter(|record| Cube::read(record).holds_at(a)).count() & 1) as u8
+}
+
+pub fn write_values(records: Records, out: &mut [u8]) {
+    for (a, byte) in out.iter_mut().enumerate() {
+        *byte = value_at(records, a as u32);
+    }
+}
+
+fn try_value(n: u64, list: &[u8], a: u64) -> Result<[u64; 1], Refusal> {
+    let records = checked(n, 16, list)?;
+    refuse_if(a >> n != 0, 6)?;
+    Ok([value_at(records, a as u32) as u64])
+}
+
+fn try_truth_vector(n: u64, list: &[u8], out: &mut [u8]) -> Result<[u64; 1], Refusal> {
+    let records = checked(n, 8, list)?;
+    let length = 1 << n;
+    refuse_if(out.len() < length, 5)?;
+    write_values(records, &mut out[..length]);
+    Ok([length as u64])
+}

@@ -1,0 +1,168 @@
+//! Run: the list is copied to the work buffer, where steps are O(1) by masks and an L step is one pass.
+
+use super::cube::{Cube, RECORD, records, third};
+use super::lists::{Records, checked};
+use super::orders::{self, NONE, after_exchange, exchange};
+use super::{Refusal, Words, refusal, refuse_if, words};
+
+const STEP: usize = 8;
+
+#[inline(never)]
+pub fn run(n: u64, list: &[u8], script: &[u8], work: &mut [u8], answer: &mut Words) {
+    *answer = words(try_run(n, list, script, work).map(|done| [done.count as u64, done.peak as u64]));
+}
+
+pub struct Done {
+    pub count: usize,
+    pub peak: usize,
+}
+
+fn try_run(n: u64, list: &[u8], script: &[u8], work: &mut [u8]) -> Result<Done, Refusal> {
+    let given = checked(n, 16, list)?;
+    refuse_if(records(work).len() < given.len(), 5)?;
+    let steps = checked_script(n, script)?;
+    run_in(given, steps, work)
+}
+
+/// Rules 7 to 9.
+pub fn checked_script(n: u64, script: &[u8]) -> Result<&[[u8; STEP]], Refusal> {
+    let (steps, rest) = script.as_chunks();
+    refuse_if(!rest.is_empty(), 7)?;
+    refuse_if(steps.len() > 1024, 8)?;
+    match steps.iter().position(|step| !is_well_formed(n, step)) {
+        Some(place) => refusal(9, place),
+        None => Ok(steps),
+    }
+}
+
+/// Runs steps that are well-formed, in a work buffer that holds the given list. A refusal leaves it zero.
+pub fn run_in(given: Records, steps: &[[u8; STEP]], work: &mut [u8]) -> Result<Done, Refusal> {
+    let (front, rest) = work.split_at_mut(given.len() * RECORD);
+    front.copy_from_slice(given.as_flattened());
+    rest.fill(0);
+    let mut state = State { records: records(work), count: given.len(), peak: given.len(), pending: [NONE; 16] };
+    for (place, step) in steps.iter().enumerate() {
+        if let Err(number) = state.step(step) {
+            work.fill(0);
+            return refusal(number, place);
+        }
+    }
+    orders::undo(&mut state.records[..state.count], &state.pending);
+    Ok(Done { count: state.count, peak: state.peak })
+}
+
+struct State<'a> {
+    records: &'a mut [[u8; RECORD]],
+    count: usize,
+    peak: usize,
+    pending: [u8; 16],
+}
+
+impl State<'_> {
+    fn step(&mut self, step: &[u8; STEP]) -> Result<(), u64> {
+        let &[op, v, _, _, _, _, literal, _] = step;
+        let (v, i, j) = (v as u32, place(step, 2), place(step, 4));
+        match op {
+            1 => self.drop(i, j),
+            2 => self.join(i, j),
+            3 => self.split(v, i),
+            4 => self.turn(v, i, j),
+            _ => {
+                exchange(&mut self.records[..self.count], v, literal);
+                self.pending[v as usize] = after_exchange(self.pending[v as usize], literal);
+                Ok(())
+            }
+        }
+    }
+
+    fn drop(&mut self, i: usize, j: usize) -> Result<(), u64> {
+        let (a, b) = self.pair(i, j)?;
+        if a != b {
+            return Err(12);
+        }
+        self.remove(i.max(j));
+        self.remove(i.min(j));
+        Ok(())
+    }
+
+    fn join(&mut self, i: usize, j: usize) -> Result<(), u64> {
+        let (a, b) = self.pair(i, j)?;
+        let apart = a.differing(b);
+        if apart.count_ones() != 1 {
+            return Err(12);
+        }
+        let v = apart.trailing_zeros();
+        self.write(i, a.put(v, third(a.code(v), b.code(v))));
+        self.remove(j);
+        Ok(())
+    }
+
+    fn split(&mut self, v: u32, i: usize) -> Result<(), u64> {
+        if i >= self.count {
+            return Err(10);
+        }
+        if self.count == self.records.len() {
+            return Err(13);
+        }
+        let cube = self.read(i);
+        let (lower, higher) = [(1, 2), (0, 2), (0, 1)][cube.code(v) as usize];
+        self.write(i, cube.put(v, lower));
+        self.write(self.count, cube.put(v, higher));
+        self.count += 1;
+        self.peak = self.peak.max(self.count);
+        Ok(())
+    }
+
+    fn turn(&mut self, v: u32, i: usize, j: usize) -> Result<(), u64> {
+        let (a, b) = self.pair(i, j)?;
+        let apart = a.differing(b);
+        if apart.count_ones() != 2 || apart >> v & 1 == 0 {
+            return Err(12);
+        }
+        let other = (apart & !(1 << v)).trailing_zeros();
+        self.write(i, a.put(v, third(a.code(v), b.code(v))));
+        self.write(j, b.put(other, third(a.code(other), b.code(other))));
+        Ok(())
+    }
+
+    fn pair(&self, i: usize, j: usize) -> Result<(Cube, Cube), u64> {
+        if i >= self.count || j >= self.count {
+            return Err(10);
+        }
+        if i == j {
+            return Err(11);
+        }
+        Ok((self.read(i), self.read(j)))
+    }
+
+    fn read(&self, place: usize) -> Cube {
+        Cube::read(&self.records[place])
+    }
+
+    fn write(&mut self, place: usize, cube: Cube) {
+        self.records[place] = cube.record();
+    }
+
+    fn remove(&mut self, place: usize) {
+        self.count -= 1;
+        self.records[place] = self.records[self.count];
+        self.records[self.count] = [0; RECORD];
+    }
+}
+
+fn place(step: &[u8; STEP], at: usize) -> usize {
+    u16::from_le_bytes([step[at], step[at + 1]]) as usize
+}
+
+fn is_well_formed(n: u64, step: &[u8; STEP]) -> bool {
+    let &[op, v, _, _, _, _, literal, zero] = step;
+    let (i, j) = (place(step, 2), place(step, 4));
+    zero == 0
+        && match op {
+            1 | 2 => v == 0 && literal == 0,
+            3 => u64::from(v) < n && j == 0 && literal == 0,
+            4 => u64::from(v) < n && literal == 0,
+            5 => u64::from(v) < n && i == 0 && j == 0 && literal <= 1,
+            _ => false,
+        }
+}

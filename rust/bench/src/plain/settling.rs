@@ -1,0 +1,45 @@
+//! Settle: run in the work buffer, find the best polarity where there are few variables, burn the best of the three.
+
+use super::cube::{RECORD, records};
+use super::lists::{checked, write_values};
+use super::polarity::{best, transform_moved, write_cubes};
+use super::script::{checked_script, run_in};
+use super::{Refusal, Words, refuse_if, words};
+
+#[inline(never)]
+pub fn settle(n: u64, list: &[u8], script: &[u8], work: &mut [u8], out: &mut [u8], answer: &mut Words) {
+    *answer = words(try_settle(n, list, script, work, out));
+}
+
+fn try_settle(n: u64, list: &[u8], script: &[u8], work: &mut [u8], out: &mut [u8]) -> Result<[u64; 6], Refusal> {
+    let given = checked(n, 16, list)?;
+    refuse_if(records(work).len() < given.len(), 5)?;
+    refuse_if(records(out).len() < given.len(), 5)?;
+    let steps = checked_script(n, script)?;
+    let done = run_in(given, steps, work)?;
+
+    let mut vector = [0; 256];
+    let few = n <= 8;
+    let (p, size) = if few {
+        let vector = &mut vector[..1 << n];
+        write_values(given, vector);
+        best(vector)
+    } else {
+        (usize::MAX, usize::MAX)
+    };
+
+    let burned = done.count.min(given.len()).min(size);
+    out.fill(0);
+    if burned == done.count {
+        out[..burned * RECORD].copy_from_slice(&work[..burned * RECORD]);
+    } else if burned == given.len() {
+        out[..list.len()].copy_from_slice(list);
+    } else {
+        let mut coefficients = [0; 256];
+        let coefficients = &mut coefficients[..1 << n];
+        transform_moved(&vector[..1 << n], p, coefficients);
+        write_cubes(coefficients, p, out);
+    }
+    work.fill(0);
+    Ok([given.len(), done.peak, done.count, p, size, burned].map(|count| count as u64))
+}

@@ -1,0 +1,272 @@
+//! Cases by chance: long and short, valid and damaged.
+//!
+//! Each case draws the refusals that it would like to meet; which of them the call answers, document 01's order decides.
+
+use crate::differ::{Call, Case};
+use crate::random::Random;
+use crate::scripts;
+use model::cube::{Cube, RECORD, encoded_list};
+use model::polarity::coefficients;
+use model::refusal::ORDERS;
+use model::script::{self, STEP, encoded_script};
+
+const RECORDS: usize = 4096;
+const STEPS: usize = 1024;
+
+/// The refusal numbers that a case is damaged for; none in half of the cases.
+struct Faults(Vec<u64>);
+
+impl Faults {
+    fn draw(random: &mut Random, call: Call) -> Faults {
+        let numbers = ORDERS[call as usize].1;
+        let some = if random.one_in(2) {
+            0
+        } else if random.one_in(4) {
+            2
+        } else {
+            1
+        };
+        Faults((0..some).map(|_| random.pick(numbers)).collect())
+    }
+
+    fn has(&self, number: u64) -> bool {
+        self.0.contains(&number)
+    }
+
+    fn at_a_step(&self) -> Option<u64> {
+        self.0.iter().copied().find(|number| (10..=13).contains(number))
+    }
+}
+
+pub fn case(random: &mut Random, call: Call) -> Case {
+    let faults = &Faults::draw(random, call);
+    match call {
+        Call::Check | Call::Value | Call::TruthVector => list_case(random, faults, call),
+        Call::Coefficients | Call::Vector | Call::WriteForm | Call::BestPolarity => bits_case(random, faults, call),
+        Call::Run | Call::Settle => script_case(random, faults, call),
+    }
+}
+
+fn list_case(random: &mut Random, faults: &Faults, call: Call) -> Case {
+    let limit = if call == Call::TruthVector { 8 } else { 16 };
+    let width = random.below(limit + 1);
+    let n = variables(random, faults, width, limit);
+    let count = count(random, faults);
+    let cubes = cubes(random, width, count);
+    let number = if call == Call::Value { pattern(random, width, faults.has(6)) } else { 0 };
+    let out = if call == Call::TruthVector { lent(random, 1 << width, faults.has(5)) } else { vec![] };
+    Case { call, n, input: list_bytes(random, faults, width, &cubes), number, script: vec![], work: vec![], out }
+}
+
+fn bits_case(random: &mut Random, faults: &Faults, call: Call) -> Case {
+    let width = few_variables(random);
+    let n = variables(random, faults, width, 8);
+    let number = if call == Call::BestPolarity { 0 } else { pattern(random, width, faults.has(15)) };
+    let mut input = bits(random, width);
+    let ones = input.iter().filter(|&&bit| bit == 1).count();
+    let out = match call {
+        Call::BestPolarity => vec![],
+        Call::WriteForm => lent(random, RECORD * ones, faults.has(5)),
+        _ => lent(random, input.len(), faults.has(5)),
+    };
+    if faults.has(14) && random.one_in(3) {
+        let length = random.pick(&[0, input.len() - 1, input.len() + 1, input.len() * 2, input.len() / 2, 300]);
+        input.resize(length, random.below(3) as u8);
+    } else if faults.has(14) {
+        for _ in 0..random.between(1, 3) {
+            let place = random.below(input.len());
+            input[place] = random.pick(&[2, 3, 128, 254, 255]);
+        }
+    }
+    Case { call, n, input, number, script: vec![], work: vec![], out }
+}
+
+fn script_case(random: &mut Random, faults: &Faults, call: Call) -> Case {
+    // Above 8 variables there is no polarity to find, and the model is fast.
+    let wide = call == Call::Run || random.one_in(3);
+    let width = if wide { random.below(17) } else { few_variables(random) };
+    let n = variables(random, faults, width, 16);
+    let count = count(random, faults);
+    let cubes = cubes(random, width, count);
+    let (work_too_small, out_too_small) = match call {
+        _ if !faults.has(5) => (false, false),
+        Call::Run => (true, false),
+        _ => random.pick(&[(true, false), (false, true), (true, true)]),
+    };
+    let work = lent(random, RECORD * count, work_too_small);
+    let out = if call == Call::Settle { lent(random, RECORD * count, out_too_small) } else { vec![] };
+    let capacity = (work.len() / RECORD).clamp(count.min(RECORDS), RECORDS);
+    let script = script_bytes(random, faults, width, &cubes, capacity);
+    Case { call, n, input: list_bytes(random, faults, width, &cubes), number: 0, script, work, out }
+}
+
+/// The number of variables that is said, for input that is made for `width`.
+fn variables(random: &mut Random, faults: &Faults, width: usize, limit: usize) -> u64 {
+    if !faults.has(1) {
+        return width as u64;
+    }
+    let limit = limit as u64;
+    let far = [limit + 1, limit + 2, 17, 32, 64, 256, 65536, 1 << 32, 1 << 63, u64::MAX];
+    random.pick(&far) | if random.one_in(4) { random.next() << 16 } else { 0 }
+}
+
+/// From 0 to 8, the large ones rarely: the model adds 8^n bytes for a best polarity.
+fn few_variables(random: &mut Random) -> usize {
+    match random.below(200) {
+        0 => 8,
+        1 | 2 => 7,
+        3..=10 => 6,
+        11..=40 => 5,
+        _ => random.below(5),
+    }
+}
+
+fn count(random: &mut Random, faults: &Faults) -> usize {
+    let least = if faults.has(4) || faults.has(5) || faults.at_a_step().is_some() { 1 } else { 0 };
+    match random.below(100) {
+        0 => RECORDS - if random.one_in(2) { 0 } else { random.below(20) },
+        1..=4 => random.between(65, 512),
+        5..=30 => random.between(9, 64),
+        _ => random.between(least, 8),
+    }
+}
+
+/// Cubes with equal and near ones among them, as steps need them.
+fn cubes(random: &mut Random, width: usize, count: usize) -> Vec<Cube> {
+    let mut cubes: Vec<Cube> = Vec::new();
+    for _ in 0..count {
+        let changes = random.below(4);
+        let mut cube = match cubes.len() {
+            0 => vec![2; width],
+            _ => cubes[random.below(cubes.len())].clone(),
+        };
+        if changes == 3 {
+            cube.fill_with(|| random.below(3) as u8);
+        } else if width > 0 {
+            for _ in 0..changes {
+                cube[random.below(width)] = random.below(3) as u8;
+            }
+        }
+        cubes.push(cube);
+    }
+    cubes
+}
+
+fn list_bytes(random: &mut Random, faults: &Faults, width: usize, cubes: &[Cube]) -> Vec<u8> {
+    let mut bytes = if faults.has(3) {
+        let records = RECORDS + random.between(1, 3);
+        random.bytes(RECORD * records)
+    } else {
+        encoded_list(cubes)
+    };
+    if faults.has(4) {
+        for _ in 0..random.between(1, 3) {
+            let place = random.below(bytes.len() / RECORD);
+            spoil(random, width, &mut bytes[RECORD * place..RECORD * (place + 1)]);
+        }
+    }
+    if faults.has(2) {
+        let extra = random.between(1, 3);
+        bytes.extend(random.bytes(extra));
+    }
+    bytes
+}
+
+/// Makes a record bad: a value bit outside seen, or a seen bit at or above the number of variables.
+fn spoil(random: &mut Random, width: usize, record: &mut [u8]) {
+    let outside = width == 16 || random.one_in(2);
+    let k = if outside { random.below(16) } else { random.between(width, 15) };
+    let (byte, bit) = (k / 8, 1 << (k % 8));
+    if outside {
+        record[byte] &= !bit;
+        record[2 + byte] |= bit;
+    } else {
+        record[byte] |= bit;
+    }
+}
+
+fn script_bytes(random: &mut Random, faults: &Faults, width: usize, cubes: &[Cube], capacity: usize) -> Vec<u8> {
+    let length = match random.below(100) {
+        0 => STEPS - if random.one_in(2) { 0 } else { random.below(800) },
+        1..=15 => random.between(9, 64),
+        16..=20 => 0,
+        _ => random.between(1, 8),
+    };
+    // Room to fill the buffer up, where a split is to find it full.
+    let length = if faults.has(13) { length.max((capacity - cubes.len()).min(40) + 1) } else { length };
+    let mut bytes = if faults.has(8) {
+        let steps = STEPS + random.between(1, 3);
+        random.bytes(STEP * steps)
+    } else {
+        encoded_script(&scripts::script(random, width, cubes, capacity, length, faults.at_a_step()))
+    };
+    if faults.has(9) {
+        if bytes.is_empty() {
+            bytes.extend([1, 0, 0, 0, 1, 0, 0, 0]);
+        }
+        for _ in 0..random.between(1, 2) {
+            let place = random.below(bytes.len() / STEP);
+            spoil_step(random, width, &mut bytes[STEP * place..STEP * (place + 1)]);
+        }
+    }
+    if faults.has(7) {
+        let extra = random.between(1, 7);
+        bytes.extend(random.bytes(extra));
+    }
+    bytes
+}
+
+/// Changes one byte of a step so that it breaks rule 9.
+fn spoil_step(random: &mut Random, width: usize, step: &mut [u8]) {
+    loop {
+        let mut spoiled = step.to_vec();
+        let any = random.next() as u8;
+        spoiled[random.below(STEP)] = random.pick(&[0, 1, 2, 6, width as u8, width as u8 + 1, 255, any]);
+        if script::decoded(width, &spoiled).is_none() {
+            return step.copy_from_slice(&spoiled);
+        }
+    }
+}
+
+/// Bits by chance, few ones, or the coefficients of a function of few variables.
+fn bits(random: &mut Random, width: usize) -> Vec<u8> {
+    let length = 1 << width;
+    match random.below(4) {
+        0 => {
+            let mut bits = vec![0; length];
+            for _ in 0..random.below(4) {
+                bits[random.below(length)] = 1;
+            }
+            bits
+        }
+        1 if width <= 5 => {
+            let p = random.below(length);
+            coefficients(&random.bits(length), p)
+        }
+        _ => random.bits(length),
+    }
+}
+
+/// An assignment or a polarity, with a bit at or above the number of variables if that is wanted.
+fn pattern(random: &mut Random, width: usize, wrong: bool) -> u64 {
+    let inside = random.next() & ((1 << width) - 1);
+    if !wrong {
+        return inside;
+    }
+    let high = if random.one_in(2) { 1 << width } else { 1 << random.between(width, 63) };
+    let inside = if random.one_in(2) { inside } else { 0 };
+    inside | high
+}
+
+/// A buffer with garbage in it, for a call that needs so many bytes: as long, longer by bytes or records, longer than
+/// any capacity, or too short.
+fn lent(random: &mut Random, needed: usize, too_small: bool) -> Vec<u8> {
+    let length = match random.below(40) {
+        _ if too_small && needed > 0 => needed - if random.one_in(2) { 1 } else { random.between(1, needed) },
+        _ if needed > RECORD * 4000 && random.one_in(2) => RECORD * RECORDS + random.below(100),
+        0..=9 => needed,
+        10..=19 => needed + random.below(4),
+        _ => needed + random.below(41),
+    };
+    random.bytes(length)
+}

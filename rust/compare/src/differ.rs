@@ -1,0 +1,196 @@
+//! One call of the library beside the same call of the model: answers, and every byte of every buffer.
+
+use druthmoy::{Fixed, Refusal, Run, Settled, words};
+use model::calls;
+use std::fmt;
+
+/// The calls, in the order of `model::refusal::ORDERS`.
+#[derive(Clone, Copy, Debug, PartialEq, Eq)]
+pub enum Call {
+    Check,
+    Value,
+    TruthVector,
+    Coefficients,
+    Vector,
+    WriteForm,
+    BestPolarity,
+    Run,
+    Settle,
+}
+
+impl Call {
+    pub const ALL: [Call; 9] = [
+        Call::Check,
+        Call::Value,
+        Call::TruthVector,
+        Call::Coefficients,
+        Call::Vector,
+        Call::WriteForm,
+        Call::BestPolarity,
+        Call::Run,
+        Call::Settle,
+    ];
+}
+
+/// What goes into a call. Fields that a call does not take are left empty.
+#[derive(Clone)]
+pub struct Case {
+    pub call: Call,
+    pub n: u64,
+    /// The list, the truth vector or the coefficients.
+    pub input: Vec<u8>,
+    /// The assignment or the polarity.
+    pub number: u64,
+    pub script: Vec<u8>,
+    /// The buffers as they are lent.
+    pub work: Vec<u8>,
+    pub out: Vec<u8>,
+}
+
+/// What comes out of a call.
+#[derive(PartialEq)]
+struct After {
+    answer: [u64; 8],
+    work: Vec<u8>,
+    out: Vec<u8>,
+}
+
+/// Compares one case three ways: the library's words, its named answers, the model. Answers the words.
+pub fn compare(case: &Case) -> Result<[u64; 8], String> {
+    let expected = by_model(case);
+    let got = by_words(case).map_err(|touched| format!("{touched}\n{case}"))?;
+    if got != expected {
+        return Err(format!("library and model differ\n{case}\nlibrary:\n{got}\nmodel:\n{expected}"));
+    }
+    let named = by_names(case);
+    if named != expected {
+        return Err(format!("wrapper and model differ\n{case}\nwrapper:\n{named}\nmodel:\n{expected}"));
+    }
+    Ok(expected.answer)
+}
+
+fn by_model(case: &Case) -> After {
+    let Case { n, input, number, script, .. } = case;
+    let (n, number) = (*n, *number);
+    let (mut work, mut out) = (case.work.clone(), case.out.clone());
+    let outcome = match case.call {
+        Call::Check => calls::check(n, input),
+        Call::Value => calls::value(n, input, number),
+        Call::TruthVector => calls::truth_vector(n, input, &mut out),
+        Call::Coefficients => calls::coefficients(n, input, number, &mut out),
+        Call::Vector => calls::vector(n, input, number, &mut out),
+        Call::WriteForm => calls::write_form(n, input, number, &mut out),
+        Call::BestPolarity => calls::best_polarity(n, input),
+        Call::Run => calls::run(n, input, script, &mut work),
+        Call::Settle => calls::settle(n, input, script, &mut work, &mut out),
+    };
+    After { answer: calls::words(&outcome), work, out }
+}
+
+/// The library's own words, on buffers that stand between margins; what it must not touch is looked at.
+fn by_words(case: &Case) -> Result<After, String> {
+    let mut input = Lent::new(&case.input);
+    let mut script = Lent::new(&case.script);
+    let (mut work, mut out) = (Lent::new(&case.work), Lent::new(&case.out));
+    let answer = {
+        let (n, number, input, script) = (case.n, case.number, &*input.slice(), &*script.slice());
+        let (work, out) = (work.slice(), out.slice());
+        match case.call {
+            Call::Check => words::check(n, input),
+            Call::Value => words::value(n, input, number),
+            Call::TruthVector => words::truth_vector(n, input, out),
+            Call::Coefficients => words::coefficients(n, input, number, out),
+            Call::Vector => words::vector(n, input, number, out),
+            Call::WriteForm => words::write_form(n, input, number, out),
+            Call::BestPolarity => words::best_polarity(n, input),
+            Call::Run => words::run(n, input, script, work),
+            Call::Settle => words::settle(n, input, script, work, out),
+        }
+    };
+    if *input.slice() != case.input[..] || *script.slice() != case.script[..] {
+        return Err("the library wrote to a buffer that it reads".into());
+    }
+    if [&input, &script, &work, &out].iter().any(|lent| !lent.margins_are_whole()) {
+        return Err("the library wrote outside a buffer".into());
+    }
+    Ok(After { answer, work: work.slice().to_vec(), out: out.slice().to_vec() })
+}
+
+/// The wrapper's enums, put back into words.
+fn by_names(case: &Case) -> After {
+    let Case { n, input, number, script, .. } = case;
+    let (n, number) = (*n, *number);
+    let (mut work, mut out) = (case.work.clone(), case.out.clone());
+    let one = |value: u64| vec![value];
+    let named: Result<Vec<u64>, Refusal> = match case.call {
+        Call::Check => druthmoy::check(n, input).map(one),
+        Call::Value => druthmoy::value(n, input, number).map(|bit| vec![bit as u64]),
+        Call::TruthVector => druthmoy::truth_vector(n, input, &mut out).map(one),
+        Call::Coefficients => druthmoy::coefficients(n, input, number, &mut out).map(one),
+        Call::Vector => druthmoy::vector(n, input, number, &mut out).map(one),
+        Call::WriteForm => druthmoy::write_form(n, input, number, &mut out).map(one),
+        Call::BestPolarity => druthmoy::best_polarity(n, input).map(|Fixed { polarity, size }| vec![polarity, size]),
+        Call::Run => druthmoy::run(n, input, script, &mut work).map(|Run { count, peak }| vec![count, peak]),
+        Call::Settle => druthmoy::settle(n, input, script, &mut work, &mut out).map(
+            |Settled { given, peak, script, fixed, burned }| {
+                let (polarity, size) = fixed.map_or((u64::MAX, u64::MAX), |fixed| (fixed.polarity, fixed.size));
+                vec![given, peak, script, polarity, size, burned]
+            },
+        ),
+    };
+    let mut answer = [0; 8];
+    match named {
+        Ok(values) => answer[2..2 + values.len()].copy_from_slice(&values),
+        Err(refusal) => answer[..2].copy_from_slice(&[refusal.reason.number(), refusal.place]),
+    }
+    After { answer, work, out }
+}
+
+/// A buffer with margins around it, at an odd address.
+struct Lent {
+    bytes: Vec<u8>,
+}
+
+impl Lent {
+    const MARGIN: usize = 61;
+    const FILL: u8 = 0xa5;
+
+    fn new(content: &[u8]) -> Lent {
+        let margin = [Lent::FILL; Lent::MARGIN];
+        Lent { bytes: [&margin, content, &margin].concat() }
+    }
+
+    fn slice(&mut self) -> &mut [u8] {
+        let end = self.bytes.len() - Lent::MARGIN;
+        &mut self.bytes[Lent::MARGIN..end]
+    }
+
+    fn margins_are_whole(&self) -> bool {
+        let whole = |margin: &[u8]| margin.iter().all(|&byte| byte == Lent::FILL);
+        whole(&self.bytes[..Lent::MARGIN]) && whole(&self.bytes[self.bytes.len() - Lent::MARGIN..])
+    }
+}
+
+impl fmt::Display for Case {
+    fn fmt(&self, f: &mut fmt::Formatter) -> fmt::Result {
+        writeln!(f, "call {:?}, n {}, assignment or polarity {}", self.call, self.n, self.number)?;
+        for (name, bytes) in
+            [("input", &self.input), ("script", &self.script), ("work", &self.work), ("out", &self.out)]
+        {
+            writeln!(f, "{name}, {} bytes: {}", bytes.len(), hex(bytes))?;
+        }
+        Ok(())
+    }
+}
+
+impl fmt::Display for After {
+    fn fmt(&self, f: &mut fmt::Formatter) -> fmt::Result {
+        writeln!(f, "answer {:?}", self.answer)?;
+        writeln!(f, "work: {}", hex(&self.work))?;
+        writeln!(f, "out: {}", hex(&self.out))
+    }
+}
+
+fn hex(bytes: &[u8]) -> String {
+    bytes.iter().map(|byte| format!("{byte:02x}")).collect::<Vec<_>>().join(" ")
+}

@@ -1,0 +1,50 @@
+//! Compares the library with the model, and with figures that others have published.
+//!
+//! `compare [CALLS [SEED]]`: random calls a function (100,000 if not said) and where their generator starts. Prints what
+//! was compared. At the first difference it prints the whole case and exits with 1.
+
+mod cases;
+mod differ;
+mod examples;
+mod exhaustive;
+mod figures;
+mod random;
+mod random_calls;
+mod records;
+mod scripts;
+mod tally;
+
+use std::process::ExitCode;
+use std::time::Instant;
+
+/// A name, and what is compared under it; an error is a difference.
+type Part<'a> = (&'a str, &'a dyn Fn() -> Result<(), String>);
+
+fn main() -> ExitCode {
+    let mut arguments = std::env::args().skip(1).map(|text| text.parse().expect("CALLS and SEED are numbers"));
+    let calls = arguments.next().unwrap_or(100_000);
+    let seed = arguments.next().unwrap_or(1);
+    if cfg!(feature = "standin") {
+        println!("STAND-IN: the calls are answered by the model itself; nothing below speaks of the library.\n");
+    }
+    let parts: [Part; 7] = [
+        ("document 01's examples and limits", &examples::all),
+        ("the wrapper's records", &|| records::all(seed)),
+        ("random calls", &|| random_calls::all(calls as usize, seed)),
+        ("all functions of 4 variables", &exhaustive::functions_of_four),
+        ("all short lists and scripts over 2 variables", &exhaustive::short_lists_and_scripts),
+        ("published average of 5-variable functions", &|| figures::average_of_five(seed)),
+        ("published sizes of rd53, rd73, rd84", &figures::ones_counters),
+    ];
+    for (name, part) in parts {
+        println!("== {name}");
+        let start = Instant::now();
+        if let Err(difference) = part() {
+            println!("{difference}\nFAILED: {name}");
+            return ExitCode::FAILURE;
+        }
+        println!("ok, {:.1} s\n", start.elapsed().as_secs_f64());
+    }
+    println!("all compared, no difference");
+    ExitCode::SUCCESS
+}

@@ -1,0 +1,92 @@
+//! How often each call answered each refusal number, and what the accepted scripts did.
+
+use crate::differ::{Call, Case};
+use model::refusal::ORDERS;
+use std::fmt;
+
+#[derive(Default)]
+pub struct Tally {
+    /// By call, then by refusal number; 0 counts the accepted calls.
+    answers: [[u64; 16]; 9],
+    /// Steps of accepted runs by operation.
+    steps: [u64; 6],
+    /// Refusals at a step by whether steps were done before it.
+    at_the_first_step: u64,
+    at_a_later_step: u64,
+    /// Settled maps by what was burned: the script's result, the given list, the form.
+    burned: [u64; 3],
+    longest_list: usize,
+    longest_script: usize,
+    highest_peak: u64,
+}
+
+impl Tally {
+    pub fn add(&mut self, case: &Case, answer: &[u64; 8]) {
+        let number = answer[0] as usize;
+        self.answers[case.call as usize][number] += 1;
+        let has_script = matches!(case.call, Call::Run | Call::Settle);
+        match number {
+            0 if has_script => {
+                for step in case.script.chunks(8) {
+                    self.steps[step[0] as usize] += 1;
+                }
+                self.longest_list = self.longest_list.max(case.input.len() / 4);
+                self.longest_script = self.longest_script.max(case.script.len() / 8);
+                self.highest_peak = self.highest_peak.max(answer[3]);
+                if case.call == Call::Settle {
+                    let [given, _, script, _, _, burned] = answer[2..] else { unreachable!() };
+                    let candidate = [script, given, burned].iter().position(|&count| count == burned);
+                    self.burned[candidate.expect("the last is always equal")] += 1;
+                }
+            }
+            10..=13 if answer[1] == 0 => self.at_the_first_step += 1,
+            10..=13 => self.at_a_later_step += 1,
+            _ => {}
+        }
+    }
+
+    /// The refusals that document 01 gives a call and that were not met, and those met that it does not give.
+    pub fn amiss(&self) -> Vec<String> {
+        let mut amiss = Vec::new();
+        for ((name, numbers), answers) in ORDERS.iter().zip(&self.answers) {
+            for number in 0..16 {
+                let given = number == 0 || numbers.contains(&number);
+                if given != (answers[number as usize] > 0) {
+                    amiss.push(format!("{name}: refusal {number} met {} times", answers[number as usize]));
+                }
+            }
+        }
+        amiss
+    }
+}
+
+impl fmt::Display for Tally {
+    fn fmt(&self, f: &mut fmt::Formatter) -> fmt::Result {
+        write!(f, "{:14} {:>8}", "refusal", "accepted")?;
+        for number in 1..16 {
+            write!(f, "{number:>7}")?;
+        }
+        writeln!(f, "{:>9}", "calls")?;
+        for ((name, numbers), answers) in ORDERS.iter().zip(&self.answers) {
+            write!(f, "{name:14} {:>8}", answers[0])?;
+            for number in 1..16 {
+                if numbers.contains(&number) {
+                    write!(f, "{:>7}", answers[number as usize])?;
+                } else {
+                    write!(f, "{:>7}", "-")?;
+                }
+            }
+            writeln!(f, "{:>9}", answers.iter().sum::<u64>())?;
+        }
+        let [_, drops, joins, splits, turns, ls] = self.steps;
+        writeln!(f, "steps of accepted scripts: {drops} drops, {joins} joins, {splits} splits, {turns} turns, {ls} L")?;
+        writeln!(f, "refused at the first step: {}, at a later one: {}", self.at_the_first_step, self.at_a_later_step)?;
+        let [script, given, form] = self.burned;
+        writeln!(f, "burned: {script} times the script's result, {given} the given list, {form} the form")?;
+        write!(
+            f,
+            "longest accepted list: {} records, longest accepted script: {} steps, highest peak: {}",
+            self.longest_list, self.longest_script, self.highest_peak
+        )
+    }
+}

@@ -1,0 +1,85 @@
+//! The calls: each answers what it found, or the refusal that it met.
+
+use crate::refusal::{Reason, Refusal};
+use crate::words::{self, Words};
+
+/// A best polarity and the number of products of its form.
+#[derive(Clone, Copy, Debug, PartialEq, Eq)]
+pub struct Fixed {
+    pub polarity: u64,
+    pub size: u64,
+}
+
+/// The counts of a run: of its result, and the greatest that it met.
+#[derive(Clone, Copy, Debug, PartialEq, Eq)]
+pub struct Run {
+    pub count: u64,
+    pub peak: u64,
+}
+
+/// The counts of a settled map.
+#[derive(Clone, Copy, Debug, PartialEq, Eq)]
+pub struct Settled {
+    pub given: u64,
+    pub peak: u64,
+    pub script: u64,
+    /// Nothing above 8 variables.
+    pub fixed: Option<Fixed>,
+    pub burned: u64,
+}
+
+/// Tests a list; answers the number of its records.
+pub fn check(n: u64, list: &[u8]) -> Result<u64, Refusal> {
+    accepted(words::check(n, list)).map(|[count, ..]| count)
+}
+
+/// The list's value at an assignment.
+pub fn value(n: u64, list: &[u8], a: u64) -> Result<bool, Refusal> {
+    accepted(words::value(n, list, a)).map(|[bit, ..]| bit == 1)
+}
+
+/// Writes the list's values at all assignments to the front of `out`; answers how many.
+pub fn truth_vector(n: u64, list: &[u8], out: &mut [u8]) -> Result<u64, Refusal> {
+    accepted(words::truth_vector(n, list, out)).map(|[length, ..]| length)
+}
+
+/// Writes a truth vector's coefficients under polarity `p` to the front of `out`; answers how many.
+pub fn coefficients(n: u64, vector: &[u8], p: u64, out: &mut [u8]) -> Result<u64, Refusal> {
+    accepted(words::coefficients(n, vector, p, out)).map(|[length, ..]| length)
+}
+
+/// Writes the truth vector of coefficients under polarity `p` to the front of `out`; answers its length.
+pub fn vector(n: u64, coefficients: &[u8], p: u64, out: &mut [u8]) -> Result<u64, Refusal> {
+    accepted(words::vector(n, coefficients, p, out)).map(|[length, ..]| length)
+}
+
+/// Writes the list of a form to the front of `out`; answers the number of its records.
+pub fn write_form(n: u64, coefficients: &[u8], p: u64, out: &mut [u8]) -> Result<u64, Refusal> {
+    accepted(words::write_form(n, coefficients, p, out)).map(|[count, ..]| count)
+}
+
+/// The polarity of a truth vector with the fewest products, the smallest on a tie.
+pub fn best_polarity(n: u64, vector: &[u8]) -> Result<Fixed, Refusal> {
+    accepted(words::best_polarity(n, vector)).map(|[polarity, size, ..]| Fixed { polarity, size })
+}
+
+/// Runs a script on a list; the result stands at the front of `work`, with zeros after it.
+pub fn run(n: u64, list: &[u8], script: &[u8], work: &mut [u8]) -> Result<Run, Refusal> {
+    accepted(words::run(n, list, script, work)).map(|[count, peak, ..]| Run { count, peak })
+}
+
+/// Settles a map; the list to burn stands at the front of `out`, with zeros after it, and `work` ends all zero.
+pub fn settle(n: u64, list: &[u8], script: &[u8], work: &mut [u8], out: &mut [u8]) -> Result<Settled, Refusal> {
+    let [given, peak, script, polarity, size, burned] = accepted(words::settle(n, list, script, work, out))?;
+    let fixed = (n <= 8).then_some(Fixed { polarity, size });
+    Ok(Settled { given, peak, script, fixed, burned })
+}
+
+/// The values of an accepted call.
+fn accepted([number, place, values @ ..]: Words) -> Result<[u64; 6], Refusal> {
+    if number == 0 {
+        return Ok(values);
+    }
+    let reason = Reason::from_number(number).expect("the library answers refusal numbers from 1 to 15");
+    Err(Refusal { reason, place })
+}

@@ -1,0 +1,31 @@
+//! Safe calls of Druthmoy's verified library, `libdruthmoy.a`.
+//!
+//! Lists and scripts are slices of bytes, laid out as in document 01; [`Cube`] and [`Step`] read and write their
+//! records. Each call answers what it found or the [`Refusal`] that it met, and leaves its buffers as the header
+//! `druthmoy.h` says. [`words`] has the same calls with the eight words of their answers as they are.
+//!
+//! ```
+//! use druthmoy::{Cube, Step, settle};
+//!
+//! let list: Vec<u8> = ["1-", "-1", "11"].iter().flat_map(|text| text.parse::<Cube>().unwrap().record()).collect();
+//! let script = [Step::Join { i: 1, j: 2 }, Step::Turn { v: 0, i: 0, j: 1 }].map(Step::record).concat();
+//! let (mut work, mut out) = (vec![0; list.len()], vec![0; list.len()]);
+//! let settled = settle(2, &list, &script, &mut work, &mut out).unwrap();
+//! let burned = out.as_chunks().0.iter().map(|&record| Cube::from_record(record).written(2));
+//! assert_eq!(burned.take(settled.burned as usize).collect::<Vec<_>>(), ["--", "00"]);
+//! ```
+
+mod calls;
+mod raw;
+mod records;
+mod refusal;
+pub mod words;
+
+pub use calls::{
+    Fixed, Run, Settled, best_polarity, check, coefficients, run, settle, truth_vector, value, vector, write_form,
+};
+pub use records::{Cube, NotACube, Step};
+pub use refusal::{Reason, Refusal};
+
+#[cfg(feature = "standin")]
+use standin as _;

@@ -1,0 +1,64 @@
+//! The declarations of `druthmoy.h`. A slice crosses as a pointer and a length, an answer as a pointer to eight words.
+
+unsafe extern "C" {
+    pub fn dm_check(n: u64, list: *const u8, list_length: usize, answer: *mut u64);
+    pub fn dm_value(n: u64, list: *const u8, list_length: usize, a: u64, answer: *mut u64);
+    pub fn dm_truth_vector(
+        n: u64,
+        list: *const u8,
+        list_length: usize,
+        out: *mut u8,
+        out_length: usize,
+        answer: *mut u64,
+    );
+    pub fn dm_coefficients(
+        n: u64,
+        vector: *const u8,
+        vector_length: usize,
+        p: u64,
+        out: *mut u8,
+        out_length: usize,
+        answer: *mut u64,
+    );
+    pub fn dm_vector(
+        n: u64,
+        coefficients: *const u8,
+        coefficients_length: usize,
+        p: u64,
+        out: *mut u8,
+        out_length: usize,
+        answer: *mut u64,
+    );
+    pub fn dm_write_form(
+        n: u64,
+        coefficients: *const u8,
+        coefficients_length: usize,
+        p: u64,
+        out: *mut u8,
+        out_length: usize,
+        answer: *mut u64,
+    );
+    pub fn dm_best_polarity(n: u64, vector: *const u8, vector_length: usize, answer: *mut u64);
+    pub fn dm_run(
+        n: u64,
+        list: *const u8,
+        list_length: usize,
+        script: *const u8,
+        script_length: usize,
+        work: *mut u8,
+        work_length: usize,
+        answer: *mut u64,
+    );
+    pub fn dm_settle(
+        n: u64,
+        list: *const u8,
+        list_length: usize,
+        script: *const u8,
+        script_length: usize,
+        work: *mut u8,
+        work_length: usize,
+        out: *mut u8,
+        out_length: usize,
+        answer: *mut u64,
+    );
+}

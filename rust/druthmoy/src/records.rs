@@ -1,0 +1,93 @@
+//! The records that lists and scripts are made of.
+
+use std::fmt;
+use std::str::FromStr;
+
+/// A cube: its literals by two masks, bit k for variable k.
+#[derive(Clone, Copy, Debug, Default, PartialEq, Eq, Hash)]
+pub struct Cube {
+    /// Set where a literal stands.
+    pub seen: u16,
+    /// Set where the plain literal stands.
+    pub value: u16,
+}
+
+impl Cube {
+    pub fn record(self) -> [u8; 4] {
+        let ([a, b], [c, d]) = (self.seen.to_le_bytes(), self.value.to_le_bytes());
+        [a, b, c, d]
+    }
+
+    pub fn from_record([a, b, c, d]: [u8; 4]) -> Cube {
+        Cube { seen: u16::from_le_bytes([a, b]), value: u16::from_le_bytes([c, d]) }
+    }
+
+    /// Written out for `n` variables: `0`, `1` or `-` each, variable 0 first.
+    pub fn written(self, n: usize) -> String {
+        let literal = |k: usize| match (self.seen >> k & 1, self.value >> k & 1) {
+            (0, _) => '-',
+            (_, 0) => '0',
+            _ => '1',
+        };
+        (0..n).map(literal).collect()
+    }
+}
+
+/// A text that is not `0`, `1` or `-` for each of at most 16 variables.
+#[derive(Clone, Copy, Debug, PartialEq, Eq)]
+pub struct NotACube;
+
+impl fmt::Display for NotACube {
+    fn fmt(&self, f: &mut fmt::Formatter) -> fmt::Result {
+        f.write_str("a cube is written as 0, 1 or - for each of at most 16 variables")
+    }
+}
+
+impl std::error::Error for NotACube {}
+
+impl FromStr for Cube {
+    type Err = NotACube;
+
+    fn from_str(text: &str) -> Result<Cube, NotACube> {
+        let mut cube = Cube::default();
+        for (k, literal) in text.chars().enumerate() {
+            let bit = 1u16.checked_shl(k as u32).ok_or(NotACube)?;
+            match literal {
+                '0' => cube.seen |= bit,
+                '1' => (cube.seen, cube.value) = (cube.seen | bit, cube.value | bit),
+                '-' => {}
+                _ => return Err(NotACube),
+            }
+        }
+        Ok(cube)
+    }
+}
+
+/// A step of a script, with the fields that it uses.
+#[derive(Clone, Copy, Debug, PartialEq, Eq, Hash)]
+pub enum Step {
+    /// Equal cubes: both removed.
+    Drop { i: u16, j: u16 },
+    /// They differ in one variable: i gets the third code there, j is removed.
+    Join { i: u16, j: u16 },
+    /// Of the two codes that i does not have at v, the lower stays at i, the higher is appended.
+    Split { v: u8, i: u16 },
+    /// They differ in two variables, v one of them: i gets the third code at v, j the third at the other.
+    Turn { v: u8, i: u16, j: u16 },
+    /// In every cube, at v, the literal and none are exchanged, until the script's end.
+    L { v: u8, literal: u8 },
+}
+
+impl Step {
+    pub fn record(self) -> [u8; 8] {
+        let (op, v, i, j, literal) = match self {
+            Step::Drop { i, j } => (1, 0, i, j, 0),
+            Step::Join { i, j } => (2, 0, i, j, 0),
+            Step::Split { v, i } => (3, v, i, 0, 0),
+            Step::Turn { v, i, j } => (4, v, i, j, 0),
+            Step::L { v, literal } => (5, v, 0, 0, literal),
+        };
+        let ([i, i_high], [j, j_high]) = (i.to_le_bytes(), j.to_le_bytes());
+        [op, v, i, i_high, j, j_high, literal, 0]
+    }
+}

@@ -1,0 +1,84 @@
+//! Refusals by name.
+
+use std::fmt;
+
+/// Why a call was refused. The discriminant is document 01's number.
+#[derive(Clone, Copy, Debug, PartialEq, Eq, Hash)]
+#[repr(u64)]
+pub enum Reason {
+    /// n above the call's limit.
+    TooManyVariables = 1,
+    /// List length not a multiple of 4.
+    ListLength = 2,
+    /// More than 4,096 records.
+    TooManyRecords = 3,
+    /// A bad record; the place is the lowest such record.
+    BadRecord = 4,
+    /// Capacity or length of a written buffer too small.
+    BufferTooSmall = 5,
+    /// Assignment has a bit at or above n.
+    Assignment = 6,
+    /// Script length not a multiple of 8.
+    ScriptLength = 7,
+    /// More than 1,024 steps.
+    TooManySteps = 8,
+    /// Unknown operation, unused field not zero, a used v at or above n, a used literal above 1; the place is the
+    /// lowest such step.
+    BadStep = 9,
+    /// A used i or j not below the present count; the place is the step.
+    PlaceOutside = 10,
+    /// i equals j in a step with two cubes; the place is the step.
+    SamePlace = 11,
+    /// The cubes are not as the step needs; the place is the step.
+    CubesUnfit = 12,
+    /// Split with the count at capacity; the place is the step.
+    Full = 13,
+    /// Vector or coefficient length not 2^n, with 2^n as the place; else a byte above 1, the place is the lowest.
+    BadVector = 14,
+    /// Polarity has a bit at or above n.
+    Polarity = 15,
+}
+
+impl Reason {
+    pub const ALL: [Reason; 15] = [
+        Reason::TooManyVariables,
+        Reason::ListLength,
+        Reason::TooManyRecords,
+        Reason::BadRecord,
+        Reason::BufferTooSmall,
+        Reason::Assignment,
+        Reason::ScriptLength,
+        Reason::TooManySteps,
+        Reason::BadStep,
+        Reason::PlaceOutside,
+        Reason::SamePlace,
+        Reason::CubesUnfit,
+        Reason::Full,
+        Reason::BadVector,
+        Reason::Polarity,
+    ];
+
+    pub fn number(self) -> u64 {
+        self as u64
+    }
+
+    pub fn from_number(number: u64) -> Option<Reason> {
+        Reason::ALL.into_iter().find(|reason| reason.number() == number)
+    }
+}
+
+/// A refusal: its reason, which has the number, and its place.
+#[derive(Clone, Copy, Debug, PartialEq, Eq, Hash)]
+pub struct Refusal {
+    pub reason: Reason,
+    pub place: u64,
+}
+
+/// As the program prints it.
+impl fmt::Display for Refusal {
+    fn fmt(&self, f: &mut fmt::Formatter) -> fmt::Result {
+        write!(f, "refused {} at {}", self.reason.number(), self.place)
+    }
+}
+
+impl std::error::Error for Refusal {}

@@ -1,0 +1,106 @@
+//! The calls over slices, with the eight words of an answer as they are: refusal number, place, values, zeros.
+
+use crate::raw;
+
+/// The answer of a call; see `druthmoy.h`.
+pub type Words = [u64; 8];
+
+/// What stands in an answer before the call: the library fills every word.
+const UNANSWERED: Words = [u64::MAX; 8];
+
+// SAFETY, for each call below: a slice gives a pointer that is not null and as many bytes as its length says; the
+// borrow rules keep what is written apart from every other argument; `answer` has eight words. The library reads and
+// writes within these, and keeps none of the pointers.
+
+#[inline]
+pub fn check(n: u64, list: &[u8]) -> Words {
+    let mut answer = UNANSWERED;
+    unsafe { raw::dm_check(n, list.as_ptr(), list.len(), answer.as_mut_ptr()) };
+    answer
+}
+
+#[inline]
+pub fn value(n: u64, list: &[u8], a: u64) -> Words {
+    let mut answer = UNANSWERED;
+    unsafe { raw::dm_value(n, list.as_ptr(), list.len(), a, answer.as_mut_ptr()) };
+    answer
+}
+
+#[inline]
+pub fn truth_vector(n: u64, list: &[u8], out: &mut [u8]) -> Words {
+    let mut answer = UNANSWERED;
+    unsafe {
+        raw::dm_truth_vector(n, list.as_ptr(), list.len(), out.as_mut_ptr(), out.len(), answer.as_mut_ptr());
+    }
+    answer
+}
+
+#[inline]
+pub fn coefficients(n: u64, vector: &[u8], p: u64, out: &mut [u8]) -> Words {
+    let mut answer = UNANSWERED;
+    unsafe {
+        raw::dm_coefficients(n, vector.as_ptr(), vector.len(), p, out.as_mut_ptr(), out.len(), answer.as_mut_ptr());
+    }
+    answer
+}
+
+#[inline]
+pub fn vector(n: u64, coefficients: &[u8], p: u64, out: &mut [u8]) -> Words {
+    let mut answer = UNANSWERED;
+    let (from, length) = (coefficients.as_ptr(), coefficients.len());
+    unsafe { raw::dm_vector(n, from, length, p, out.as_mut_ptr(), out.len(), answer.as_mut_ptr()) };
+    answer
+}
+
+#[inline]
+pub fn write_form(n: u64, coefficients: &[u8], p: u64, out: &mut [u8]) -> Words {
+    let mut answer = UNANSWERED;
+    let (from, length) = (coefficients.as_ptr(), coefficients.len());
+    unsafe { raw::dm_write_form(n, from, length, p, out.as_mut_ptr(), out.len(), answer.as_mut_ptr()) };
+    answer
+}
+
+#[inline]
+pub fn best_polarity(n: u64, vector: &[u8]) -> Words {
+    let mut answer = UNANSWERED;
+    unsafe { raw::dm_best_polarity(n, vector.as_ptr(), vector.len(), answer.as_mut_ptr()) };
+    answer
+}
+
+#[inline]
+pub fn run(n: u64, list: &[u8], script: &[u8], work: &mut [u8]) -> Words {
+    let mut answer = UNANSWERED;
+    unsafe {
+        raw::dm_run(
+            n,
+            list.as_ptr(),
+            list.len(),
+            script.as_ptr(),
+            script.len(),
+            work.as_mut_ptr(),
+            work.len(),
+            answer.as_mut_ptr(),
+        );
+    }
+    answer
+}
+
+#[inline]
+pub fn settle(n: u64, list: &[u8], script: &[u8], work: &mut [u8], out: &mut [u8]) -> Words {
+    let mut answer = UNANSWERED;
+    unsafe {
+        raw::dm_settle(
+            n,
+            list.as_ptr(),
+            list.len(),
+            script.as_ptr(),
+            script.len(),
+            work.as_mut_ptr(),
+            work.len(),
+            out.as_mut_ptr(),
+            out.len(),
+            answer.as_mut_ptr(),
+        );
+    }
+    answer
+}

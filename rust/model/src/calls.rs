@@ -1,0 +1,140 @@
+//! The library's calls over bytes: what each refuses, in document 01's order, what it answers and what it writes.
+
+use crate::cube::{self, Cube, RECORD, encoded_list};
+use crate::polarity;
+use crate::refusal::{Refusal, refuse_at_if, refuse_if};
+use crate::script::{self, STEP, Step};
+use crate::settling;
+
+/// The values that an accepted call answers, in document 01's order.
+pub type Outcome = Result<Vec<u64>, Refusal>;
+
+/// The eight words of an answer: refusal number, place, values, zeros.
+pub fn words(outcome: &Outcome) -> [u64; 8] {
+    let mut words = [0; 8];
+    match outcome {
+        Ok(values) => words[2..2 + values.len()].copy_from_slice(values),
+        Err(refusal) => words[..2].copy_from_slice(&[refusal.number, refusal.place]),
+    }
+    words
+}
+
+pub fn check(n: u64, list: &[u8]) -> Outcome {
+    let list = checked_list(n, 16, list)?;
+    Ok(vec![list.len() as u64])
+}
+
+pub fn value(n: u64, list: &[u8], a: u64) -> Outcome {
+    let list = checked_list(n, 16, list)?;
+    refuse_if(has_bit_from(n, a), 6)?;
+    Ok(vec![cube::value(&list, a) as u64])
+}
+
+pub fn truth_vector(n: u64, list: &[u8], out: &mut [u8]) -> Outcome {
+    let list = checked_list(n, 8, list)?;
+    refuse_if(out.len() < 1 << n, 5)?;
+    write_front(out, &cube::truth_vector(n as usize, &list));
+    Ok(vec![1 << n])
+}
+
+pub fn coefficients(n: u64, vector: &[u8], p: u64, out: &mut [u8]) -> Outcome {
+    check_bits(n, vector)?;
+    refuse_if(has_bit_from(n, p), 15)?;
+    refuse_if(out.len() < 1 << n, 5)?;
+    write_front(out, &polarity::coefficients(vector, p as usize));
+    Ok(vec![1 << n])
+}
+
+pub fn vector(n: u64, coefficients: &[u8], p: u64, out: &mut [u8]) -> Outcome {
+    check_bits(n, coefficients)?;
+    refuse_if(has_bit_from(n, p), 15)?;
+    refuse_if(out.len() < 1 << n, 5)?;
+    write_front(out, &polarity::vector(coefficients, p as usize));
+    Ok(vec![1 << n])
+}
+
+pub fn write_form(n: u64, coefficients: &[u8], p: u64, out: &mut [u8]) -> Outcome {
+    check_bits(n, coefficients)?;
+    refuse_if(has_bit_from(n, p), 15)?;
+    let form = polarity::form(n as usize, coefficients, p as usize);
+    refuse_if(capacity(out) < form.len(), 5)?;
+    write_front(out, &encoded_list(&form));
+    Ok(vec![form.len() as u64])
+}
+
+pub fn best_polarity(n: u64, vector: &[u8]) -> Outcome {
+    check_bits(n, vector)?;
+    let best = polarity::best(vector);
+    Ok(vec![best.polarity as u64, best.size as u64])
+}
+
+pub fn run(n: u64, list: &[u8], script: &[u8], work: &mut [u8]) -> Outcome {
+    let given = checked_list(n, 16, list)?;
+    refuse_if(capacity(work) < given.len(), 5)?;
+    let script = checked_script(n, script)?;
+    let outcome = script::run(&given, &script, capacity(work));
+    work.fill(0);
+    let run = outcome?;
+    write_front(work, &encoded_list(&run.list));
+    Ok(vec![run.list.len() as u64, run.peak as u64])
+}
+
+pub fn settle(n: u64, list: &[u8], script: &[u8], work: &mut [u8], out: &mut [u8]) -> Outcome {
+    let given = checked_list(n, 16, list)?;
+    refuse_if(capacity(work) < given.len(), 5)?;
+    refuse_if(capacity(out) < given.len(), 5)?;
+    let script = checked_script(n, script)?;
+    let outcome = settling::settle(n as usize, &given, &script, capacity(work));
+    work.fill(0);
+    let settled = outcome?;
+    out.fill(0);
+    write_front(out, &encoded_list(&settled.burned));
+    let (polarity, size) = match settled.fixed {
+        Some(best) => (best.polarity as u64, best.size as u64),
+        None => (u64::MAX, u64::MAX),
+    };
+    let counts = [settled.given, settled.peak, settled.script].map(|count| count as u64);
+    Ok([&counts[..], &[polarity, size, settled.burned.len() as u64]].concat())
+}
+
+/// Rules 1 to 4.
+fn checked_list(n: u64, limit: u64, list: &[u8]) -> Result<Vec<Cube>, Refusal> {
+    refuse_if(n > limit, 1)?;
+    refuse_if(!list.len().is_multiple_of(RECORD), 2)?;
+    refuse_if(list.len() / RECORD > 4096, 3)?;
+    let cubes: Vec<Option<Cube>> = list.chunks(RECORD).map(|record| cube::decoded(n as usize, record)).collect();
+    let bad = cubes.iter().position(Option::is_none);
+    refuse_at_if(bad.is_some(), 4, bad.unwrap_or(0))?;
+    Ok(cubes.into_iter().flatten().collect())
+}
+
+/// Rules 7 to 9.
+fn checked_script(n: u64, script: &[u8]) -> Result<Vec<Step>, Refusal> {
+    refuse_if(!script.len().is_multiple_of(STEP), 7)?;
+    refuse_if(script.len() / STEP > 1024, 8)?;
+    let steps: Vec<Option<Step>> = script.chunks(STEP).map(|bytes| script::decoded(n as usize, bytes)).collect();
+    let bad = steps.iter().position(Option::is_none);
+    refuse_at_if(bad.is_some(), 9, bad.unwrap_or(0))?;
+    Ok(steps.into_iter().flatten().collect())
+}
+
+/// Rules 1 and 14.
+fn check_bits(n: u64, bits: &[u8]) -> Result<(), Refusal> {
+    refuse_if(n > 8, 1)?;
+    refuse_at_if(bits.len() != 1 << n, 14, 1 << n)?;
+    let bad = bits.iter().position(|&byte| byte > 1);
+    refuse_at_if(bad.is_some(), 14, bad.unwrap_or(0))
+}
+
+/// "Its length divided by 4, rounded down, and at most 4,096."
+fn capacity(buffer: &[u8]) -> usize {
+    (buffer.len() / RECORD).min(4096)
+}
+
+fn has_bit_from(n: u64, number: u64) -> bool {
+    (n..64).any(|k| number >> k & 1 == 1)
+}
+
+fn write_front(buffer: &mut [u8], bytes: &[u8]) {
+    buffer[..bytes.len()].copy_from_slice(bytes);
+}

@@ -1,0 +1,81 @@
+//! "Cubes and lists".
+
+/// The literal codes of a cube, variable 0 first: 0 complemented, 1 plain, 2 absent.
+pub type Cube = Vec<u8>;
+
+/// Bytes of a cube record.
+pub const RECORD: usize = 4;
+
+/// The product is true where each literal that stands in it is.
+pub fn is_true(cube: &Cube, a: u64) -> bool {
+    cube.iter().enumerate().all(|(k, &code)| match code {
+        0 => bit(a, k) == 0,
+        1 => bit(a, k) == 1,
+        _ => true,
+    })
+}
+
+/// "A list's value at an assignment is the parity of how many of its products are true there."
+pub fn value(list: &[Cube], a: u64) -> u8 {
+    (list.iter().filter(|cube| is_true(cube, a)).count() % 2) as u8
+}
+
+/// The values at all assignments, in order.
+pub fn truth_vector(n: usize, list: &[Cube]) -> Vec<u8> {
+    (0..1 << n).map(|a| value(list, a)).collect()
+}
+
+/// The cube of a record, or nothing if the record is bad for `n` variables.
+pub fn decoded(n: usize, record: &[u8]) -> Option<Cube> {
+    let mut cube = Vec::new();
+    for k in 0..16 {
+        let seen = record[k / 8] >> (k % 8) & 1;
+        let value = record[2 + k / 8] >> (k % 8) & 1;
+        match (seen, value) {
+            (0, 1) => return None,
+            (1, _) if k >= n => return None,
+            (1, code) => cube.push(code),
+            _ if k < n => cube.push(2),
+            _ => {}
+        }
+    }
+    Some(cube)
+}
+
+/// The record of a cube.
+pub fn encoded(cube: &Cube) -> [u8; RECORD] {
+    let mut record = [0; RECORD];
+    for (k, &code) in cube.iter().enumerate() {
+        if code != 2 {
+            record[k / 8] |= 1 << (k % 8);
+            record[2 + k / 8] |= code << (k % 8);
+        }
+    }
+    record
+}
+
+/// The records of a list, end to end.
+pub fn encoded_list(list: &[Cube]) -> Vec<u8> {
+    list.iter().flat_map(encoded).collect()
+}
+
+/// A cube written out: `0`, `1` or `-` per variable.
+pub fn written(cube: &Cube) -> String {
+    cube.iter().map(|&code| ['0', '1', '-'][code as usize]).collect()
+}
+
+/// The cube that is written out so.
+pub fn read(text: &str) -> Cube {
+    text.chars()
+        .map(|c| match c {
+            '0' => 0,
+            '1' => 1,
+            '-' => 2,
+            other => panic!("{other:?} is not a literal"),
+        })
+        .collect()
+}
+
+fn bit(a: u64, k: usize) -> u64 {
+    a >> k & 1
+}

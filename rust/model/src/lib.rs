@@ -1,0 +1,15 @@
+//! Document 01 once more, by other means than the library's.
+//!
+//! A cube is the vector of its literal codes, a list a vector of cubes, and each definition is computed as it is
+//! worded: a value counts true products, a coefficient adds over every subset, an L step rewrites every cube and is
+//! undone by itself, last one first. Nothing here is shared with the library or with the wrapper, and nothing is fast.
+//!
+//! [`calls`] puts the definitions behind the bytes, the refusals and the buffers of the library's calls.
+
+pub mod calls;
+pub mod cube;
+pub mod polarity;
+pub mod program;
+pub mod refusal;
+pub mod script;
+pub mod settling;

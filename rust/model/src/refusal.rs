@@ -1,0 +1,31 @@
+//! "Refusal numbers and places".
+
+/// A refusal: its number and its place.
+#[derive(Clone, Copy, Debug, PartialEq, Eq)]
+pub struct Refusal {
+    pub number: u64,
+    pub place: u64,
+}
+
+/// Refuses with a number at place 0, where `broken` says so.
+pub fn refuse_if(broken: bool, number: u64) -> Result<(), Refusal> {
+    refuse_at_if(broken, number, 0)
+}
+
+/// Refuses with a number and a place, where `broken` says so.
+pub fn refuse_at_if(broken: bool, number: u64, place: usize) -> Result<(), Refusal> {
+    if broken { Err(Refusal { number, place: place as u64 }) } else { Ok(()) }
+}
+
+/// The numbers that each call can answer, in the order in which it tests them.
+pub const ORDERS: [(&str, &[u64]); 9] = [
+    ("check", &[1, 2, 3, 4]),
+    ("value", &[1, 2, 3, 4, 6]),
+    ("truth_vector", &[1, 2, 3, 4, 5]),
+    ("coefficients", &[1, 14, 15, 5]),
+    ("vector", &[1, 14, 15, 5]),
+    ("write_form", &[1, 14, 15, 5]),
+    ("best_polarity", &[1, 14]),
+    ("run", &[1, 2, 3, 4, 5, 7, 8, 9, 10, 11, 12, 13]),
+    ("settle", &[1, 2, 3, 4, 5, 7, 8, 9, 10, 11, 12, 13]),
+];

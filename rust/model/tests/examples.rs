@@ -1,0 +1,177 @@
+//! The model against the examples that document 01 marks and against the program's printed examples.
+
+use model::calls::{self, Outcome, words};
+use model::cube::{Cube, encoded_list, read, truth_vector, value, written};
+use model::polarity::{Best, best, coefficients, form, vector};
+use model::program::printed;
+use model::refusal::Refusal;
+use model::script::Step::{self, Drop, Join, L, Split, Turn};
+use model::script::{self, encoded_script};
+
+fn list(cubes: &[&str]) -> Vec<Cube> {
+    cubes.iter().map(|text| read(text)).collect()
+}
+
+fn records(cubes: &[&str]) -> Vec<u8> {
+    encoded_list(&list(cubes))
+}
+
+/// The list after one step, before any L step is undone.
+fn after(cubes: &[&str], step: Step) -> Vec<String> {
+    let mut list = list(cubes);
+    script::step(&mut list, step, 4096, 0).unwrap();
+    list.iter().map(written).collect()
+}
+
+fn refused(number: u64, place: u64) -> Outcome {
+    Err(Refusal { number, place })
+}
+
+#[test]
+fn best_polarities() {
+    assert_eq!(best(&[0, 1, 1, 0]), Best { polarity: 0, size: 2 });
+    assert_eq!(form(2, &coefficients(&[0, 1, 1, 0], 3), 3).len(), 2);
+    assert_eq!(best(&[0, 1, 1, 1]), Best { polarity: 3, size: 2 });
+    assert_eq!(form(2, &coefficients(&[0, 1, 1, 1], 0), 0).len(), 3);
+    assert_eq!(best(&truth_vector(3, &list(&["000", "111"]))), Best { polarity: 1, size: 4 });
+    assert_eq!(best(&[1]), Best { polarity: 0, size: 1 });
+}
+
+#[test]
+fn form_of_the_best_polarity() {
+    let form = form(2, &coefficients(&[0, 1, 1, 1], 3), 3);
+    assert_eq!(form, list(&["--", "00"]));
+    assert_eq!(encoded_list(&form), [0, 0, 0, 0, 3, 0, 0, 0]);
+}
+
+#[test]
+fn single_steps() {
+    assert_eq!(after(&["-1", "11"], Join { i: 0, j: 1 }), ["01"]);
+    assert_eq!(after(&["1-", "01"], Turn { v: 0, i: 0, j: 1 }), ["--", "00"]);
+    assert_eq!(after(&["1-", "01"], Turn { v: 1, i: 0, j: 1 }), ["10", "-1"]);
+    assert_eq!(after(&["1-", "-1", "11"], L { v: 0, literal: 1 }), ["--", "11", "-1"]);
+}
+
+#[test]
+fn a_join_whose_i_is_last_ends_at_j() {
+    assert_eq!(after(&["11", "00", "-1"], Join { i: 2, j: 0 }), ["01", "00"]);
+}
+
+#[test]
+fn a_drop_removes_the_greater_place_first() {
+    assert_eq!(after(&["11", "00", "11", "--"], Drop { i: 0, j: 2 }), ["--", "00"]);
+    assert_eq!(after(&["11", "00", "11", "--"], Drop { i: 2, j: 0 }), ["--", "00"]);
+}
+
+#[test]
+fn l_steps_on_one_variable_are_undone_last_one_first() {
+    let steps = [L { v: 0, literal: 0 }, L { v: 0, literal: 1 }];
+    let given = list(&["0", "1", "-"]);
+    assert_eq!(script::run(&given, &steps, 3).unwrap().list, given);
+}
+
+#[test]
+fn values_without_variables() {
+    assert_eq!(value(&list(&[""]), 0), 1);
+    assert_eq!(value(&list(&["", ""]), 0), 0);
+    assert_eq!(value(&[], 0), 0);
+}
+
+#[test]
+fn what_the_program_prints() {
+    let script = encoded_script(&[Join { i: 1, j: 2 }, Turn { v: 0, i: 0, j: 1 }]);
+    let text = printed(2, &records(&["1-", "-1", "11"]), &script);
+    assert_eq!(text, "in 3 peak 3 script 2 fixed 3 2 out 2\n--\n00\n");
+
+    let script = encoded_script(&[Split { v: 2, i: 0 }, Join { i: 2, j: 3 }, Join { i: 1, j: 2 }]);
+    let text = printed(3, &records(&["00-", "1-1", "-01"]), &script);
+    assert_eq!(text, "in 3 peak 4 script 2 fixed 1 4 out 2\n000\n111\n");
+
+    assert_eq!(printed(1, &records(&["0", "1", "-"]), &[]), "in 3 peak 3 script 3 fixed 0 0 out 0\n");
+    assert_eq!(printed(3, &records(&["000", "111"]), &[]), "in 2 peak 2 script 2 fixed 1 4 out 2\n000\n111\n");
+    assert_eq!(printed(0, &records(&[""]), &[]), "in 1 peak 1 script 1 fixed 0 1 out 1\n\n");
+    assert_eq!(printed(9, &records(&["---------"]), &[]), "in 1 peak 1 script 1 fixed - - out 1\n---------\n");
+    assert_eq!(printed(17, &[], &[]), "refused 1 at 0\n");
+}
+
+#[test]
+fn limits() {
+    assert_eq!(calls::check(16, &[0; 4 * 4096]), Ok(vec![4096]));
+    assert_eq!(calls::check(16, &[0; 4 * 4097]), refused(3, 0));
+    assert_eq!(calls::best_polarity(8, &[0; 256]), Ok(vec![0, 0]));
+    assert_eq!(calls::best_polarity(9, &[0; 512]), refused(1, 0));
+
+    let (mut work, mut out) = ([0; 4], [0; 4]);
+    assert_eq!(calls::check(17, &[]), refused(1, 0));
+    assert_eq!(calls::value(17, &[], 0), refused(1, 0));
+    assert_eq!(calls::truth_vector(17, &[], &mut out), refused(1, 0));
+    assert_eq!(calls::coefficients(17, &[], 0, &mut out), refused(1, 0));
+    assert_eq!(calls::vector(17, &[], 0, &mut out), refused(1, 0));
+    assert_eq!(calls::write_form(17, &[], 0, &mut out), refused(1, 0));
+    assert_eq!(calls::best_polarity(17, &[]), refused(1, 0));
+    assert_eq!(calls::run(17, &[], &[], &mut work), refused(1, 0));
+    assert_eq!(calls::settle(17, &[], &[], &mut work, &mut out), refused(1, 0));
+}
+
+#[test]
+fn refusals_at_a_step_leave_the_work_buffer_zero() {
+    let mut work = vec![7; 4 * 4096 + 3];
+    let split = encoded_script(&[Split { v: 0, i: 0 }]);
+    assert_eq!(calls::run(1, &[0; 4 * 4096], &split, &mut work), refused(13, 0));
+    assert!(work.iter().all(|&byte| byte == 0));
+
+    let (mut work, mut out) = (vec![7; 11], vec![7; 9]);
+    let join = encoded_script(&[L { v: 0, literal: 1 }, Join { i: 1, j: 1 }]);
+    assert_eq!(calls::settle(1, &records(&["0", "1"]), &join, &mut work, &mut out), refused(11, 1));
+    assert_eq!((work, out), (vec![0; 11], vec![7; 9]));
+
+    let drop = encoded_script(&[Drop { i: 0, j: 1 }]);
+    assert_eq!(calls::run(1, &records(&["0", "1"]), &drop, &mut [7; 8]), refused(12, 0));
+}
+
+#[test]
+fn refusals_before_the_first_step_write_nothing() {
+    let mut work = vec![7; 8];
+    let mut late = encoded_script(&[L { v: 0, literal: 1 }, L { v: 0, literal: 1 }]);
+    late[8 + 7] = 1;
+    assert_eq!(calls::run(1, &records(&["0", "1"]), &late, &mut work), refused(9, 1));
+    assert_eq!(work, [7; 8]);
+}
+
+#[test]
+fn forms_have_the_function_that_they_come_from() {
+    for function in 0..256u32 {
+        let given: Vec<u8> = (0..8).map(|a| (function >> a & 1) as u8).collect();
+        for p in 0..8 {
+            let coefficients = coefficients(&given, p);
+            assert_eq!(vector(&coefficients, p), given);
+            assert_eq!(truth_vector(3, &form(3, &coefficients, p)), given);
+        }
+    }
+}
+
+#[test]
+fn a_step_that_is_accepted_keeps_the_function() {
+    let cubes = list(&["00", "10", "-0", "01", "11", "-1", "0-", "1-", "--"]);
+    let mut accepted = 0;
+    for (a, b) in cubes.iter().flat_map(|a| cubes.iter().map(move |b| (a, b))) {
+        let steps = [Drop { i: 0, j: 1 }, Join { i: 0, j: 1 }];
+        let turns = (0..2).map(|v| Turn { v, i: 0, j: 1 });
+        let splits = (0..4).map(|k| Split { v: k / 2, i: k % 2 });
+        for step in steps.into_iter().chain(turns).chain(splits) {
+            let given = vec![a.clone(), b.clone()];
+            if let Ok(run) = script::run(&given, &[step], 3) {
+                assert_eq!(truth_vector(2, &run.list), truth_vector(2, &given), "{step:?} on {given:?}");
+                accepted += 1;
+            }
+        }
+    }
+    // 9 drops, 36 joins, 36 pairs turned at either variable, 81 pairs split at 4 places.
+    assert_eq!(accepted, 9 + 36 + 2 * 36 + 4 * 81);
+}
+
+#[test]
+fn words_of_an_answer() {
+    assert_eq!(words(&Ok(vec![5, 6])), [0, 0, 5, 6, 0, 0, 0, 0]);
+    assert_eq!(words(&refused(9, 3)), [9, 3, 0, 0, 0, 0, 0, 0]);
+}

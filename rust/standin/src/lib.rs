@@ -1,0 +1,129 @@
+//! The library's C face, answered by the model. It lets the packages and the C example be tried where the archive is not
+//! at hand. A comparison over it compares the model with itself, and says so.
+
+#![expect(clippy::missing_safety_doc, reason = "the header says what a caller owes")]
+
+use model::calls::{self, Outcome, words};
+use std::slice::{from_raw_parts, from_raw_parts_mut};
+
+// SAFETY, for each call below: the header asks of the caller that pointers are not null, lengths are true, written
+// buffers overlap nothing and `answer` has eight words.
+
+unsafe fn give(outcome: Outcome, answer: *mut u64) {
+    unsafe { from_raw_parts_mut(answer, 8) }.copy_from_slice(&words(&outcome));
+}
+
+#[unsafe(no_mangle)]
+pub unsafe extern "C" fn dm_check(n: u64, list: *const u8, list_length: usize, answer: *mut u64) {
+    unsafe { give(calls::check(n, from_raw_parts(list, list_length)), answer) }
+}
+
+#[unsafe(no_mangle)]
+pub unsafe extern "C" fn dm_value(n: u64, list: *const u8, list_length: usize, a: u64, answer: *mut u64) {
+    unsafe { give(calls::value(n, from_raw_parts(list, list_length), a), answer) }
+}
+
+#[unsafe(no_mangle)]
+pub unsafe extern "C" fn dm_truth_vector(
+    n: u64,
+    list: *const u8,
+    list_length: usize,
+    out: *mut u8,
+    out_length: usize,
+    answer: *mut u64,
+) {
+    unsafe {
+        let out = from_raw_parts_mut(out, out_length);
+        give(calls::truth_vector(n, from_raw_parts(list, list_length), out), answer)
+    }
+}
+
+#[unsafe(no_mangle)]
+pub unsafe extern "C" fn dm_coefficients(
+    n: u64,
+    vector: *const u8,
+    vector_length: usize,
+    p: u64,
+    out: *mut u8,
+    out_length: usize,
+    answer: *mut u64,
+) {
+    unsafe {
+        let out = from_raw_parts_mut(out, out_length);
+        give(calls::coefficients(n, from_raw_parts(vector, vector_length), p, out), answer)
+    }
+}
+
+#[unsafe(no_mangle)]
+pub unsafe extern "C" fn dm_vector(
+    n: u64,
+    coefficients: *const u8,
+    coefficients_length: usize,
+    p: u64,
+    out: *mut u8,
+    out_length: usize,
+    answer: *mut u64,
+) {
+    unsafe {
+        let out = from_raw_parts_mut(out, out_length);
+        give(calls::vector(n, from_raw_parts(coefficients, coefficients_length), p, out), answer)
+    }
+}
+
+#[unsafe(no_mangle)]
+pub unsafe extern "C" fn dm_write_form(
+    n: u64,
+    coefficients: *const u8,
+    coefficients_length: usize,
+    p: u64,
+    out: *mut u8,
+    out_length: usize,
+    answer: *mut u64,
+) {
+    unsafe {
+        let out = from_raw_parts_mut(out, out_length);
+        give(calls::write_form(n, from_raw_parts(coefficients, coefficients_length), p, out), answer)
+    }
+}
+
+#[unsafe(no_mangle)]
+pub unsafe extern "C" fn dm_best_polarity(n: u64, vector: *const u8, vector_length: usize, answer: *mut u64) {
+    unsafe { give(calls::best_polarity(n, from_raw_parts(vector, vector_length)), answer) }
+}
+
+#[unsafe(no_mangle)]
+pub unsafe extern "C" fn dm_run(
+    n: u64,
+    list: *const u8,
+    list_length: usize,
+    script: *const u8,
+    script_length: usize,
+    work: *mut u8,
+    work_length: usize,
+    answer: *mut u64,
+) {
+    unsafe {
+        let (list, script) = (from_raw_parts(list, list_length), from_raw_parts(script, script_length));
+        give(calls::run(n, list, script, from_raw_parts_mut(work, work_length)), answer)
+    }
+}
+
+#[unsafe(no_mangle)]
+pub unsafe extern "C" fn dm_settle(
+    n: u64,
+    list: *const u8,
+    list_length: usize,
+    script: *const u8,
+    script_length: usize,
+    work: *mut u8,
+    work_length: usize,
+    out: *mut u8,
+    out_length: usize,
+    answer: *mut u64,
+) {
+    unsafe {
+        let (list, script) = (from_raw_parts(list, list_length), from_raw_parts(script, script_length));
+        let (work, out) = (from_raw_parts_mut(work, work_length), from_raw_parts_mut(out, out_length));
+        give(calls::settle(n, list, script, work, out), answer)
+    }
+}
