@@ -1,6 +1,6 @@
 -- A call of `settle`: every outcome that its contract allows is a `Called`, and what an accepted and a refused one say. The demands speak of it.
 -- Assumes nothing.
-use mathlib.Core.Path.{_≡_, refl, sym, ap, ap₂, _∙_, subst}
+use mathlib.Core.Path.{_≡_, refl, sym, ap, ap₂, _∙_}
 use mathlib.Core.Logic.{_⊎_, inl, inr}
 use mathlib.Core.Bool.{true}
 use mathlib.Core.List.{List, [], _∷_, _++_}
@@ -16,7 +16,7 @@ use Rattle.bits.specs.Sums.{All}
 use Rattle.bits.proofs.Sums.{all-map}
 use Rattle.records.specs.declared.Refusal.{Refusal}
 use Rattle.records.specs.Records.{listOf, image, zeros}
-use Rattle.records.specs.Answers.{Outcome, accepted, refused, refusal, unless, andThen}
+use Rattle.records.specs.Answers.{Outcome, accepted, refused, refusal, andThen}
 use Rattle.records.proofs.Answering.{not-both, refused-same, both-accepted, unless-accepted}
 use Rattle.cube.specs.declared.Cube.{Cube}
 use Rattle.cube.specs.Lists.{mostVariables, cubes, cubesOf, cubeCapacity}
@@ -34,7 +34,7 @@ use Rattle.settling.specs.declared.Settled.{Settled}
 use Rattle.settling.specs.declared.Settled.the-variants as settled-is
 use Rattle.settling.specs.declared.Settlement.{Settlement}
 use Rattle.settling.specs.Candidates.{burnedList, fixedOf}
-use Rattle.settling.specs.Calls.{checkSettle, fixedValues, ranSettled, settleOutcome, settleWorkBy, settleWork, ranBurned, settleOutBy, settleOut, settled}
+use Rattle.settling.specs.Calls.{checkSettle, fixedValues, ranSettled, settleOutcome, settleWorkBy, settleWork, settleOutBy, settleOut, settled}
 use Rattle.settling.proofs.settle.settle.Kinds as kinds
 use Rattle.settling.proofs.settle.settle.Reads as reads
 

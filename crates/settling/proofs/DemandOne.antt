@@ -2,7 +2,7 @@
 -- script starts writes nothing; one found at a step clears the work area and hands out no list.
 -- That every call of `settle` ends and answers is what its proof says, for it has no `requires`; `Called` is any outcome that its contract allows.
 -- Assumes nothing.
-use mathlib.Core.Path.{_≡_, refl, sym, ap, _∙_, subst}
+use mathlib.Core.Path.{_≡_, refl, sym, _∙_, subst}
 use mathlib.Core.Logic.{_⊎_, inl, inr, ⊎-elim}
 use mathlib.Core.Bool.{Bool, true, false, true≢false}
 use mathlib.Core.List.{List}
@@ -23,7 +23,7 @@ use Rattle.cube.specs.Lists.{mostVariables, mostRecords, recordWidth, cubesOf, 
 use Rattle.cube.specs.Calls.{checkList}
 use Rattle.cube.proofs.Codes.{parts-good}
 use Rattle.cube.proofs.ListLaws.{good-at}
-use Rattle.script.specs.Run.{stopped, ended, run}
+use Rattle.script.specs.Run.{ended, run}
 use Rattle.script.specs.Scripts.{stepRecords, stepWidth, mostSteps, fits, stepsOf}
 use Rattle.script.specs.Calls.{checkScript, runOf}
 use Rattle.script.proofs.Value.{not-ended}

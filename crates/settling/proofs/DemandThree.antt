@@ -115,7 +115,7 @@ module _ (n : ℕ) (list script work out : List ℕ) (s : Settlement) (work′ o
       subst (λ (l : List Cube). length l ≤ length (formList n p (listValue n (cubesOf list)))) (sym is-burned)
       (le-trans (burned-form n result (cubesOf list) few) (best-form-least n (cubesOf list) few p h))
 
-  -- After the list, every byte of the output buffer is zero; and every byte of the work buffer is.
+  -- After the list, which fits, every byte of the output buffer is zero; and every byte of the work buffer is.
   pub zeros-after : drop (recordWidth * s .burned) out′ ≡ zeros (length out - recordWidth * s .burned)
   unfolding image filled
   zeros-after =
@@ -125,6 +125,10 @@ module _ (n : ℕ) (list script work out : List ℕ) (s : Settlement) (work′ o
       ap (drop (recordWidth * s .burned)) (acc .out-is)
       ∙ drop-at (flat (cubes .enc) l) (replicate (length out - length (flat (cubes .enc) l)) 0) (recordWidth * s .burned) long
       ∙ ap (λ (k : ℕ). replicate (length out - k) 0) long
+
+  pub burned-fits : recordWidth * s .burned ≤ length out
+  unfolding result
+  burned-fits = subst (λ (k : ℕ). recordWidth * k ≤ length out) (sym (acc .burned-is)) fits-out
 
   pub work-zero : work′ ≡ zeros (length work)
   work-zero = acc .work-is

@@ -2,10 +2,10 @@
 -- define. Truth vector to coefficients and back returns the vector, under every polarity. 000, 001 and 002 are the source documents of document 01.
 -- The theorems are proved in cube (Meaning), steps (Rules, Transformation, Inversion), polarity (Theorems) and script (Counting), and stand here as one page.
 -- Assumes nothing.
-use mathlib.Core.Path.{_≡_, refl, sym, ap, _∙_, subst}
+use mathlib.Core.Path.{_≡_, _∙_}
 use mathlib.Core.Logic.{_≢_, _⊎_}
-use mathlib.Core.Bool.{Bool, true, cond}
-use mathlib.Core.List.{List, [], _∷_, map}
+use mathlib.Core.Bool.{true}
+use mathlib.Core.List.{List, [], map}
 use Prim.Native.Nat.{ℕ, suc, _+_, _*_, _^_, _≤_, _<_}
 use native.Mathlib.Omega.{arith}
 use borrow.Author.Tests.{le-leb, lt-leb}
@@ -20,7 +20,7 @@ use Rattle.cube.specs.Cubes.{code, put, Good, met, holds}
 use Rattle.cube.specs.Lists.{cubesOf, cubeCapacity, listValue, truthVector, vectorVariables}
 use Rattle.cube.proofs.Meaning as meaning
 use Rattle.steps.specs.Moves.{next}
-use Rattle.steps.specs.Steps.{drop, join, split, turn, L, step, exchanged}
+use Rattle.steps.specs.Steps.{Step, drop, join, split, turn, L, step, exchanged}
 use Rattle.steps.proofs.Inversion.{Dropped, Joined, Split, Turned}
 use Rattle.steps.proofs.Inversion as inversion
 use Rattle.steps.proofs.Rules.{complemented, plain, absent, Same, DropRule, JoinRule, SplitRule, TurnRule}
@@ -32,10 +32,9 @@ use Rattle.script.specs.Counts.{isSplit, isJoin, isDrop, howMany, lists, greate
 use Rattle.script.specs.Scripts.{stepsOf}
 use Rattle.script.specs.Calls.{runOf}
 use Rattle.script.proofs.Counting as counting
-use Rattle.polarity.specs.Forms.{parityWithin, coefficient, formFrom, formList, size, bestPolarity}
+use Rattle.polarity.specs.Forms.{parityWithin, formFrom, formList, size, bestPolarity}
 use Rattle.polarity.specs.Vectors.{byteAt, Vector, coefficientVector, vectorBack}
 use Rattle.polarity.proofs.Theorems as theorems
-use Rattle.settling.specs.declared.Fixed.{Fixed}
 use Rattle.settling.specs.declared.Fixed.the-variants as fixed-is
 use Rattle.settling.specs.declared.Settled.the-variants as settled-is
 use Rattle.settling.specs.declared.Settlement.{Settlement}
@@ -171,6 +170,13 @@ module _ (n : ℕ) (f : ℕ → ℕ) where
   -- The best polarity has the fewest products, and of those with as few it is the smallest.
   pub best-has-fewest : Least (λ p. size n p f) (2 ^ n) (bestPolarity n f)
   best-has-fewest = theorems.best-has-fewest n f
+
+-- ---- the script
+
+-- The list a script ends in is the last of the lists between its steps, with all L steps undone, last one first.
+pub script-result : (n cap : ℕ) (xs : List Step) (l m : List Cube) (peak : ℕ) → run n cap xs l ≡ ended m peak
+    → m ≡ undo xs (getD (lists n cap xs l) (length xs) [])
+script-result = counting.run-result
 
 -- ---- the counts that settle answers, of a call that was not refused
 

@@ -1,7 +1,7 @@
 -- Demand 1, of the calls below settle: a refusal found before the first step writes nothing; one found at a step of `run` clears the work buffer.
 -- Each is stated of any outcome that the call's contract allows: a are the arguments, z the answer, ws the last contents of the buffers.
 -- Assumes nothing.
-use mathlib.Core.Path.{_≡_, refl, sym, ap, ap₂, _∙_}
+use mathlib.Core.Path.{_≡_, refl, sym, ap, _∙_}
 use mathlib.Core.Logic.{_⊎_, inl, inr}
 use mathlib.Core.List.{List}
 use Prim.Native.Nat.{ℕ}
@@ -13,12 +13,12 @@ use Rattle.records.specs.declared.Refusal.{Refusal}
 use Rattle.records.specs.declared.Counted.{Counted}
 use Rattle.records.specs.declared.Counted.the-variants as counted-is
 use Rattle.records.specs.Records.{zeros}
-use Rattle.records.specs.Answers.{Outcome, accepted, refused, refusal, andThen, afterCall, counted}
+use Rattle.records.specs.Answers.{Outcome, accepted, refused, andThen, afterCall, counted}
 use Rattle.records.proofs.Answering.{not-both, refused-same, after-refused}
-use Rattle.cube.specs.Calls.{vectorOutcome, vectorAfter}
+use Rattle.cube.specs.Calls.{vectorAfter}
 use Rattle.cube.proofs.value.truth_vector.Kinds as truth-vector-kinds
 use Rattle.cube.proofs.value.truth_vector.Reads as truth-vector-reads
-use Rattle.polarity.specs.Calls.{coefficientsOutcome, coefficientsAfter, backAfter, formOutcome, formAfter}
+use Rattle.polarity.specs.Calls.{coefficientsAfter, backAfter, formAfter}
 use Rattle.polarity.proofs.transform.coefficients.Kinds as coefficients-kinds
 use Rattle.polarity.proofs.transform.coefficients.Reads as coefficients-reads
 use Rattle.polarity.proofs.transform.vector_back.Kinds as vector-back-kinds
