@@ -8,5 +8,4 @@ pub mod Writing
 pub mod Choosing
 pub mod Theorems
 pub mod Uniqueness
-pub mod Examples
 pub mod Determined
