@@ -11,6 +11,7 @@ pub mod Commute
 pub mod Deciding
 pub mod Making
 pub mod Performing
+pub mod Masks
 pub mod Reordering
 pub mod Stepping
 pub mod Determined

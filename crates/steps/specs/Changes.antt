@@ -1,15 +1,15 @@
 -- What the functions of this crate promise one another: a change as a move, the places of a move, and what is done to the work buffer.
 -- Assumes nothing.
 use mathlib.Core.Path.{_≡_}
-use mathlib.Core.Bool.{Bool, cond, _&&_}
+use mathlib.Core.Bool.{cond, _&&_}
 use mathlib.Core.List.{List}
-use Prim.Native.Nat.{ℕ, _^_, _<_}
+use Prim.Native.Nat.{ℕ, _+_, _*_, _%_, _^_, _<_}
+use lib.Bits.{bitXor}
 use lib.Dec.{eqb, ltb}
 use lib.ListN.{length}
-use Rattle.bits.specs.Bits.{withBit}
-use Rattle.bits.specs.Sums.{oneIf}
+use Rattle.records.specs.Words.{wordSize}
 use Rattle.cube.specs.declared.Cube.{Cube}
-use Rattle.cube.specs.Cubes.{Good, one}
+use Rattle.cube.specs.Cubes.{Good, one, withCode}
 use Rattle.cube.specs.Lists.{narrow}
 use Rattle.orders.specs.Orders.{image}
 use Rattle.steps.specs.declared.Change.{Change}
@@ -76,18 +76,18 @@ pub record Done (work work′ : List ℕ) (e : After Cube) (r : Stepped) : Type 
   pub answer : r ≡ stepped e
   pub buffer : work′ ≡ workStepped work e
 
--- bit v where the test passes
-abbrev pub flag : ℕ → Bool → ℕ
-flag v t = withBit 0 v (oneIf t)
+-- two masks of 16 bits as one number, the first in its low half
+abbrev pub pair : ℕ → ℕ → ℕ
+pair low high = wordSize * (high % wordSize) + low % wordSize
+
+-- the product of the one literal that the order o makes of the code x, at the variable v
+abbrev pub imageAt : ℕ → ℕ → ℕ → Cube
+imageAt v o x = withCode one v (image o x)
 
 -- the order o at the variable v, as masks
 unfoldable pub masksAt : ℕ → ℕ → Masks
 masksAt v o = record {
-  at = 2 ^ v;
-  seen0 = flag v (ltb (image o 0) 2);
-  seen1 = flag v (ltb (image o 1) 2);
-  seen2 = flag v (ltb (image o 2) 2);
-  value0 = flag v (eqb (image o 0) 1);
-  value1 = flag v (eqb (image o 1) 1);
-  value2 = flag v (eqb (image o 2) 1);
+  own = pair (bitXor (bitXor (2 ^ v) (imageAt v o 0 .seen)) (imageAt v o 2 .seen)) (bitXor (bitXor (2 ^ v) (imageAt v o 0 .value)) (imageAt v o 1 .value));
+  other = pair (bitXor (imageAt v o 0 .seen) (imageAt v o 1 .seen)) (bitXor (imageAt v o 0 .value) (imageAt v o 2 .value));
+  always = pair (imageAt v o 2 .seen) (imageAt v o 2 .value);
 }

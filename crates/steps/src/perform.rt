@@ -13,7 +13,7 @@ ghost use Rattle.cube.specs.Lists.{cubes, recordWidth};
 ghost use Rattle.steps.specs.Moves.{applied};
 ghost use Rattle.steps.specs.Changes.{moveOf, Placed, Writes, Narrow, Done};
 
-fn smaller(i: usize, j: usize) -> usize
+pub(crate) fn smaller(i: usize, j: usize) -> usize
     ensures { λ r. ⌜ r ≡ min i j ⌝ }
 {
     if i < j {
@@ -53,8 +53,10 @@ pub(crate) fn perform(work: &mut [u8], count: usize, i: usize, j: usize, change:
     match change {
         Change::Refuse(number) => Stepped::Refused(number),
         Change::Drop => {
-            remove(work, count, larger(i, j));
-            remove(work, count - 1, smaller(i, j));
+            let first = larger(i, j);
+            let second = smaller(i, j);
+            remove(work, count, first);
+            remove(work, count - 1, second);
             Stepped::Count(count - 2)
         }
         Change::Join(c) => {

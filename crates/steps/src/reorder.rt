@@ -1,4 +1,5 @@
 // The codes at one variable moved by an order, in every record of the work buffer: one pass with masks, and no branch a record.
+use crate::perform;
 use cube::Cube;
 use cube::list;
 ghost use mathlib.Core.Path.{_≡_};
@@ -11,61 +12,57 @@ ghost use Rattle.cube.specs.Cubes.{Good};
 ghost use Rattle.cube.specs.Lists.{cubes, mostVariables};
 ghost use Rattle.orders.specs.Orders.{orderCount};
 ghost use Rattle.steps.specs.Steps.{reordered};
-ghost use Rattle.steps.specs.Changes.{flag, masksAt};
+ghost use Rattle.steps.specs.Changes.{pair, masksAt};
 
-// An order of the codes at one variable, as masks: that variable, and where the images of the codes 0, 1 and 2 are literals and are plain.
+// What the high half of a record's number is multiplied by.
+const HALF: u32 = 65536;
+
+// An order of the codes at one variable, as masks of a record's number, with seen in its low half and value in its high half. A bit of the
+// variable is changed by the sum, modulo 2, of: itself where `own` is set, the variable's other bit where `other` is, and 1 where `always` is.
 struct Masks {
-    at: u32,
-    seen0: u32,
-    seen1: u32,
-    seen2: u32,
-    value0: u32,
-    value1: u32,
-    value2: u32,
+    own: u32,
+    other: u32,
+    always: u32,
 }
 
-// The set of v where the test passes, and the empty set where not.
-fn flag(v: u32, t: bool) -> u32
-    requires { ⌜ v < 32 ⌝ }
-    ensures { λ r. ⌜ r ≡ flag v t ⌝ }
+// Two masks as one number, the first in its low half.
+fn pair(low: u32, high: u32) -> u32
+    ensures { λ r. ⌜ r ≡ pair low high ⌝ }
 {
-    (t as u32) << v
+    HALF * (high % HALF) + low % HALF
 }
 
-// The order o at the variable v, as masks.
+// The order o at the variable v, as masks: three codes, so that each new bit is such a sum.
 fn masks_at(v: u32, o: u8) -> Masks
     requires { ⌜ v < 32 ⌝ }
     ensures { λ r. ⌜ r ≡ masksAt v o ⌝ }
 {
-    let x = orders::image(o, 0);
-    let y = orders::image(o, 1);
-    let z = orders::image(o, 2);
+    let at: u32 = 1 << v;
+    let x = Cube::literal(v, orders::image(o, 0));
+    let y = Cube::literal(v, orders::image(o, 1));
+    let z = Cube::literal(v, orders::image(o, 2));
     Masks {
-        at: 1 << v,
-        seen0: flag(v, x < 2),
-        seen1: flag(v, y < 2),
-        seen2: flag(v, z < 2),
-        value0: flag(v, x == 1),
-        value1: flag(v, y == 1),
-        value2: flag(v, z == 1),
+        own: pair(at ^ x.seen ^ z.seen, at ^ x.value ^ y.value),
+        other: pair(x.seen ^ y.seen, x.value ^ z.value),
+        always: pair(z.seen, z.value),
     }
 }
 
-// A cube with its code moved. In s ^ w are the variables with code 0, in w those with code 1, and bit v of s ^ m is set for code 2.
+// A cube with its code moved.
 fn recoded(k: Masks, c: Cube) -> Cube
     requires { ⌜ Good mostVariables c ⌝ }
-    ensures { λ r. ⌜ ((v o : ℕ) → k ≡ masksAt v o → r ≡ reordered v o c) ⌝ }
+    ensures { λ r. ⌜ ((v o : ℕ) → v < mostVariables → k ≡ masksAt v o → r ≡ reordered v o c) ⌝ }
 {
-    let m = k.at;
-    let s = c.seen;
-    let w = c.value;
+    let x = pair(c.seen, c.value);
+    let y = pair(c.value, c.seen);
+    let z = x ^ (x & k.own) ^ (y & k.other) ^ k.always;
     Cube {
-        seen: (s ^ (s & m)) | ((s ^ w) & k.seen0) | (w & k.seen1) | ((s ^ m) & k.seen2),
-        value: (w ^ (w & m)) | ((s ^ w) & k.value0) | (w & k.value1) | ((s ^ m) & k.value2),
+        seen: z % HALF,
+        value: z / HALF,
     }
 }
 
-// Every cube's code at v moved by the order o.
+// Every cube's code at v moved by the order o. The pass ends by the length of the buffer too, which shows the compiler that each place lies in it.
 pub fn reorder(work: &mut [u8], count: usize, v: u8, o: u8)
     requires { ⌜ Held cubes count (now work) ⌝ }
     requires { ⌜ All (Good mostVariables) (records cubes count (now work)) ⌝ }
@@ -73,8 +70,9 @@ pub fn reorder(work: &mut [u8], count: usize, v: u8, o: u8)
     ensures { λ _. ⌜ now (work .exit) ≡ image cubes (length (now (work .entry))) (map (reordered v o) (records cubes count (now (work .entry)))) ⌝ }
 {
     let k = masks_at(v as u32, o);
+    let end = perform::smaller(count, work.len() / list::RECORD_WIDTH);
     let mut i: usize = 0;
-    while i < count {
+    while i < end {
         let c = list::cube_at(work, i);
         list::put_cube(work, i, recoded(k, c));
         i += 1;

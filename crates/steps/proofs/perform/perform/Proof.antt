@@ -20,20 +20,22 @@ enum-told c = search needs
 larger-requires : tie.Need-larger-requires
 larger-requires c κs = search needs
 
+smaller-requires : tie.Need-smaller-requires
+smaller-requires c κs = search needs
+
 remove-requires : tie.Need-remove-requires
 remove-requires c κs = (search needs, search drop-larger)
 
 sub-remove : tie.Need-sub-remove
 sub-remove c = search drop-one
 
-smaller-requires : tie.Need-smaller-requires
-smaller-requires c κs = search needs
-
 remove-requires-2 : tie.Need-remove-requires-2
-remove-requires-2 c κs = (search (removed-held, lawful), search drop-smaller)
+remove-requires-2 c κs =
+    let r = c .before .before .before in
+    (removed-held _ lawful _ _ _ _ (r .before .before .before .before .before .before .before .pre .0) (r .remove .ensures), search drop-smaller)
 
-sub-t16 : tie.Need-sub-t16
-sub-t16 c = search drop-two
+sub-t20 : tie.Need-sub-t20
+sub-t20 c = search drop-two
 
 enum-known-change-2 : tie.Need-enum-known-change-2
 enum-known-change-2 c = search needs
@@ -44,8 +46,8 @@ put-cube-requires c κs = search needs
 remove-requires-3 : tie.Need-remove-requires-3
 remove-requires-3 c κs = (search join-held, search join-below)
 
-sub-t25 : tie.Need-sub-t25
-sub-t25 c = search join-one
+sub-t26 : tie.Need-sub-t26
+sub-t26 c = search join-one
 
 enum-known-change-3 : tie.Need-enum-known-change-3
 enum-known-change-3 c = search needs
@@ -56,8 +58,8 @@ put-cube-requires-2 c κs = search needs
 put-cube-requires-3 : tie.Need-put-cube-requires-3
 put-cube-requires-3 c κs = search needs
 
-add-t31 : tie.Need-add-t31
-add-t31 c =
+add-t32 : tie.Need-add-t32
+add-t32 c =
     let start = c .before .before .before .before .before .before .before .before .before .before .before .before in
     let room : start .args .count < length (now (start .args .work)) / recordWidth = search split-room in
     omega arith
@@ -105,19 +107,19 @@ perform-spec =
     enum-known-change
     enum-told
     larger-requires
+    smaller-requires
     remove-requires
     sub-remove
-    smaller-requires
     remove-requires-2
-    sub-t16
+    sub-t20
     enum-known-change-2
     put-cube-requires
     remove-requires-3
-    sub-t25
+    sub-t26
     enum-known-change-3
     put-cube-requires-2
     put-cube-requires-3
-    add-t31
+    add-t32
     enum-known-change-4
     put-cube-requires-4
     put-cube-requires-5
