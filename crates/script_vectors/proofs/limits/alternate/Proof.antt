@@ -1,11 +1,11 @@
--- `script_vectors::alternate` is safe and ends: the measure is what is left of the script.
+-- `script_vectors::limits::alternate` is safe and ends: the measure is what is left of the script.
 -- Assumes nothing.
 use mathlib.Core.Path.{_≡_}
 use Prim.Native.Nat.{_-_, _≤_}
 use lib.ListN.{length}
 use borrow.Author.Needs.{needs}
-use Rattle.script_vectors.proofs.alternate.Statement.{statement}
-use Rattle.script_vectors.proofs.alternate.Tie as tie
+use Rattle.script_vectors.proofs.limits.alternate.Statement.{statement}
+use Rattle.script_vectors.proofs.limits.alternate.Tie as tie
 
 abbrev Inv-loop : tie.InvT-loop
 Inv-loop script₀ k₀ script k = (length script ≡ length script₀) × (k ≤ length script₀)
