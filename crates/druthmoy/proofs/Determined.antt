@@ -1,6 +1,6 @@
 -- Two outcomes that satisfy the contract of a face are equal: the answer's words, and every byte of each buffer.
 -- Assumes nothing.
-use mathlib.Core.Path.{_≡_, refl, ap, ap₂}
+use mathlib.Core.Path.{refl, ap, ap₂}
 use mathlib.Core.List.{List}
 use Prim.Native.Nat.{ℕ}
 use Rattle.bits.specs.Outcomes.{Determined}

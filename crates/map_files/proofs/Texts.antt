@@ -2,14 +2,13 @@
 -- Assumes nothing.
 use mathlib.Core.Path.{_≡_, refl, sym, ap, _∙_}
 use mathlib.Core.List.{List, [], _∷_, _++_}
-use Prim.Native.Nat.{ℕ, zero, suc, _+_, _≤_, _<_}
+use Prim.Native.Nat.{ℕ, _+_, _≤_, _<_}
 use native.Mathlib.Numerals.{add-one}
 use native.Mathlib.Omega.{arith}
 use lib.ListN.{length, take, set, length-set}
 use lib.Seq.{take-suc-set, length-take-le}
 use Rattle.io.specs.Counts.{Counts}
 use Rattle.cube.specs.declared.Cube.{Cube}
-use Rattle.cube.specs.Lists.{mostVariables}
 use Rattle.cube.specs.Cubes.{code}
 use Rattle.map_files.specs.Writing.{glyph, glyphs, cubeText}
 

@@ -30,25 +30,18 @@ use Rattle.script.proofs.Codec.{meaning-fits}
 use Rattle.script.proofs.Reading.{AcceptedScript, script-accepts}
 use Rattle.settling.specs.declared.Fixed.{Fixed}
 use Rattle.settling.specs.declared.Fixed.the-variants as fixed-is
-use Rattle.settling.specs.declared.Settled.{Settled}
 use Rattle.settling.specs.declared.Settled.the-variants as settled-is
 use Rattle.settling.specs.declared.Settlement.{Settlement}
 use Rattle.settling.specs.Candidates.{burnedList, fixedOf}
-use Rattle.settling.specs.Calls.{checkSettle, fixedValues, ranSettled, settleOutcome, settleWorkBy, settleWork, settleOutBy, settleOut, settled}
+use Rattle.settling.specs.Calls.{checkSettle, fixedValues, ranSettled, settleOutcome, settleWorkBy, settleWork, settleOutBy, settleOut, settled, Called}
 use Rattle.settling.proofs.settle.settle.Kinds as kinds
 use Rattle.settling.proofs.settle.settle.Reads as reads
-
--- settle was called with n, a list, a script and two buffers; it answered r, and left work′ and out′ in the buffers
-pub record Called (n : ℕ) (list script work out : List ℕ) (r : Settled) (work′ out′ : List ℕ) : Type 0 where
-  pub answer : settled r ≡ settleOutcome n list script (length work) (length out)
-  pub work-left : work′ ≡ settleWork n list script work (length out)
-  pub out-left : out′ ≡ settleOut n list script (length work) out
 
 -- whatever the contract of `settle` allows is that: a are the arguments, z the answer, ws the last contents of the buffers
 pub settle-called : (κs : Lfts 4) (a : Dens κs kinds.ps) (z : resT kinds.r κs .Denot) (ws : Lasts (endedOf 4 kinds.ps kinds.r) κs a)
     → reads.Learnt κs a z (atExit (endedOf 4 kinds.ps kinds.r) κs a ws)
-    → Called (a .0) (a .1 .0 .now) (a .1 .1 .0 .now) (a .1 .1 .1 .0 .now) (a .1 .1 .1 .1 .0 .now) z (ws .1 .1 .1 .0) (ws .1 .1 .1 .1 .0)
-settle-called κs a z ws p = record { answer = p .0; work-left = p .1 .0; out-left = p .1 .1 }
+    → Called (a .0) (a .1 .0 .now) (a .1 .1 .0 .now) (a .1 .1 .1 .0 .now) (a .1 .1 .1 .1 .0 .now) (settled z) (ws .1 .1 .1 .0) (ws .1 .1 .1 .1 .0)
+settle-called κs a z ws p = record { answer = p .0; work-is = p .1 .0; out-is = p .1 .1 }
 
 -- ---- what passed before the first step
 
@@ -98,7 +91,7 @@ same-last fixed-is.Absent (fixed-is.Polarity q k) b c e = let z : _≡_ {A = ℕ
 same-last fixed-is.Absent fixed-is.Absent b c e = (refl, cc)
 
 module _ (n : ℕ) (list script work out : List ℕ) (work′ out′ : List ℕ) where
-  pub called-accepted : (s : Settlement) → Called n list script work out (settled-is.Burned s) work′ out′ → Accepting n list script work out s work′ out′
+  pub called-accepted : (s : Settlement) → Called n list script work out (settled (settled-is.Burned s)) work′ out′ → Accepting n list script work out s work′ out′
   unfolding settleOutcome settleWork settleOut
   called-accepted s c =
       let b = both-accepted (checkSettle n list script (length work) (length out)) (ranSettled n (cubesOf list) (runOf n list script (length work))) _ (sym (c .answer)) in
@@ -123,8 +116,8 @@ module _ (n : ℕ) (list script work out : List ℕ) (work′ out′ : List ℕ)
             script-is = script-is;
             fixed-is = last .0;
             burned-is = last .1;
-            work-is = c .work-left ∙ ap (λ (o : Outcome). settleWorkBy o work) e;
-            out-is = c .out-left ∙ ap₂ (λ (o : Outcome) (r : Ran). settleOutBy o n (cubesOf list) r out) e f;
+            work-is = c .work-is ∙ ap (λ (o : Outcome). settleWorkBy o work) e;
+            out-is = c .out-is ∙ ap₂ (λ (o : Outcome) (r : Ran). settleOutBy o n (cubesOf list) r out) e f;
           }
 
 -- ---- a refused call
@@ -143,7 +136,7 @@ pub record AtStep (n : ℕ) (list script work out : List ℕ) (r : Refusal) (wor
   pub out-kept : out′ ≡ out
 
 module _ (n : ℕ) (list script work out : List ℕ) (work′ out′ : List ℕ) where
-  pub called-refused : (r : Refusal) → Called n list script work out (settled-is.Refused r) work′ out′
+  pub called-refused : (r : Refusal) → Called n list script work out (refused r) work′ out′
       → Before n list script work out r work′ out′ ⊎ AtStep n list script work out r work′ out′
   unfolding settleOutcome settleWork settleOut
   called-refused r c =
@@ -155,8 +148,8 @@ module _ (n : ℕ) (list script work out : List ℕ) (work′ out′ : List ℕ)
       first (refused q) e ran f h =
           inl (record {
             found = e ∙ h;
-            work-kept = c .work-left ∙ ap (λ (o : Outcome). settleWorkBy o work) e;
-            out-kept = c .out-left ∙ ap (λ (o : Outcome). settleOutBy o n (cubesOf list) (runOf n list script (length work)) out) e;
+            work-kept = c .work-is ∙ ap (λ (o : Outcome). settleWorkBy o work) e;
+            out-kept = c .out-is ∙ ap (λ (o : Outcome). settleOutBy o n (cubesOf list) (runOf n list script (length work)) out) e;
           })
       first (accepted v) e (ended result peak) f h = absurd (not-both h)
       first (accepted v) e (stopped number step) f h =
@@ -164,6 +157,6 @@ module _ (n : ℕ) (list script work out : List ℕ) (work′ out′ : List ℕ)
           inr (record {
             passed = passing n list script (length work) (length out) v e;
             found = f ∙ ap (λ (q : Refusal). stopped (q .number) (q .place)) is;
-            work-cleared = c .work-left ∙ ap (λ (o : Outcome). settleWorkBy o work) e;
-            out-kept = c .out-left ∙ ap₂ (λ (o : Outcome) (r : Ran). settleOutBy o n (cubesOf list) r out) e f;
+            work-cleared = c .work-is ∙ ap (λ (o : Outcome). settleWorkBy o work) e;
+            out-kept = c .out-is ∙ ap₂ (λ (o : Outcome) (r : Ran). settleOutBy o n (cubesOf list) r out) e f;
           })

@@ -30,8 +30,8 @@ use Rattle.script.proofs.Value.{not-ended}
 use Rattle.script.proofs.Stopping.{Refused, run-refused, run-refused-place, run-refused-number}
 use Rattle.settling.specs.declared.Settled.the-variants as settled-is
 use Rattle.settling.specs.declared.Settlement.{Settlement}
-use Rattle.settling.specs.Calls.{checkSettle}
-use Rattle.settling.proofs.Calling.{Called, Passing, called-refused, called-accepted}
+use Rattle.settling.specs.Calls.{checkSettle, settled, Called}
+use Rattle.settling.proofs.Calling.{Passing, called-refused, called-accepted}
 
 -- ---- the refusals before the first step, by number and place
 
@@ -138,7 +138,7 @@ pub record RefusedAtStep (n : ℕ) (list script work out : List ℕ) (r : Refusa
 
 module _ (n : ℕ) (list script work out : List ℕ) (work′ out′ : List ℕ) where
   -- A refused call is one or the other.
-  pub refused-call : (r : Refusal) → Called n list script work out (settled-is.Refused r) work′ out′
+  pub refused-call : (r : Refusal) → Called n list script work out (refused r) work′ out′
       → RefusedBefore n list script work out r work′ out′ ⊎ RefusedAtStep n list script work out r work′ out′
   unfolding runOf
   refused-call r c =
@@ -159,12 +159,12 @@ module _ (n : ℕ) (list script work out : List ℕ) (work′ out′ : List ℕ)
       (called-refused n list script work out work′ out′ r c)
 
   -- Bad input is refused: of an accepted call nothing is wrong ..
-  pub accepted-not-wrong : (s : Settlement) → Called n list script work out (settled-is.Burned s) work′ out′
+  pub accepted-not-wrong : (s : Settlement) → Called n list script work out (settled (settled-is.Burned s)) work′ out′
       → (number place : ℕ) → Wrong n list script (length work) (length out) number place → ⊥
   accepted-not-wrong s c number place w = not-wrong (called-accepted n list script work out work′ out′ s c .passed) w
 
   -- .. and nothing else is: where nothing is wrong and the script ends, the call is not refused.
-  pub only-bad-refused : (r : Refusal) → Called n list script work out (settled-is.Refused r) work′ out′
+  pub only-bad-refused : (r : Refusal) → Called n list script work out (refused r) work′ out′
       → ((number place : ℕ) → Wrong n list script (length work) (length out) number place → ⊥)
       → (m : List Cube) (peak : ℕ) → run n (cubeCapacity (length work)) (stepsOf script) (cubesOf list) ≡ ended m peak → ⊥
   unfolding runOf
@@ -175,5 +175,5 @@ module _ (n : ℕ) (list script work out : List ℕ) (work′ out′ : List ℕ)
       (called-refused n list script work out work′ out′ r c)
 
   -- An accepted call leaves the work buffer all zero.
-  pub accepted-call : (s : Settlement) → Called n list script work out (settled-is.Burned s) work′ out′ → work′ ≡ zeros (length work)
+  pub accepted-call : (s : Settlement) → Called n list script work out (settled (settled-is.Burned s)) work′ out′ → work′ ≡ zeros (length work)
   accepted-call s c = called-accepted n list script work out work′ out′ s c .work-is

@@ -29,7 +29,8 @@ use Rattle.settling.specs.declared.Settlement.{Settlement}
 use Rattle.settling.specs.Candidates.{bestOf, bestForm, burnedList}
 use Rattle.settling.proofs.SettleLaws.{burned-le-given, burned-le-result}
 use Rattle.settling.proofs.Fewest.{burned-form, burned-one, best-form-value, best-form-least}
-use Rattle.settling.proofs.Calling.{Called, Accepting, called-accepted}
+use Rattle.settling.specs.Calls.{settled, Called}
+use Rattle.settling.proofs.Calling.{Accepting, called-accepted}
 
 -- the list we burn: the first records of the output buffer, as many as settle answers
 abbrev pub burnedIn : Settlement → List ℕ → List Cube
@@ -43,7 +44,7 @@ pub record EndsIn (n : ℕ) (list script work : List ℕ) (s : Settlement) : Typ
 
 -- a call that was not refused
 module _ (n : ℕ) (list script work out : List ℕ) (s : Settlement) (work′ out′ : List ℕ)
-    (c : Called n list script work out (settled-is.Burned s) work′ out′) where
+    (c : Called n list script work out (settled (settled-is.Burned s)) work′ out′) where
   acc : Accepting n list script work out s work′ out′
   acc = called-accepted n list script work out work′ out′ s c
 

@@ -39,7 +39,8 @@ use Rattle.settling.specs.declared.Fixed.the-variants as fixed-is
 use Rattle.settling.specs.declared.Settled.the-variants as settled-is
 use Rattle.settling.specs.declared.Settlement.{Settlement}
 use Rattle.settling.specs.Candidates.{bestForm, fixedOf}
-use Rattle.settling.proofs.Calling.{Called, Accepting, called-accepted}
+use Rattle.settling.specs.Calls.{settled, Called}
+use Rattle.settling.proofs.Calling.{Accepting, called-accepted}
 
 -- ---- "The value of a list"
 
@@ -181,7 +182,7 @@ script-result = counting.run-result
 -- ---- the counts that settle answers, of a call that was not refused
 
 module _ (n : ℕ) (list script work out : List ℕ) (s : Settlement) (work′ out′ : List ℕ)
-    (c : Called n list script work out (settled-is.Burned s) work′ out′) where
+    (c : Called n list script work out (settled (settled-is.Burned s)) work′ out′) where
   acc : Accepting n list script work out s work′ out′
   acc = called-accepted n list script work out work′ out′ s c
 

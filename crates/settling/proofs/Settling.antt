@@ -26,19 +26,13 @@ use Rattle.script.proofs.Counting.{run-peak-capacity, run-last}
 use Rattle.settling.specs.declared.Burning.{Burning}
 use Rattle.settling.specs.Candidates.{burnedList}
 use Rattle.settling.specs.Choice.{Burns, BurningIs}
-use Rattle.settling.specs.Calls.{checkSettle, fixedValues, ranSettled, settleOutcome, settleWorkBy, settleWork, settleOutBy, settleOut}
-
--- the answer and both buffers are what document 01 says
-pub record Settles (n : ℕ) (list script work out work′ out′ : List ℕ) (o : Outcome) : Type 0 where
-  pub answer : o ≡ settleOutcome n list script (length work) (length out)
-  pub work-is : work′ ≡ settleWork n list script work (length out)
-  pub out-is : out′ ≡ settleOut n list script (length work) out
+use Rattle.settling.specs.Calls.{checkSettle, fixedValues, ranSettled, settleOutcome, settleWorkBy, settleWork, settleOutBy, settleOut, Called}
 
 module _ (n : ℕ) (list script work out : List ℕ) where
   -- by the checks before the first step, and the run
   by-parts : (o : Outcome) (ran : Ran) → checkSettle n list script (length work) (length out) ≡ o → runOf n list script (length work) ≡ ran
       → (work′ out′ : List ℕ) (a : Outcome) → a ≡ andThen o (ranSettled n (cubesOf list) ran) → work′ ≡ settleWorkBy o work → out′ ≡ settleOutBy o n (cubesOf list) ran out
-      → Settles n list script work out work′ out′ a
+      → Called n list script work out a work′ out′
   unfolding settleOutcome settleWork settleOut
   by-parts o ran e er work′ out′ a ea ew eo = record {
     answer = ea ∙ sym (ap₂ (λ (x : Outcome) (t : Ran). andThen x (ranSettled n (cubesOf list) t)) e er);
@@ -46,10 +40,10 @@ module _ (n : ℕ) (list script work out : List ℕ) where
     out-is = eo ∙ sym (ap₂ (λ (x : Outcome) (t : Ran). settleOutBy x n (cubesOf list) t out) e er);
   }
 
-  settle-refused : (r : Refusal) → checkSettle n list script (length work) (length out) ≡ refused r → Settles n list script work out work out (refused r)
+  settle-refused : (r : Refusal) → checkSettle n list script (length work) (length out) ≡ refused r → Called n list script work out (refused r) work out
   settle-refused r e = by-parts (refused r) _ e refl work out (refused r) refl refl refl
 
-  pub list-refused : (r : Refusal) → checkList mostVariables n list ≡ refused r → Settles n list script work out work out (refused r)
+  pub list-refused : (r : Refusal) → checkList mostVariables n list ≡ refused r → Called n list script work out (refused r) work out
   unfolding checkSettle
   list-refused r e = settle-refused r (and-not _ _ r e)
 
@@ -63,7 +57,7 @@ module _ (n : ℕ) (list script work out : List ℕ) where
         let s = unless-at-accepted (good n) 4 (cubesOf list) _ _ (r .1) in
         ap (λ (v : List ℕ). getD v 0 0) (sym (accepted-values (s .1)))
 
-    pub work-short : (room : ℕ) → room ≡ cubeCapacity (length work) → room < given → (r : Refusal) → r ≡ refusal 5 0 → Settles n list script work out work out (refused r)
+    pub work-short : (room : ℕ) → room ≡ cubeCapacity (length work) → room < given → (r : Refusal) → r ≡ refusal 5 0 → Called n list script work out (refused r) work out
     unfolding checkSettle
     work-short room er h r e =
         settle-refused r
@@ -76,7 +70,7 @@ module _ (n : ℕ) (list script work out : List ℕ) where
       room-work : length (cubesOf list) ≤ cubeCapacity (length work)
       room-work = omega (arith, er, given-is, h)
 
-      pub out-short : (place : ℕ) → place ≡ cubeCapacity (length out) → place < given → (r : Refusal) → r ≡ refusal 5 0 → Settles n list script work out work out (refused r)
+      pub out-short : (place : ℕ) → place ≡ cubeCapacity (length out) → place < given → (r : Refusal) → r ≡ refusal 5 0 → Called n list script work out (refused r) work out
       unfolding checkSettle
       out-short place ep k r e =
           settle-refused r
@@ -97,12 +91,12 @@ module _ (n : ℕ) (list script work out : List ℕ) where
             (ap (λ (t : Bool). unless (leb (length (cubesOf list)) (cubeCapacity (length work))) 5 0 (unless t 5 0 (checkScript n script))) (le-leb _ _ room-out))
 
         pub run-refused : (r : Refusal) (work′ : List ℕ) → refused r ≡ runOutcome n list script (length work) → work′ ≡ runAfter n list script work
-            → Settles n list script work out work′ out (refused r)
+            → Called n list script work out (refused r) work′ out
         unfolding runOutcome runAfter
         run-refused r work′ e ew = go (checkRun n list script (length work)) refl (runOf n list script (length work)) refl e ew
           where
             go : (o : Outcome) → checkRun n list script (length work) ≡ o → (ran : Ran) → runOf n list script (length work) ≡ ran
-                → refused r ≡ andThen o (ranOutcome ran) → work′ ≡ workAfter o work ran → Settles n list script work out work′ out (refused r)
+                → refused r ≡ andThen o (ranOutcome ran) → work′ ≡ workAfter o work ran → Called n list script work out (refused r) work′ out
             go (accepted v) eo (stopped number step) et a w = by-parts (accepted v) (stopped number step) (same-check ∙ eo) et work′ out (refused r) a w refl
             go (accepted v) eo (ended m p) et a w = absurd (not-both (sym a))
             go (refused q) eo ran et a w = by-parts (refused q) ran (same-check ∙ eo) et work′ out (refused r) a w refl
@@ -162,7 +156,7 @@ module _ (n : ℕ) (list script work out : List ℕ) where
 
           pub run-settled : (out′ : List ℕ) (b : Burning) → BurningIs n (records cubes count work′) (cubesOf list) out out′ b
               → (work″ : List ℕ) → work″ ≡ zeros (length work′) → length work′ ≡ length work
-              → Settles n list script work out work″ out′ (accepted (given ∷ peak ∷ count ∷ (fixedValues (b .fixed) ++ (b .burned ∷ []))))
+              → Called n list script work out (accepted (given ∷ peak ∷ count ∷ (fixedValues (b .fixed) ++ (b .burned ∷ [])))) work″ out′
           run-settled out′ b is work″ cleared long =
               let t = ran-to in
               by-parts (accepted (t .values)) (ended (t .result) peak) (same-check ∙ t .checked) (t .is) work″ out′ _

@@ -1,6 +1,6 @@
 -- `answers::put_finished` meets its contract.
 -- Assumes nothing.
-use mathlib.Core.Path.{_≡_, sym, ap}
+use mathlib.Core.Path.{sym, ap}
 use Rattle.script.specs.Calls.{finished}
 use Rattle.druthmoy.specs.Faces.{words}
 use Rattle.druthmoy.proofs.Words.{words-of}

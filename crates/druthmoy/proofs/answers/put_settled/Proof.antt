@@ -1,6 +1,6 @@
 -- `answers::put_settled` meets its contract.
 -- Assumes nothing.
-use mathlib.Core.Path.{_≡_, sym, ap}
+use mathlib.Core.Path.{sym, ap}
 use Rattle.settling.specs.Calls.{settled}
 use Rattle.druthmoy.specs.Faces.{settledWords}
 use Rattle.druthmoy.proofs.Words.{words-of}

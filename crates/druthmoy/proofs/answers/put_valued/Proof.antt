@@ -1,6 +1,6 @@
 -- `answers::put_valued` meets its contract.
 -- Assumes nothing.
-use mathlib.Core.Path.{_≡_, sym, ap}
+use mathlib.Core.Path.{sym, ap}
 use Rattle.cube.specs.Calls.{valued}
 use Rattle.druthmoy.specs.Faces.{words}
 use Rattle.druthmoy.proofs.Words.{words-of}
