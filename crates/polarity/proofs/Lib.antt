@@ -1,6 +1,7 @@
 pub mod Subsets
 pub mod Parities
 pub mod Passing
+pub mod Blocks
 pub mod Moving
 pub mod Checks
 pub mod Listing

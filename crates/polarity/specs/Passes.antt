@@ -1,11 +1,11 @@
 -- What the functions inside do to a buffer: one pass for each variable, a move by EXOR, and counting. None of it is needed to read the calls.
 -- Assumes nothing.
 use mathlib.Core.Path.{_≡_}
-use mathlib.Core.Bool.{Bool, not, cond}
+use mathlib.Core.Bool.{Bool, not, cond, _&&_}
 use mathlib.Core.List.{List}
-use Prim.Native.Nat.{ℕ, _-_, _^_, _<_}
+use Prim.Native.Nat.{ℕ, _+_, _-_, _^_, _<_}
 use lib.Bits.{bitXor}
-use lib.Dec.{eqb, ltb}
+use lib.Dec.{eqb, leb, ltb}
 use lib.ListN.{length, set}
 use Rattle.bits.specs.Bits.{bit}
 use Rattle.bits.specs.Below.{listBelow}
@@ -23,6 +23,10 @@ pub record Ready (n : ℕ) (l : List ℕ) (p : ℕ) (buffer : List ℕ) : Type 0
 -- where t has variable k, f there and f without it, EXOR; else f
 unfoldable pub added : ℕ → (ℕ → ℕ) → ℕ → ℕ
 added k f t = cond (eqb (bit t k) 1) (bitXor (f t) (f (t - 2 ^ k))) (f t)
+
+-- in the upper half of the block of 2 h indices at `from`, f there and f h before, EXOR; else f
+unfoldable pub addedBlock : ℕ → ℕ → (ℕ → ℕ) → ℕ → ℕ
+addedBlock from h f t = cond (leb (from + h) t && ltb t (from + h + h)) (bitXor (f t) (f (t - h))) (f t)
 
 -- the parities over all sets within each
 abbrev pub parities : ℕ → List ℕ → List ℕ

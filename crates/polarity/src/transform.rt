@@ -3,26 +3,39 @@ use crate::vector;
 use records::Counted;
 use records::Refusal;
 ghost use mathlib.Core.Path.{_≡_};
-ghost use Prim.Native.Nat.{ℕ, _<_, _^_};
+ghost use Prim.Native.Nat.{ℕ, suc, _+_, _^_, _≤_, _<_, _∣_};
 ghost use lib.ListN.{length};
 ghost use lib.Bits.{bitXor};
 ghost use Rattle.bits.specs.Below.{listBelow};
 ghost use Rattle.records.specs.Answers.{counted};
 ghost use Rattle.polarity.specs.Vectors.{byteAt, Vector, coefficientVector, vectorBack};
 ghost use Rattle.polarity.specs.Calls.{coefficientsOutcome, coefficientsAfter, backAfter};
-ghost use Rattle.polarity.specs.Passes.{Ready, added, parities, moved, exchanged};
+ghost use Rattle.polarity.specs.Passes.{Ready, added, addedBlock, parities, moved, exchanged};
 
-// To each byte whose index has variable k, the byte at the index without it is added, modulo 2.
+// To each byte of the upper half of the block of 2h bytes at `from`, the byte h before it is added, modulo 2.
+fn add_block(v: &mut [u8], from: usize, h: usize)
+    requires { ⌜ from + h + h ≤ length (now v) ⌝ }
+    ensures { λ _. ⌜ now (v .exit) ≡ listBelow (length (now (v .entry))) (addedBlock from h (byteAt (now (v .entry)))) ⌝ }
+{
+    let mut t: usize = 0;
+    while t < h {
+        let low = from + t;
+        let high = low + h;
+        v[high] = v[high] ^ v[low];
+        t += 1;
+    }
+}
+
+// To each byte whose index has variable k, the byte at the index without it is added, modulo 2. These are the upper halves of the blocks of 2^(k+1) bytes.
 fn add_without(v: &mut [u8], k: usize)
-    requires { ⌜ k < 64 ⌝ }
+    requires { ⌜ (k < 64) × (2 ^ suc k ∣ length (now v)) ⌝ }
     ensures { λ _. ⌜ now (v .exit) ≡ listBelow (length (now (v .entry))) (added k (byteAt (now (v .entry)))) ⌝ }
 {
     let h: usize = 1 << k;
-    let mut t = h;
-    while t < v.len() {
-        let without = t - h;
-        v[t] = v[t] ^ v[without];
-        t = (t + 1) | h;
+    let mut from: usize = 0;
+    while from + h < v.len() {
+        add_block(v, from, h);
+        from = from + h + h;
     }
 }
 

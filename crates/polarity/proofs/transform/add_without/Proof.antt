@@ -5,15 +5,15 @@ use mathlib.Core.Path.{refl}
 use native.Mathlib.Omega.{arith}
 use lib.ListN.{length}
 use borrow.Author.Needs.{needs}
-use Rattle.polarity.proofs.Passing.{Adding, adding-none, adding-step, adding-on, adding-more, adding-all}
+use Rattle.polarity.proofs.Blocks.{Adding, adding-none, adding-half, adding-room, adding-more, adding-all}
 use Rattle.polarity.proofs.transform.add_without.Statement.{statement}
 use Rattle.polarity.proofs.transform.add_without.Tie as tie
 
 abbrev Inv-loop : tie.InvT-loop
-Inv-loop v₀ k h t₀ v t = Adding k h v₀ v t
+Inv-loop v₀ k h from₀ v from = Adding k h v₀ v from
 
 abbrev μ-loop : tie.MeasureT-loop
-μ-loop v₀ k h t₀ v t = length v₀ - t
+μ-loop v₀ k h from₀ v from = length v₀ - from
 
 shl-h : tie.Need-shl-h Inv-loop μ-loop
 shl-h c = search needs
@@ -21,26 +21,27 @@ shl-h c = search needs
 loop-holds : tie.Need-loop-holds Inv-loop μ-loop
 loop-holds c = adding-none _ _ _ (search needs) refl
 
-sub-without : tie.Need-sub-without Inv-loop μ-loop
-sub-without c = search adding-step
+add-loop : tie.Need-add-loop Inv-loop μ-loop
+add-loop c = omega (arith, adding-half _ _ _ _ _ (c .loop .inv) (c .before .before .pre .0))
 
-slice-read-v : tie.Need-slice-read-v Inv-loop μ-loop
-slice-read-v c = search needs
+add-block-requires : tie.Need-add-block-requires Inv-loop μ-loop
+add-block-requires c κs = search adding-room
 
-slice-read-v-2 : tie.Need-slice-read-v-2 Inv-loop μ-loop
-slice-read-v-2 c = search needs
+add-from : tie.Need-add-from Inv-loop μ-loop
+add-from c = search needs
 
-slice-write-v : tie.Need-slice-write-v Inv-loop μ-loop
-slice-write-v c = search needs
-
-add-t : tie.Need-add-t Inv-loop μ-loop
-add-t c = search needs
+add-from-2 : tie.Need-add-from-2 Inv-loop μ-loop
+add-from-2 c =
+    let l = c .before .before .before .before .before in
+    omega (arith, adding-room _ _ _ _ _ (l .loop .inv) (l .before .before .pre .1) (c .before .before .before .before .loop-test .taken))
 
 loop-less : tie.Need-loop-less Inv-loop μ-loop
-loop-less c = let l = c .before .before .before in omega (arith, l .loop .inv .passed .long, adding-on _ _ _ _ _ (l .loop .inv))
+loop-less c =
+    let l = c .before .before .before .before .before in
+    omega (arith, l .loop .inv .passed .long, adding-half _ _ _ _ _ (l .loop .inv) (l .before .before .pre .0))
 
 loop-again : tie.Need-loop-again Inv-loop μ-loop
-loop-again c = search adding-more
+loop-again c = search (adding-more, adding-room)
 
 same-length : tie.Need-same-length Inv-loop μ-loop
 same-length c = c .before .loop .inv .passed .long
@@ -56,11 +57,10 @@ add-without-spec =
     μ-loop
     shl-h
     loop-holds
-    sub-without
-    slice-read-v
-    slice-read-v-2
-    slice-write-v
-    add-t
+    add-loop
+    add-block-requires
+    add-from
+    add-from-2
     loop-less
     loop-again
     same-length

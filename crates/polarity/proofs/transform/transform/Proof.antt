@@ -3,7 +3,7 @@
 use Prim.Native.Nat.{_-_}
 use mathlib.Core.Path.{sym, _∙_}
 use borrow.Author.Needs.{needs}
-use Rattle.polarity.proofs.Passing.{Through, through-none, through-long, through-more, through-all}
+use Rattle.polarity.proofs.Passing.{Through, through-none, through-long, through-blocks, through-more, through-all}
 use Rattle.polarity.proofs.transform.transform.Statement.{statement}
 use Rattle.polarity.proofs.transform.transform.Tie as tie
 
@@ -17,7 +17,7 @@ loop-holds : tie.Need-loop-holds Inv-loop μ-loop
 loop-holds c = search through-none
 
 add-without-requires : tie.Need-add-without-requires Inv-loop μ-loop
-add-without-requires c κs = search needs
+add-without-requires c κs = (search needs, search through-blocks)
 
 add-k : tie.Need-add-k Inv-loop μ-loop
 add-k c = search needs
