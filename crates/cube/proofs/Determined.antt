@@ -13,8 +13,6 @@ use Rattle.cube.specs.declared.Valued.the-variants as valued-is
 use Rattle.cube.specs.Calls.{valued}
 use Rattle.cube.proofs.Cube.literal.Kinds as literal-kinds
 use Rattle.cube.proofs.Cube.literal.Reads as literal-reads
-use Rattle.cube.proofs.Cube.decoded.Kinds as decoded-kinds
-use Rattle.cube.proofs.Cube.decoded.Reads as decoded-reads
 use Rattle.cube.proofs.Cube.code_at.Kinds as code-at-kinds
 use Rattle.cube.proofs.Cube.code_at.Reads as code-at-reads
 use Rattle.cube.proofs.Cube.with_code.Kinds as with-code-kinds
@@ -52,9 +50,6 @@ valued-known (valued-is.Refused r) = refl
 
 pub literal-determined : Determined 0 literal-kinds.ps literal-kinds.r literal-reads.Learnt
 literal-determined κs a z z′ ws ws′ p q = (same p q, refl)
-
-pub decoded-determined : Determined 0 decoded-kinds.ps decoded-kinds.r decoded-reads.Learnt
-decoded-determined κs a z z′ ws ws′ p q = (same p q, refl)
 
 pub code-at-determined : Determined 0 code-at-kinds.ps code-at-kinds.r code-at-reads.Learnt
 code-at-determined κs a z z′ ws ws′ p q = (same p q, refl)

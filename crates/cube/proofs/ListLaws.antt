@@ -13,17 +13,17 @@ use borrow.Author.Tests.{le-leb, lt-leb, eq-eqb, ne-eqb, leb-true, eqb-true}
 use native.Mathlib.Numerals.{add-one, add-two, add-three}
 use Rattle.bits.specs.Sums.{All, firstBad}
 use Rattle.bits.proofs.Sums.{all-get-or, all-each}
-use Rattle.records.specs.Words.{wordOf, wordAt}
+use Rattle.records.specs.Words.{wordOf, wordAt, wordSize}
 use Rattle.records.specs.Records.{flat, image, filled, records, stored, capacityOf}
 use Rattle.records.specs.declared.Refusal.{Refusal}
 use Rattle.records.specs.Answers.{accepted, refused, refusal, unlessAt}
-use Rattle.records.proofs.WordLaws.{word-back, word-low, word-high, cut-low, cut-high}
+use Rattle.records.proofs.WordLaws.{word-back, word-low, word-high, word-lt, cut-low, cut-high}
 use Rattle.records.proofs.Images.{image-get, flat-listBelow}
 use Rattle.records.proofs.Holding.{Lawful, length-list, list-at, list-past, stored-in, stored-out}
 use Rattle.records.proofs.Answering.{unless-accepted, unless-at-accepted, unless-at-refused, unless-at-passed}
 use Rattle.cube.specs.declared.Cube.{Cube}
 use Rattle.cube.specs.Cubes.{one, good, Good}
-use Rattle.cube.specs.Lists.{cubes, cubesOf, narrow, recordWidth, mostRecords, cubeCapacity}
+use Rattle.cube.specs.Lists.{cubes, cubesOf, narrow, halves, recordWidth, mostRecords, cubeCapacity}
 use Rattle.cube.specs.Calls.{checkList}
 use Rattle.cube.proofs.Codes.{good-parts, good-seen, good-value, good-more, one-good}
 
@@ -76,14 +76,29 @@ cubes-bytes k s e small = flat-listBelow (cubes .enc) 4 four k (cubes .read s) s
 
 -- ---- a cube read and stored
 
-pub cube-in : (b : List ℕ) (i : ℕ) → i < length b / recordWidth
-    → record {
-      seen = wordOf (getD b (recordWidth * i) 0) (getD b (recordWidth * i + 1) 0);
-      value = wordOf (getD b (recordWidth * i + 2) 0) (getD b (recordWidth * i + 3) 0);
-    } ≡ getD (cubesOf b) i one
-cube-in b i h =
-    ap (λ (k : ℕ). record { seen = wordAt b (4 * i); value = wordOf (getD b (4 * i + 2) 0) (getD b k 0) }) (last (4 * i)) ∙ sym (list-at cubes b i one h)
+-- two numbers as the halves of one
+halves-join : (s v : ℕ) → s < wordSize → halves (s + wordSize * v) ≡ record { seen = s; value = v }
+halves-join s v h =
+    let low : (s + 65536 * v) % 65536 ≡ s = omega arith in
+    let high : (s + 65536 * v) / 65536 ≡ v = omega arith in
+    λ k. record { seen = low k; value = high k }
+
+pub halves-narrow : (c : Cube) → halves (c .seen % wordSize + wordSize * (c .value % wordSize)) ≡ narrow c
+halves-narrow c = halves-join (c .seen % 65536) (c .value % 65536) (omega arith)
+
+-- four bytes read as one number
+pub word-in : (b : List ℕ) (i : ℕ) → i < length b / recordWidth → ((k : ℕ) → getD b k 0 < 256)
+    → halves (getD b (recordWidth * i) 0 + 256 * getD b (recordWidth * i + 1) 0 + 65536 * getD b (recordWidth * i + 2) 0 + 16777216 * getD b (recordWidth * i + 3) 0)
+    ≡ getD (cubesOf b) i one
+word-in b i h small =
+    ap halves (joined (getD b (4 * i) 0) (getD b (4 * i + 1) 0) (getD b (4 * i + 2) 0) (getD b (4 * i + 3) 0))
+    ∙ halves-join (wordAt b (4 * i)) _ (word-lt _ _ (small (4 * i)) (small (4 * i + 1)))
+    ∙ ap (λ (k : ℕ). record { seen = wordAt b (4 * i); value = wordOf (getD b (4 * i + 2) 0) (getD b k 0) }) (last (4 * i))
+    ∙ sym (list-at cubes b i one h)
   where
+    joined : (w x y z : ℕ) → w + 256 * x + 65536 * y + 16777216 * z ≡ wordOf w x + wordSize * wordOf y z
+    joined w x y z = omega arith
+
     last : (x : ℕ) → x + 3 ≡ x + 2 + 1
     last x = omega arith
 
@@ -91,20 +106,21 @@ pub cube-past : (b : List ℕ) (i : ℕ) → length b / recordWidth ≤ i → on
 cube-past b i h = sym (list-past cubes b i one h)
 
 -- four stores in a row
-pub cube-stored : (b : List ℕ) (i : ℕ) (c : Cube) (x0 x1 x2 x3 : ℕ) → i < length b / recordWidth
-    → x0 ≡ c .seen % 256 → x1 ≡ c .seen / 256 % 256 → x2 ≡ c .value % 256 → x3 ≡ c .value / 256 % 256
-    → set (set (set (set b (recordWidth * i) x0) (recordWidth * i + 1) x1) (recordWidth * i + 2) x2) (recordWidth * i + 3) x3 ≡ stored cubes b i (narrow c)
-cube-stored b i c x0 x1 x2 x3 h e0 e1 e2 e3 =
+pub word-stored : (b : List ℕ) (i x x0 x1 x2 x3 : ℕ) → i < length b / recordWidth → x < wordSize * wordSize
+    → x0 ≡ x % 256 → x1 ≡ x / 256 % 256 → x2 ≡ x / wordSize % 256 → x3 ≡ x / wordSize / 256 % 256
+    → set (set (set (set b (recordWidth * i) x0) (recordWidth * i + 1) x1) (recordWidth * i + 2) x2) (recordWidth * i + 3) x3 ≡ stored cubes b i (halves x)
+word-stored b i x x0 x1 x2 x3 h fits e0 e1 e2 e3 =
+    let top : x / 65536 / 256 < 256 = omega arith in
     rw (
-      e0 ∙ sym (cut-low (c .seen)),
-      e1 ∙ sym (cut-high (c .seen)),
-      e2 ∙ sym (cut-low (c .value)),
-      e3 ∙ sym (cut-high (c .value)),
+      e0 ∙ sym (cut-low x),
+      e1 ∙ sym (cut-high x),
+      e2,
+      e3 ∙ mod-eq-of-lt top,
       add-one (4 * i),
       add-two (4 * i),
       add-three (4 * i),
     )
-    (sym (stored-in cubes b i (narrow c) h))
+    (sym (stored-in cubes b i (halves x) h))
 
 pub cube-not-stored : (b : List ℕ) (i : ℕ) (c : Cube) → length b / recordWidth ≤ i → b ≡ stored cubes b i (narrow c)
 cube-not-stored b i c h = sym (stored-out cubes b i (narrow c) h)

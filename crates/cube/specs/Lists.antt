@@ -1,7 +1,7 @@
 -- Lists of cubes, their records of four bytes, and their value. Document 01, "Cubes and lists" and "Limits".
 -- Assumes nothing.
 use mathlib.Core.List.{List, _++_}
-use Prim.Native.Nat.{ℕ, _+_, _*_, _%_, _^_}
+use Prim.Native.Nat.{ℕ, _+_, _*_, _/_, _%_, _^_}
 use Rattle.bits.specs.Below.{listBelow}
 use Rattle.bits.specs.Sums.{tally}
 use Rattle.records.specs.Words.{word, wordAt, wordSize}
@@ -36,6 +36,10 @@ cubes = record {
   read = λ b i. record { seen = wordAt b (recordWidth * i); value = wordAt b (recordWidth * i + 2) };
   none = one;
 }
+
+-- the cube of a record whose bytes are read as one number of four
+abbrev pub halves : ℕ → Cube
+halves x = record { seen = x % wordSize; value = x / wordSize }
 
 -- what of a cube fits a record
 abbrev pub narrow : Cube → Cube

@@ -10,7 +10,6 @@ ghost use lib.Dec.{eqb};
 ghost use Rattle.bits.specs.Bits.{withBit};
 ghost use Rattle.bits.specs.Sums.{oneIf};
 ghost use Prim.Native.Nat.{_<_};
-ghost use Rattle.records.specs.Words.{wordOf};
 ghost use Rattle.cube.specs.Cubes.{code, withCode, one, good, differing};
 
 // Bit k of seen is set where variable k has a literal, and bit k of value holds that literal's code.
@@ -49,16 +48,6 @@ impl Cube {
         ensures { λ r. ⌜ r ≡ withCode one v x ⌝ }
     {
         Cube::ONE.with_code(v, x)
-    }
-
-    // The cube of a record's bytes.
-    pub fn decoded(seen_low: u8, seen_high: u8, value_low: u8, value_high: u8) -> Cube
-        ensures { λ r. ⌜ r ≡ record { seen = wordOf «seen_low» «seen_high»; value = wordOf «value_low» «value_high» } ⌝ }
-    {
-        Cube {
-            seen: records::words::word(seen_low, seen_high),
-            value: records::words::word(value_low, value_high),
-        }
     }
 
     // The literal code at variable v.

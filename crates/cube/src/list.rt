@@ -2,17 +2,22 @@
 use crate::Cube;
 use records::Counted;
 use records::Refusal;
+use records::words;
 ghost use mathlib.Core.Path.{_≡_};
+ghost use Prim.Native.Nat.{_<_, _/_};
 ghost use lib.ListN.{length, getD};
 ghost use Rattle.bits.specs.Sums.{firstBad};
 ghost use Rattle.records.specs.Records.{stored};
 ghost use Rattle.records.specs.Answers.{counted};
 ghost use Rattle.cube.specs.Cubes.{one, good};
-ghost use Rattle.cube.specs.Lists.{cubes, cubesOf, narrow, cubeCapacity, mostVariables};
+ghost use Rattle.cube.specs.Lists.{cubes, cubesOf, narrow, halves, recordWidth, cubeCapacity, mostVariables};
 ghost use Rattle.cube.specs.Calls.{checkList};
 
 // Bytes of a record.
 pub const RECORD_WIDTH: usize = 4;
+
+// How many numbers a half of a record holds: seen is the low half of its four bytes, value the high one.
+const HALF: u32 = 65536;
 
 // Records of a list, at most.
 pub const MOST_RECORDS: usize = 4096;
@@ -31,6 +36,31 @@ pub fn capacity(size: usize) -> usize
     MOST_RECORDS
 }
 
+// The four bytes at place i of a list as one number, the low one first. They meet in the result of a function of its own,
+// because only then does the compiler read them by one load.
+fn word_at(list: &[u8], i: usize) -> u32
+    requires { ⌜ i < length (now list) / recordWidth ⌝ }
+    ensures { λ r. ⌜ halves r ≡ getD (cubesOf (now (list .entry))) i one ⌝ }
+{
+    let at = RECORD_WIDTH * i;
+    list[at] as u32
+        + 256 * (list[at + 1] as u32)
+        + 65536 * (list[at + 2] as u32)
+        + 16777216 * (list[at + 3] as u32)
+}
+
+// A number stored as the four bytes at place i of a list, the low one first: likewise by one store.
+fn put_word(list: &mut [u8], i: usize, x: u32)
+    requires { ⌜ i < length (now list) / recordWidth ⌝ }
+    ensures { λ _. ⌜ now (list .exit) ≡ stored cubes (now (list .entry)) i (halves x) ⌝ }
+{
+    let at = RECORD_WIDTH * i;
+    list[at] = words::low(x);
+    list[at + 1] = words::high(x);
+    list[at + 2] = words::low(x / HALF);
+    list[at + 3] = words::high(x / HALF);
+}
+
 // The cube at place i of a list, or the product with no literal past its end.
 pub fn cube_at(list: &[u8], i: usize) -> Cube
     ensures { λ r. ⌜ r ≡ getD (cubesOf (now (list .entry))) i one ⌝ }
@@ -38,8 +68,11 @@ pub fn cube_at(list: &[u8], i: usize) -> Cube
     if list.len() / RECORD_WIDTH <= i {
         return Cube::ONE;
     }
-    let at = RECORD_WIDTH * i;
-    Cube::decoded(list[at], list[at + 1], list[at + 2], list[at + 3])
+    let x = word_at(list, i);
+    Cube {
+        seen: x % HALF,
+        value: x / HALF,
+    }
 }
 
 // The cube stored at place i of a list; nothing where it has no such place.
@@ -47,11 +80,7 @@ pub fn put_cube(list: &mut [u8], i: usize, c: Cube)
     ensures { λ _. ⌜ now (list .exit) ≡ stored cubes (now (list .entry)) i (narrow c) ⌝ }
 {
     if i < list.len() / RECORD_WIDTH {
-        let at = RECORD_WIDTH * i;
-        list[at] = records::words::low(c.seen);
-        list[at + 1] = records::words::high(c.seen);
-        list[at + 2] = records::words::low(c.value);
-        list[at + 3] = records::words::high(c.value);
+        put_word(list, i, c.seen % HALF + HALF * (c.value % HALF));
     }
 }
 

@@ -1,73 +1,31 @@
--- `list::put_cube` meets its contract: four stores in a row are one record stored.
+-- `list::put_cube` meets its contract.
 -- Assumes nothing.
-use lib.ListN.{length-set}
-use native.Mathlib.Omega.{arith}
-use Rattle.cube.proofs.ListLaws.{cube-stored, cube-not-stored}
+use mathlib.Core.Path.{ap, _∙_}
+use Rattle.records.specs.Records.{stored}
+use Rattle.cube.specs.Lists.{cubes}
+use Rattle.cube.proofs.ListLaws.{halves-narrow, cube-not-stored}
 use borrow.Author.Needs.{needs}
 use Rattle.cube.proofs.list.put_cube.Statement.{statement}
 use Rattle.cube.proofs.list.put_cube.Tie as tie
 
-mul-at : tie.Need-mul-at
-mul-at c = search needs
+mul-put-word : tie.Need-mul-put-word
+mul-put-word c = search needs
 
-low-requires : tie.Need-low-requires
-low-requires c κs = search needs
+add-put-word : tie.Need-add-put-word
+add-put-word c = search needs
 
-slice-write-list : tie.Need-slice-write-list
-slice-write-list c = search needs
-
-high-requires : tie.Need-high-requires
-high-requires c κs = search needs
-
-add-list : tie.Need-add-list
-add-list c = search needs
-
-slice-write-list-2 : tie.Need-slice-write-list-2
-slice-write-list-2 c = simp length-set (omega arith)
-
-low-requires-2 : tie.Need-low-requires-2
-low-requires-2 c κs = search needs
-
-add-list-2 : tie.Need-add-list-2
-add-list-2 c = search needs
-
-slice-write-list-3 : tie.Need-slice-write-list-3
-slice-write-list-3 c = simp length-set (omega arith)
-
-high-requires-2 : tie.Need-high-requires-2
-high-requires-2 c κs = search needs
-
-add-list-3 : tie.Need-add-list-3
-add-list-3 c = search needs
-
-slice-write-list-4 : tie.Need-slice-write-list-4
-slice-write-list-4 c = simp length-set (omega arith)
+put-word-requires : tie.Need-put-word-requires
+put-word-requires c κs = search needs
 
 same-length : tie.Need-same-length
 same-length c = search needs
 
 returns : tie.Need-returns
-returns c = cube-stored _ _ _ _ _ _ _ (c .before .before .before .before .if1 .taken) (c .before .before .before .low .ensures) (c .before .before .high .ensures) (c .before .low2 .ensures) (c .high2 .ensures)
+returns c = c .before .before .put-word .ensures ∙ ap (stored cubes _ _) (halves-narrow _)
 
 returns-2 : tie.Need-returns-2
 returns-2 c = search cube-not-stored
 
 pub put-cube-spec : {M : Type 1} → statement M
 put-cube-spec =
-    tie.close
-    (tie.spec
-    mul-at
-    low-requires
-    slice-write-list
-    high-requires
-    add-list
-    slice-write-list-2
-    low-requires-2
-    add-list-2
-    slice-write-list-3
-    high-requires-2
-    add-list-3
-    slice-write-list-4
-    same-length
-    returns
-    returns-2)
+    tie.close (tie.spec mul-put-word add-put-word put-word-requires same-length returns returns-2)
