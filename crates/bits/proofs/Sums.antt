@@ -168,6 +168,17 @@ module _ {A : Type 0} (f : A → Bool) where
   none-first [] a = refl
   none-first (x ∷ l) a = ap (λ (b : Bool). cond b (suc (firstBad f l)) 0) (a .0) ∙ ap suc (none-first l (a .1))
 
+  -- as many pass as there are
+  pub tally-none : (l : List A) → tally f l ≡ length l → firstBad f l ≡ length l
+  unfolding tally firstBad
+  tally-none [] e = refl
+  tally-none (x ∷ l) e = go (f x) (tally-le f l) (tally-none l) e
+    where
+      go : (b : Bool) → tally f l ≤ length l → (tally f l ≡ length l → firstBad f l ≡ length l)
+          → oneIf b + tally f l ≡ suc (length l) → cond b (suc (firstBad f l)) 0 ≡ suc (length l)
+      go true h ih q = ap suc (ih (omega arith))
+      go false h ih q = absurd (omega arith)
+
   -- where it is a place, its element fails, and each before it passes
   pub first-fails : (d : A) (l : List A) → firstBad f l < length l → f (getD l (firstBad f l) d) ≡ false
   unfolding firstBad

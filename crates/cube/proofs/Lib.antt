@@ -2,7 +2,6 @@ pub mod Codes
 pub mod Masks
 pub mod Apart
 pub mod ListLaws
-pub mod Scanning
 pub mod CallLaws
 pub mod Determined
 pub mod Meaning

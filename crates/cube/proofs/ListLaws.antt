@@ -1,11 +1,12 @@
 -- Laws of lists of cubes: their records, the check of a list by its tests, and how many products are true.
 -- Assumes nothing.
-use mathlib.Core.Path.{_≡_, refl, sym, ap, ap₂, _∙_}
-use mathlib.Core.Bool.{true}
+use mathlib.Core.Path.{_≡_, refl, sym, ap, ap₂, _∙_, subst}
+use mathlib.Core.Bool.{Bool, true}
 use mathlib.Core.List.{List, [], _∷_}
-use Prim.Native.Nat.{ℕ, zero, suc, _+_, _*_, _/_, _%_, _≤_, _<_}
+use Prim.Native.Nat.{ℕ, zero, suc, _+_, _*_, _/_, _%_, _^_, _≤_, _<_}
 use native.Mathlib.Nat.{add-zero, lt-of-lt-of-le, mod-eq-of-lt, min-eq-left, min-eq-right, le-of-lt}
 use native.Mathlib.Omega.{arith}
+use lib.Bits.{bitAnd}
 use lib.Dec.{lit<, eqb, leb}
 use lib.ListN.{length, getD, set}
 use lib.Pow.{pow-mono}
@@ -22,10 +23,11 @@ use Rattle.records.proofs.Images.{image-get, flat-listBelow}
 use Rattle.records.proofs.Holding.{Lawful, length-list, list-at, list-past, stored-in, stored-out}
 use Rattle.records.proofs.Answering.{unless-accepted, unless-at-accepted, unless-at-refused, unless-at-passed}
 use Rattle.cube.specs.declared.Cube.{Cube}
-use Rattle.cube.specs.Cubes.{one, good, Good}
+use Rattle.cube.specs.Cubes.{one, good, Good, holds}
 use Rattle.cube.specs.Lists.{cubes, cubesOf, narrow, halves, recordWidth, mostRecords, cubeCapacity}
 use Rattle.cube.specs.Calls.{checkList}
 use Rattle.cube.proofs.Codes.{good-parts, good-seen, good-value, good-more, one-good}
+use Rattle.cube.proofs.Masks.{holds-mask}
 
 -- ---- the record of a cube
 
@@ -188,6 +190,11 @@ check-accepts limit n b v e =
 -- each place of a list of good cubes, also past its end, where the product with no literal stands
 pub good-at : (n : ℕ) (l : List Cube) → All (Good n) l → (i : ℕ) → Good n (getD l i one)
 good-at n l a i = all-get-or (Good n) l i one a (one-good n)
+
+-- the masked comparison at each place of a list of good cubes
+pub mask-at : (n : ℕ) (l : List Cube) (a i : ℕ) → All (Good n) l → a < 2 ^ n
+    → (c : Cube) → c ≡ getD l i one → (h : Bool) → h ≡ eqb (bitAnd (c .seen) a) (c .value) → h ≡ holds n c a
+mask-at n l a i g ha c ec h eh = eh ∙ sym (holds-mask n c a (subst (Good n) (sym ec) (good-at n l g i)) ha)
 
 -- good over some variables is good over more
 pub all-good-more : (m n : ℕ) (l : List Cube) → m ≤ n → All (Good m) l → All (Good n) l

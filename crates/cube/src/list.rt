@@ -6,7 +6,7 @@ use records::words;
 ghost use mathlib.Core.Path.{_≡_};
 ghost use Prim.Native.Nat.{_<_, _/_};
 ghost use lib.ListN.{length, getD};
-ghost use Rattle.bits.specs.Sums.{firstBad};
+ghost use Rattle.bits.specs.Sums.{tally, firstBad};
 ghost use Rattle.records.specs.Records.{stored};
 ghost use Rattle.records.specs.Answers.{counted};
 ghost use Rattle.cube.specs.Cubes.{one, good};
@@ -84,11 +84,28 @@ pub fn put_cube(list: &mut [u8], i: usize, c: Cube)
     }
 }
 
-// The lowest bad record, or the count.
+// How many records of a list are good. It looks at every record, so that the compiler can take several at once.
+fn count_good(n: usize, list: &[u8]) -> usize
+    ensures { λ r. ⌜ r ≡ tally (good n) (cubesOf (now (list .entry))) ⌝ }
+{
+    let count = list.len() / RECORD_WIDTH;
+    let mut t: usize = 0;
+    let mut k: usize = 0;
+    while k < count {
+        t += cube_at(list, k).is_good(n) as usize;
+        k += 1;
+    }
+    t
+}
+
+// The lowest bad record, or the count. Only a list with a bad record is looked through for its place.
 fn first_bad(n: usize, list: &[u8]) -> usize
     ensures { λ r. ⌜ r ≡ firstBad (good n) (cubesOf (now (list .entry))) ⌝ }
 {
     let count = list.len() / RECORD_WIDTH;
+    if count_good(n, list) == count {
+        return count;
+    }
     let mut i: usize = 0;
     let found = loop {
         if count <= i {

@@ -5,13 +5,15 @@ use native.Mathlib.Omega.{arith}
 use Rattle.bits.proofs.Bools.{one-lt}
 use lib.ListN.{length}
 use borrow.Author.Needs.{needs}
-use Rattle.cube.specs.Lists.{recordWidth}
-use Rattle.cube.proofs.Scanning.{Counting, counting-none, counting-more, counted-all}
+use Rattle.records.proofs.Counting.{Counting, counting-none, counting-next, counted-all}
+use Rattle.cube.specs.Cubes.{holds}
+use Rattle.cube.specs.Lists.{cubes, cubesOf, recordWidth, trues}
+use Rattle.cube.proofs.ListLaws.{mask-at}
 use Rattle.cube.proofs.value.trues_at.Statement.{statement}
 use Rattle.cube.proofs.value.trues_at.Tie as tie
 
 abbrev Inv-loop : tie.InvT-loop
-Inv-loop n list a count t₀ i₀ t i = Counting n list a t i
+Inv-loop n list a count t₀ i₀ t i = Counting cubes (λ c. holds n c a) list t i
 
 abbrev μ-loop : tie.MeasureT-loop
 μ-loop n list a count t₀ i₀ t i = length list / recordWidth - i
@@ -39,11 +41,15 @@ loop-less c = search needs
 
 loop-again : tie.Need-loop-again Inv-loop μ-loop
 loop-again c =
-    counting-more _ _ _ _ _ (c .before .before .before .loop .inv) (c .before .before .loop-test .taken)
-    (c .before .before .before .before .before .pre .0) (c .before .before .before .before .before .pre .1)
-    _ (c .before .cube-at .ensures) (c .holds-at .result) (c .holds-at .ensures)
+    let s = c .before .before .before .before .before in
+    let at = c .before .before .before in
+    let true-there = mask-at (s .args .n) (cubesOf (s .args .list .now)) (s .args .a) (at .loop .i) (s .pre .0) (s .pre .1)
+    _ (c .before .cube-at .ensures) (c .holds-at .result) (c .holds-at .ensures) in
+    counting-next cubes (λ c. holds (s .args .n) c (s .args .a)) _ _ _ (at .loop .inv) (c .before .before .loop-test .taken)
+    _ (c .before .cube-at .ensures) (c .holds-at .result) true-there
 
 returns : tie.Need-returns Inv-loop μ-loop
+unfolding trues
 returns c = search counted-all
 
 pub trues-at-spec : {M : Type 1} → statement M
