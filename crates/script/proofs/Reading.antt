@@ -1,11 +1,14 @@
--- The records of a script: what is read at a place, and rule 9 by the first of its tests that fails.
+-- The records of a script: what is read at a place, and rule 9 by a row for each operation.
 -- Assumes nothing.
 use mathlib.Core.Path.{_≡_, refl, sym, ap, _∙_}
-use mathlib.Core.Bool.{Bool, true, false, not, _&&_}
+use mathlib.Core.Logic.{_≢_}
+use mathlib.Core.Bool.{Bool, true, false, _&&_}
 use mathlib.Core.List.{List, [], _∷_}
 use Prim.Native.Nat.{ℕ, _+_, _*_, _/_, _%_, _≤_, _<_}
+use native.Mathlib.Nat.{lt-of-not-le}
+use native.Mathlib.Decide.{decLe}
 use native.Mathlib.Omega.{arith}
-use borrow.Author.Tests.{not-true, not-false, le-leb, lt-leb, eq-eqb, ne-eqb, leb-true, eqb-true}
+use borrow.Author.Tests.{le-leb, lt-leb, eq-eqb, ne-eqb, leb-true, eqb-true}
 use lib.Dec.{eqb, ltb, leb}
 use lib.ListN.{length, getD}
 use Rattle.bits.specs.Sums.{All, firstBad}
@@ -49,57 +52,36 @@ step-in b k i j h ei ej =
     next : (x p q : ℕ) → q ≡ p + 1 → x + q ≡ x + p + 1
     next x p q e = omega arith
 
--- ---- rule 9
-
-and-stops : (a s : Bool) → a ≡ false → false ≡ (a && s)
-and-stops a s e = sym (ap (λ (t : Bool). t && s) e)
-
-and-goes : (a s r : Bool) → a ≡ true → r ≡ s → r ≡ (a && s)
-and-goes a s r e f = f ∙ sym (ap (λ (t : Bool). t && s) e)
+-- ---- rule 9, by a row for each operation
 
 module _ (n : ℕ) (x : StepRecord) where
-  module _ (a : Bool) (ea : a ≡ known (x .op)) where
-    pub fit-known : not a ≡ true → false ≡ fits n x
-    unfolding fits
-    fit-known h = and-stops (known (x .op)) _ (sym ea ∙ not-true a h)
+  -- the tests of the operation op
+  abbrev row : ℕ → Bool
+  row op =
+      known op
+      && (field (usesV op) (ltb (x .v) n) (x .v)
+      && (field (usesI op) true (x .i)
+      && (field (usesJ op) true (x .j)
+      && (field (usesLiteral op) (leb (x .literal) 1) (x .literal)
+      && eqb (x .zero) 0))))
 
-    module _ (ha : not a ≡ false) (b : Bool) (eb : b ≡ field (usesV (x .op)) (ltb (x .v) n) (x .v)) where
-      pub fit-v : not b ≡ true → false ≡ fits n x
-      unfolding fits
-      fit-v h = and-goes (known (x .op)) _ _ (sym ea ∙ not-false a ha) (and-stops _ _ (sym eb ∙ not-true b h))
+  pub fits-row : (op : ℕ) → x .op ≡ op → row op ≡ fits n x
+  unfolding fits
+  fits-row op e = ap row (sym e)
 
-      module _ (hb : not b ≡ false) (c : Bool) (ec : c ≡ field (usesI (x .op)) true (x .i)) where
-        pub fit-i : not c ≡ true → false ≡ fits n x
-        unfolding fits
-        fit-i h =
-            and-goes (known (x .op)) _ _ (sym ea ∙ not-false a ha)
-            (and-goes (field (usesV (x .op)) (ltb (x .v) n) (x .v)) _ _ (sym eb ∙ not-false b hb)
-            (and-stops _ _ (sym ec ∙ not-true c h)))
+  few : (op : ℕ) → op ≤ 5 → op ≢ 3 → op ≢ 4 → op ≢ 5 → op ≤ 2
+  few op h d₃ d₄ d₅ = omega arith
 
-        module _ (hc : not c ≡ false) (d : Bool) (ed : d ≡ field (usesJ (x .op)) true (x .j)) where
-          pub fit-j : not d ≡ true → false ≡ fits n x
-          unfolding fits
-          fit-j h =
-              and-goes (known (x .op)) _ _ (sym ea ∙ not-false a ha)
-              (and-goes (field (usesV (x .op)) (ltb (x .v) n) (x .v)) _ _ (sym eb ∙ not-false b hb)
-              (and-goes (field (usesI (x .op)) true (x .i)) _ _ (sym ec ∙ not-false c hc)
-              (and-stops _ _ (sym ed ∙ not-true d h))))
+  none : (op : ℕ) → op ≤ 2 → op ≢ 1 → op ≢ 2 → op ≡ 0
+  none op h d₁ d₂ = omega arith
 
-          module _ (hd : not d ≡ false) (e : Bool) (ee : e ≡ field (usesLiteral (x .op)) (leb (x .literal) 1) (x .literal)) where
-            before-last : (last : Bool) → last ≡ (e && eqb (x .zero) 0) → last ≡ fits n x
-            unfolding fits
-            before-last last q =
-                and-goes (known (x .op)) _ _ (sym ea ∙ not-false a ha)
-                (and-goes (field (usesV (x .op)) (ltb (x .v) n) (x .v)) _ _ (sym eb ∙ not-false b hb)
-                (and-goes (field (usesI (x .op)) true (x .i)) _ _ (sym ec ∙ not-false c hc)
-                (and-goes (field (usesJ (x .op)) true (x .j)) _ _ (sym ed ∙ not-false d hd)
-                (q ∙ ap (λ (t : Bool). t && eqb (x .zero) 0) ee))))
-
-            pub fit-literal : not e ≡ true → false ≡ fits n x
-            fit-literal h = before-last false (and-stops e (eqb (x .zero) 0) (not-true e h))
-
-            pub fit-zero : not e ≡ false → eqb (x .zero) 0 ≡ fits n x
-            fit-zero h = before-last (eqb (x .zero) 0) (and-goes e (eqb (x .zero) 0) (eqb (x .zero) 0) (not-false e h) refl)
+  pub fits-unknown : x .op ≢ 1 → x .op ≢ 2 → x .op ≢ 3 → x .op ≢ 4 → x .op ≢ 5 → false ≡ fits n x
+  unfolding fits
+  fits-unknown d₁ d₂ d₃ d₄ d₅ = go (decLe (x .op) 5)
+    where
+      go : Dec (x .op ≤ 5) → false ≡ fits n x
+      go (yes h) = sym (ap row (none (x .op) (few (x .op) h d₃ d₄ d₅) d₁ d₂))
+      go (no h) = let l : 5 < x .op = lt-of-not-le h in sym (simp (le-leb 1 (x .op) (omega (arith, l)), lt-leb (x .op) 5 l))
 
 -- ---- the check of a script, by the first test that fails
 

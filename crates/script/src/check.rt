@@ -3,13 +3,12 @@ use records::Counted;
 use records::Refusal;
 use steps::StepRecord;
 ghost use mathlib.Core.Path.{_≡_};
-ghost use mathlib.Core.Bool.{true};
 ghost use lib.ListN.{length, getD};
 ghost use Rattle.bits.specs.Sums.{firstBad};
 ghost use Rattle.records.specs.Words.{wordOf};
 ghost use Rattle.records.specs.Records.{listOf};
 ghost use Rattle.records.specs.Answers.{counted};
-ghost use Rattle.script.specs.Scripts.{stepRecords, known, usesV, usesI, usesJ, usesLiteral, field, fits};
+ghost use Rattle.script.specs.Scripts.{stepRecords, fits};
 ghost use Rattle.script.specs.Calls.{checkScript};
 
 // Bytes of a step's record.
@@ -52,60 +51,22 @@ pub fn step_at(script: &[u8], k: usize) -> StepRecord
     }
 }
 
-// An operation from 1 to 5.
-fn known(op: u8) -> bool
-    ensures { λ r. ⌜ r ≡ known op ⌝ }
-{
-    1 <= op && op <= 5
-}
-
-// Which operations use j: drop, join and turn.
-fn uses_j(op: u8) -> bool
-    ensures { λ r. ⌜ r ≡ usesJ op ⌝ }
-{
-    op <= 2 || op == 4
-}
-
-// A field that is used passes its test, and one that is not is zero.
-fn field(used: bool, test: bool, x: usize) -> bool
-    ensures { λ r. ⌜ r ≡ field used test x ⌝ }
-{
-    if used {
-        return test;
-    }
-    x == 0
-}
-
-// Whether the place j is zero where the operation does not use it.
-fn j_fits(op: u8, j: usize) -> bool
-    ensures { λ r. ⌜ r ≡ field (usesJ op) true j ⌝ }
-{
-    field(uses_j(op), true, j)
-}
-
-// Whether a step passes rule 9 over n variables.
+// Whether a step passes rule 9 over n variables: a row for each operation, and what it doesn't use is zero.
 fn fits(n: usize, x: StepRecord) -> bool
     ensures { λ r. ⌜ r ≡ fits n x ⌝ }
 {
     let op = x.op;
     let v = x.v as usize;
-    let literal = x.literal as usize;
-    if !known(op) {
-        return false;
+    let literal = x.literal;
+    let zero = x.zero;
+    match op {
+        1 => (v == 0) & ((literal == 0) & (zero == 0)),
+        2 => (v == 0) & ((literal == 0) & (zero == 0)),
+        3 => (v < n) & ((x.j == 0) & ((literal == 0) & (zero == 0))),
+        4 => (v < n) & ((literal == 0) & (zero == 0)),
+        5 => (v < n) & ((x.i == 0) & ((x.j == 0) & ((literal <= 1) & (zero == 0)))),
+        _ => false,
     }
-    if !field(3 <= op, v < n, v) {
-        return false;
-    }
-    if !field(op <= 4, true, x.i) {
-        return false;
-    }
-    if !j_fits(op, x.j) {
-        return false;
-    }
-    if !field(op == 5, literal <= 1, literal) {
-        return false;
-    }
-    x.zero == 0
 }
 
 // The lowest step that breaks rule 9, or the number of steps.
