@@ -13,6 +13,10 @@ use Rattle.cube.specs.declared.Valued.the-variants as valued-is
 use Rattle.cube.specs.Calls.{valued}
 use Rattle.cube.proofs.Cube.literal.Kinds as literal-kinds
 use Rattle.cube.proofs.Cube.literal.Reads as literal-reads
+use Rattle.cube.proofs.Cube.word.Kinds as word-kinds
+use Rattle.cube.proofs.Cube.word.Reads as word-reads
+use Rattle.cube.proofs.Cube.of_word.Kinds as of-word-kinds
+use Rattle.cube.proofs.Cube.of_word.Reads as of-word-reads
 use Rattle.cube.proofs.Cube.code_at.Kinds as code-at-kinds
 use Rattle.cube.proofs.Cube.code_at.Reads as code-at-reads
 use Rattle.cube.proofs.Cube.with_code.Kinds as with-code-kinds
@@ -50,6 +54,12 @@ valued-known (valued-is.Refused r) = refl
 
 pub literal-determined : Determined 0 literal-kinds.ps literal-kinds.r literal-reads.Learnt
 literal-determined κs a z z′ ws ws′ p q = (same p q, refl)
+
+pub word-determined : Determined 0 word-kinds.ps word-kinds.r word-reads.Learnt
+word-determined κs a z z′ ws ws′ p q = (same p q, refl)
+
+pub of-word-determined : Determined 0 of-word-kinds.ps of-word-kinds.r of-word-reads.Learnt
+of-word-determined κs a z z′ ws ws′ p q = (same p q, refl)
 
 pub code-at-determined : Determined 0 code-at-kinds.ps code-at-kinds.r code-at-reads.Learnt
 code-at-determined κs a z z′ ws ws′ p q = (same p q, refl)

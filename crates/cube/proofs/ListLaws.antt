@@ -24,7 +24,7 @@ use Rattle.records.proofs.Holding.{Lawful, length-list, list-at, list-past, sto
 use Rattle.records.proofs.Answering.{unless-accepted, unless-at-accepted, unless-at-refused, unless-at-passed}
 use Rattle.cube.specs.declared.Cube.{Cube}
 use Rattle.cube.specs.Cubes.{one, good, Good, holds}
-use Rattle.cube.specs.Lists.{cubes, cubesOf, narrow, halves, recordWidth, mostRecords, cubeCapacity}
+use Rattle.cube.specs.Lists.{cubes, cubesOf, narrow, joined, halves, recordWidth, mostRecords, cubeCapacity}
 use Rattle.cube.specs.Calls.{checkList}
 use Rattle.cube.proofs.Codes.{good-parts, good-seen, good-value, good-more, one-good}
 use Rattle.cube.proofs.Masks.{holds-mask}
@@ -85,7 +85,7 @@ halves-join s v h =
     let high : (s + 65536 * v) / 65536 ≡ v = omega arith in
     λ k. record { seen = low k; value = high k }
 
-pub halves-narrow : (c : Cube) → halves (c .seen % wordSize + wordSize * (c .value % wordSize)) ≡ narrow c
+pub halves-narrow : (c : Cube) → halves (joined c) ≡ narrow c
 halves-narrow c = halves-join (c .seen % 65536) (c .value % 65536) (omega arith)
 
 -- four bytes read as one number
@@ -93,13 +93,13 @@ pub word-in : (b : List ℕ) (i : ℕ) → i < length b / recordWidth → ((k : 
     → halves (getD b (recordWidth * i) 0 + 256 * getD b (recordWidth * i + 1) 0 + 65536 * getD b (recordWidth * i + 2) 0 + 16777216 * getD b (recordWidth * i + 3) 0)
     ≡ getD (cubesOf b) i one
 word-in b i h small =
-    ap halves (joined (getD b (4 * i) 0) (getD b (4 * i + 1) 0) (getD b (4 * i + 2) 0) (getD b (4 * i + 3) 0))
+    ap halves (four-bytes (getD b (4 * i) 0) (getD b (4 * i + 1) 0) (getD b (4 * i + 2) 0) (getD b (4 * i + 3) 0))
     ∙ halves-join (wordAt b (4 * i)) _ (word-lt _ _ (small (4 * i)) (small (4 * i + 1)))
     ∙ ap (λ (k : ℕ). record { seen = wordAt b (4 * i); value = wordOf (getD b (4 * i + 2) 0) (getD b k 0) }) (last (4 * i))
     ∙ sym (list-at cubes b i one h)
   where
-    joined : (w x y z : ℕ) → w + 256 * x + 65536 * y + 16777216 * z ≡ wordOf w x + wordSize * wordOf y z
-    joined w x y z = omega arith
+    four-bytes : (w x y z : ℕ) → w + 256 * x + 65536 * y + 16777216 * z ≡ wordOf w x + wordSize * wordOf y z
+    four-bytes w x y z = omega arith
 
     last : (x : ℕ) → x + 3 ≡ x + 2 + 1
     last x = omega arith

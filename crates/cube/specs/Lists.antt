@@ -37,7 +37,11 @@ cubes = record {
   none = one;
 }
 
--- the cube of a record whose bytes are read as one number of four
+-- a record as one number of four bytes: seen is its low half, value its high half
+abbrev pub joined : Cube → ℕ
+joined c = c .seen % wordSize + wordSize * (c .value % wordSize)
+
+-- the cube of such a number
 abbrev pub halves : ℕ → Cube
 halves x = record { seen = x % wordSize; value = x / wordSize }
 

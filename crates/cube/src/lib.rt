@@ -11,6 +11,7 @@ ghost use Rattle.bits.specs.Bits.{withBit};
 ghost use Rattle.bits.specs.Sums.{oneIf};
 ghost use Prim.Native.Nat.{_<_};
 ghost use Rattle.cube.specs.Cubes.{code, withCode, one, good, differing};
+ghost use Rattle.cube.specs.Lists.{joined, halves};
 
 // Bit k of seen is set where variable k has a literal, and bit k of value holds that literal's code.
 pub struct Cube {
@@ -26,6 +27,9 @@ pub enum Valued {
 
 // How many variables the masks have room for.
 const MASK_BITS: u32 = 32;
+
+// How many numbers a half of a record holds: seen is the low half of its four bytes, value the high one.
+const HALF: u32 = 65536;
 
 // x with bit k set where the test passed, and clear where not.
 fn with_bit(x: u32, k: u32, t: bool) -> u32
@@ -48,6 +52,23 @@ impl Cube {
         ensures { λ r. ⌜ r ≡ withCode one v x ⌝ }
     {
         Cube::ONE.with_code(v, x)
+    }
+
+    // A cube's record as one number; what of a mask is above 16 bits is cut off.
+    pub fn word(self) -> u32
+        ensures { λ r. ⌜ r ≡ joined self ⌝ }
+    {
+        self.seen % HALF + HALF * (self.value % HALF)
+    }
+
+    // The cube of such a number.
+    pub fn of_word(x: u32) -> Cube
+        ensures { λ r. ⌜ r ≡ halves x ⌝ }
+    {
+        Cube {
+            seen: x % HALF,
+            value: x / HALF,
+        }
     }
 
     // The literal code at variable v.

@@ -16,9 +16,6 @@ ghost use Rattle.cube.specs.Calls.{checkList};
 // Bytes of a record.
 pub const RECORD_WIDTH: usize = 4;
 
-// How many numbers a half of a record holds: seen is the low half of its four bytes, value the high one.
-const HALF: u32 = 65536;
-
 // Records of a list, at most.
 pub const MOST_RECORDS: usize = 4096;
 
@@ -57,8 +54,8 @@ fn put_word(list: &mut [u8], i: usize, x: u32)
     let at = RECORD_WIDTH * i;
     list[at] = words::low(x);
     list[at + 1] = words::high(x);
-    list[at + 2] = words::low(x / HALF);
-    list[at + 3] = words::high(x / HALF);
+    list[at + 2] = words::low(x / 65536);
+    list[at + 3] = words::high(x / 65536);
 }
 
 // The cube at place i of a list, or the product with no literal past its end.
@@ -68,11 +65,7 @@ pub fn cube_at(list: &[u8], i: usize) -> Cube
     if list.len() / RECORD_WIDTH <= i {
         return Cube::ONE;
     }
-    let x = word_at(list, i);
-    Cube {
-        seen: x % HALF,
-        value: x / HALF,
-    }
+    Cube::of_word(word_at(list, i))
 }
 
 // The cube stored at place i of a list; nothing where it has no such place.
@@ -80,7 +73,7 @@ pub fn put_cube(list: &mut [u8], i: usize, c: Cube)
     ensures { λ _. ⌜ now (list .exit) ≡ stored cubes (now (list .entry)) i (narrow c) ⌝ }
 {
     if i < list.len() / RECORD_WIDTH {
-        put_word(list, i, c.seen % HALF + HALF * (c.value % HALF));
+        put_word(list, i, c.word());
     }
 }
 

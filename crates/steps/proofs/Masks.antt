@@ -16,12 +16,12 @@ use Rattle.bits.proofs.Bits.{bit-lt, bit-high, bit-and, bit-xor, differ-lt, dif
 use Rattle.records.specs.Words.{wordSize}
 use Rattle.cube.specs.declared.Cube.{Cube}
 use Rattle.cube.specs.Cubes.{codeOf, code, seenBit, valueBit, put, withCode, one, Good}
-use Rattle.cube.specs.Lists.{mostVariables}
+use Rattle.cube.specs.Lists.{mostVariables, joined, halves}
 use Rattle.cube.proofs.Codes.{code-lt, good-seen, good-value, with-put}
 use Rattle.orders.specs.Orders.{image}
 use Rattle.steps.specs.declared.reorder.Masks.{Masks}
 use Rattle.steps.specs.Steps.{reordered}
-use Rattle.steps.specs.Changes.{pair, imageAt, masksAt}
+use Rattle.steps.specs.Changes.{imageAt, masksAt}
 
 -- ---- one bit
 
@@ -125,6 +125,9 @@ module _ (v : ℕ) where
 
 -- ---- two masks as one number
 
+abbrev pair : ℕ → ℕ → ℕ
+pair low high = joined (record { seen = low; value = high })
+
 module _ (low high : ℕ) where
   pair-low : pair low high % wordSize ≡ low % wordSize
   pair-low = omega arith
@@ -136,9 +139,7 @@ module _ (low high : ℕ) where
 
 -- a cube by masks: its two masks as one number, with each bit changed
 unfoldable pub byMasks : Masks → Cube → Cube
-byMasks k c =
-    let z : ℕ = changed (pair (c .seen) (c .value)) (k .own) (pair (c .value) (c .seen)) (k .other) (k .always) in
-    record { seen = z % wordSize; value = z / wordSize }
+byMasks k c = halves (changed (pair (c .seen) (c .value)) (k .own) (pair (c .value) (c .seen)) (k .other) (k .always))
 
 module _ (v : ℕ) (l : v < mostVariables) where
   -- a mask of bit v alone, as one half of a number
@@ -214,18 +215,16 @@ recoded-is k c g v o l e = ap (λ (t : Masks). byMasks t c) e ∙ (λ t. record 
         ∙ pick-code value-of (code c v) (code-lt c v))
 
 -- the number as it is made
-pub recoded-made : (k : Masks) (c : Cube) (x y : ℕ) → x ≡ pair (c .seen) (c .value) → y ≡ pair (c .value) (c .seen) → (z : ℕ) → z ≡ changed x (k .own) y (k .other) (k .always)
-    → record { seen = z % wordSize; value = z / wordSize } ≡ byMasks k c
+pub recoded-made : (k : Masks) (c : Cube) (x y : ℕ) → x ≡ pair (c .seen) (c .value) → y ≡ pair (c .value) (c .seen)
+    → (r : Cube) → r ≡ halves (changed x (k .own) y (k .other) (k .always)) → r ≡ byMasks k c
 unfolding byMasks
-recoded-made k c x y ex ey z ez =
-    let e = ez ∙ (λ t. changed (ex t) (k .own) (ey t) (k .other) (k .always)) in
-    λ t. record { seen = e t % wordSize; value = e t / wordSize }
+recoded-made k c x y ex ey r er = er ∙ ap halves (λ t. changed (ex t) (k .own) (ey t) (k .other) (k .always))
 
 -- the masks as they are made
 pub masks-made : (v o m i₀ i₁ i₂ : ℕ) (x y z : Cube) (own other always : ℕ) → m ≡ 2 ^ v
     → i₀ ≡ image o 0 → x ≡ withCode one v i₀ → i₁ ≡ image o 1 → y ≡ withCode one v i₁ → i₂ ≡ image o 2 → z ≡ withCode one v i₂
     → own ≡ pair (bitXor (bitXor m (x .seen)) (z .seen)) (bitXor (bitXor m (x .value)) (y .value))
-    → other ≡ pair (bitXor (x .seen) (y .seen)) (bitXor (x .value) (z .value)) → always ≡ pair (z .seen) (z .value)
+    → other ≡ pair (bitXor (x .seen) (y .seen)) (bitXor (x .value) (z .value)) → always ≡ joined z
     → record { own = own; other = other; always = always } ≡ masksAt v o
 unfolding masksAt
 masks-made v o m i₀ i₁ i₂ x y z own other always em e₀ ex e₁ ey e₂ ez eo et ea =
@@ -235,5 +234,5 @@ masks-made v o m i₀ i₁ i₂ x y z own other always em e₀ ex e₁ ey e₂ e
     λ t. record {
       own = (eo ∙ (λ u. pair (bitXor (bitXor (em u) (x₁ u .seen)) (z₁ u .seen)) (bitXor (bitXor (em u) (x₁ u .value)) (y₁ u .value)))) t;
       other = (et ∙ (λ u. pair (bitXor (x₁ u .seen) (y₁ u .seen)) (bitXor (x₁ u .value) (z₁ u .value)))) t;
-      always = (ea ∙ (λ u. pair (z₁ u .seen) (z₁ u .value))) t;
+      always = (ea ∙ ap joined z₁) t;
     }

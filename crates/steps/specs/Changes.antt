@@ -3,14 +3,13 @@
 use mathlib.Core.Path.{_≡_}
 use mathlib.Core.Bool.{cond, _&&_}
 use mathlib.Core.List.{List}
-use Prim.Native.Nat.{ℕ, _+_, _*_, _%_, _^_, _<_}
+use Prim.Native.Nat.{ℕ, _^_, _<_}
 use lib.Bits.{bitXor}
 use lib.Dec.{eqb, ltb}
 use lib.ListN.{length}
-use Rattle.records.specs.Words.{wordSize}
 use Rattle.cube.specs.declared.Cube.{Cube}
 use Rattle.cube.specs.Cubes.{Good, one, withCode}
-use Rattle.cube.specs.Lists.{narrow}
+use Rattle.cube.specs.Lists.{narrow, joined}
 use Rattle.orders.specs.Orders.{image}
 use Rattle.steps.specs.declared.Change.{Change}
 use Rattle.steps.specs.declared.Change.the-variants as change-is
@@ -76,10 +75,6 @@ pub record Done (work work′ : List ℕ) (e : After Cube) (r : Stepped) : Type 
   pub answer : r ≡ stepped e
   pub buffer : work′ ≡ workStepped work e
 
--- two masks of 16 bits as one number, the first in its low half
-abbrev pub pair : ℕ → ℕ → ℕ
-pair low high = wordSize * (high % wordSize) + low % wordSize
-
 -- the product of the one literal that the order o makes of the code x, at the variable v
 abbrev pub imageAt : ℕ → ℕ → ℕ → Cube
 imageAt v o x = withCode one v (image o x)
@@ -87,7 +82,13 @@ imageAt v o x = withCode one v (image o x)
 -- the order o at the variable v, as masks
 unfoldable pub masksAt : ℕ → ℕ → Masks
 masksAt v o = record {
-  own = pair (bitXor (bitXor (2 ^ v) (imageAt v o 0 .seen)) (imageAt v o 2 .seen)) (bitXor (bitXor (2 ^ v) (imageAt v o 0 .value)) (imageAt v o 1 .value));
-  other = pair (bitXor (imageAt v o 0 .seen) (imageAt v o 1 .seen)) (bitXor (imageAt v o 0 .value) (imageAt v o 2 .value));
-  always = pair (imageAt v o 2 .seen) (imageAt v o 2 .value);
+  own = joined (record {
+    seen = bitXor (bitXor (2 ^ v) (imageAt v o 0 .seen)) (imageAt v o 2 .seen);
+    value = bitXor (bitXor (2 ^ v) (imageAt v o 0 .value)) (imageAt v o 1 .value);
+  });
+  other = joined (record {
+    seen = bitXor (imageAt v o 0 .seen) (imageAt v o 1 .seen);
+    value = bitXor (imageAt v o 0 .value) (imageAt v o 2 .value);
+  });
+  always = joined (imageAt v o 2);
 }

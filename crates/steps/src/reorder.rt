@@ -12,10 +12,7 @@ ghost use Rattle.cube.specs.Cubes.{Good};
 ghost use Rattle.cube.specs.Lists.{cubes, mostVariables};
 ghost use Rattle.orders.specs.Orders.{orderCount};
 ghost use Rattle.steps.specs.Steps.{reordered};
-ghost use Rattle.steps.specs.Changes.{pair, masksAt};
-
-// What the high half of a record's number is multiplied by.
-const HALF: u32 = 65536;
+ghost use Rattle.steps.specs.Changes.{masksAt};
 
 // An order of the codes at one variable, as masks of a record's number, with seen in its low half and value in its high half. A bit of the
 // variable is changed by the sum, modulo 2, of: itself where `own` is set, the variable's other bit where `other` is, and 1 where `always` is.
@@ -23,13 +20,6 @@ struct Masks {
     own: u32,
     other: u32,
     always: u32,
-}
-
-// Two masks as one number, the first in its low half.
-fn pair(low: u32, high: u32) -> u32
-    ensures { λ r. ⌜ r ≡ pair low high ⌝ }
-{
-    HALF * (high % HALF) + low % HALF
 }
 
 // The order o at the variable v, as masks: three codes, so that each new bit is such a sum.
@@ -41,10 +31,18 @@ fn masks_at(v: u32, o: u8) -> Masks
     let x = Cube::literal(v, orders::image(o, 0));
     let y = Cube::literal(v, orders::image(o, 1));
     let z = Cube::literal(v, orders::image(o, 2));
+    let own = Cube {
+        seen: at ^ x.seen ^ z.seen,
+        value: at ^ x.value ^ y.value,
+    };
+    let other = Cube {
+        seen: x.seen ^ y.seen,
+        value: x.value ^ z.value,
+    };
     Masks {
-        own: pair(at ^ x.seen ^ z.seen, at ^ x.value ^ y.value),
-        other: pair(x.seen ^ y.seen, x.value ^ z.value),
-        always: pair(z.seen, z.value),
+        own: own.word(),
+        other: other.word(),
+        always: z.word(),
     }
 }
 
@@ -53,13 +51,13 @@ fn recoded(k: Masks, c: Cube) -> Cube
     requires { ⌜ Good mostVariables c ⌝ }
     ensures { λ r. ⌜ ((v o : ℕ) → v < mostVariables → k ≡ masksAt v o → r ≡ reordered v o c) ⌝ }
 {
-    let x = pair(c.seen, c.value);
-    let y = pair(c.value, c.seen);
-    let z = x ^ (x & k.own) ^ (y & k.other) ^ k.always;
-    Cube {
-        seen: z % HALF,
-        value: z / HALF,
-    }
+    let turned = Cube {
+        seen: c.value,
+        value: c.seen,
+    };
+    let x = c.word();
+    let y = turned.word();
+    Cube::of_word(x ^ (x & k.own) ^ (y & k.other) ^ k.always)
 }
 
 // Every cube's code at v moved by the order o. The pass ends by the length of the buffer too, which shows the compiler that each place lies in it.

@@ -27,14 +27,14 @@ image-requires-3 c κs = search needs
 literal-requires-3 : tie.Need-literal-requires-3
 literal-requires-3 c κs = search needs
 
-pair-requires : tie.Need-pair-requires
-pair-requires c κs = search needs
+word-requires : tie.Need-word-requires
+word-requires c κs = search needs
 
-pair-requires-2 : tie.Need-pair-requires-2
-pair-requires-2 c κs = search needs
+word-requires-2 : tie.Need-word-requires-2
+word-requires-2 c κs = search needs
 
-pair-requires-3 : tie.Need-pair-requires-3
-pair-requires-3 c κs = search needs
+word-requires-3 : tie.Need-word-requires-3
+word-requires-3 c κs = search needs
 
 returns : tie.Need-returns
 returns c = search (masks-made, shl-one)
@@ -50,7 +50,7 @@ masks-at-spec =
     literal-requires-2
     image-requires-3
     literal-requires-3
-    pair-requires
-    pair-requires-2
-    pair-requires-3
+    word-requires
+    word-requires-2
+    word-requires-3
     returns)

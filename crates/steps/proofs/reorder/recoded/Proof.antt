@@ -1,21 +1,24 @@
 -- `steps::reorder::recoded` meets its contract.
 -- Assumes nothing.
-use mathlib.Core.Path.{refl, _∙_}
+use mathlib.Core.Path.{_∙_}
 use borrow.Author.Needs.{needs}
 use Rattle.steps.proofs.Masks.{recoded-is, recoded-made}
 use Rattle.steps.proofs.reorder.recoded.Statement.{statement}
 use Rattle.steps.proofs.reorder.recoded.Tie as tie
 
-pair-requires : tie.Need-pair-requires
-pair-requires c κs = search needs
+word-requires : tie.Need-word-requires
+word-requires c κs = search needs
 
-pair-requires-2 : tie.Need-pair-requires-2
-pair-requires-2 c κs = search needs
+word-requires-2 : tie.Need-word-requires-2
+word-requires-2 c κs = search needs
+
+of-word-requires : tie.Need-of-word-requires
+of-word-requires c κs = search needs
 
 returns : tie.Need-returns
 returns c v o l e =
-    let p = c .before .before .before in
-    recoded-made _ _ _ _ (p .before .pair .ensures) (p .pair2 .ensures) _ refl ∙ recoded-is _ _ (search needs) v o l e
+    let p = c .before .before .before .before in
+    recoded-made _ _ _ _ (p .before .word .ensures) (p .word2 .ensures) _ (c .of-word .ensures) ∙ recoded-is _ _ (search needs) v o l e
 
 pub recoded-spec : {M : Type 1} → statement M
-recoded-spec = tie.close (tie.spec pair-requires pair-requires-2 returns)
+recoded-spec = tie.close (tie.spec word-requires word-requires-2 of-word-requires returns)
