@@ -3,11 +3,12 @@
 use mathlib.Core.Path.{_≡_, refl, sym, ap}
 use mathlib.Core.Bool.{Bool, true, _&&_}
 use mathlib.Core.List.{List, [], _∷_}
-use Prim.Native.Nat.{ℕ, zero, suc, _≤_, _<_}
+use Prim.Native.Nat.{ℕ, zero, suc, _+_, _*_, _/_, _%_, _^_, _≤_, _<_}
 use native.Mathlib.Nat.{le-trans}
 use borrow.Author.Tests.{eqb-true, leb-true, lt-ltb, le-ltb}
 use lib.Dec.{eqb, leb}
 use lib.ListN.{length, getD, List·getD-eq-default}
+use Rattle.bits.specs.Below.{allBelow}
 use Rattle.bits.proofs.Bools.{both-true, all-at₂}
 use Rattle.orders.specs.Codes.{third, thirdOf}
 use Rattle.orders.specs.Orders.{images, image, followings, follow, inverses, inverse}
@@ -52,14 +53,17 @@ inverse-no-order o h = sym (List·getD-eq-default inverses 0 {n = o} h)
 
 -- ---- the third of two codes
 
--- row x, column y
-abbrev pub thirds : List (List ℕ)
-thirds = (1 ∷ 2 ∷ 1 ∷ []) ∷ (2 ∷ 0 ∷ 0 ∷ []) ∷ (1 ∷ 0 ∷ 0 ∷ []) ∷ []
+-- two bits an entry, row x, column y
+abbrev pub thirdIn : ℕ → ℕ → ℕ → ℕ
+thirdIn table x y = table / 2 ^ (2 * (3 * x + y)) % 4
+
+-- the table is the definition, computed over all codes
+abbrev pub thirdsTest : ℕ → Bool
+thirdsTest table = allBelow 3 (λ x. allBelow 3 (λ y. eqb (thirdIn table x y) (thirdOf x y)))
 
 module _ (x y : ℕ) where
-  pub third-in : x < 3 → y < 3 → getD (getD thirds x []) y 0 ≡ thirdOf x y
-  unfolding thirdOf third
-  third-in hx hy = eqb-true _ _ (all-at₂ 3 3 (λ x y. eqb (getD (getD thirds x []) y 0) (thirdOf x y)) refl x y hx hy)
+  pub third-in : (table : ℕ) → thirdsTest table ≡ true → x < 3 → y < 3 → thirdIn table x y ≡ thirdOf x y
+  third-in table t hx hy = eqb-true _ _ (all-at₂ 3 3 (λ x y. eqb (thirdIn table x y) (thirdOf x y)) t x y hx hy)
 
   pub third-no-first : 3 ≤ x → 0 ≡ thirdOf x y
   unfolding thirdOf

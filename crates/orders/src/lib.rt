@@ -3,8 +3,9 @@ ghost use mathlib.Core.Path.{_≡_};
 ghost use Rattle.orders.specs.Codes.{thirdOf};
 ghost use Rattle.orders.specs.Orders.{image, follow, inverse, letterOrder};
 
-// Row x, column y: the remaining one of the codes 0, 1, 2.
-const THIRD: [[u8; 3]; 3] = [[1, 2, 1], [2, 0, 0], [1, 0, 0]];
+// Row x, column y: the remaining one of the codes 0, 1, 2. Two bits an entry, from the lowest on; the rows are 1 2 1, 2 0 0 and 1 0 0. As one
+// number the table stays in the code, where an array would be laid out in memory at each call.
+const THIRD: u32 = 0b000001_000010_011001;
 
 // Row o: what the order o makes of 0, 1 and 2.
 const IMAGE: [[u8; 3]; 6] = [
@@ -39,9 +40,9 @@ pub fn third(x: u8, y: u8) -> u8
     if 3 <= y {
         return 0;
     }
-    let row = x as usize;
-    let column = y as usize;
-    THIRD[row][column]
+    let row = 3 * (x as u32);
+    let column = y as u32;
+    ((THIRD >> (2 * (row + column))) % 4) as u8
 }
 
 // What the order o makes of the code x; 0 where there is no such order or code.
