@@ -5,7 +5,6 @@ pub mod value;
 use records::Refusal;
 ghost use mathlib.Core.Path.{_≡_};
 ghost use lib.Bits.{bitAnd};
-ghost use lib.Count.{ones};
 ghost use lib.Dec.{eqb};
 ghost use Rattle.bits.specs.Bits.{withBit};
 ghost use Rattle.bits.specs.Sums.{oneIf};

@@ -1,7 +1,7 @@
 // The line of standard input that gives the number of variables.
 ghost use mathlib.Core.Path.{_≡_};
 ghost use Prim.Native.Nat.{_-_};
-ghost use mathlib.Core.List.{List, [], _∷_};
+ghost use mathlib.Core.List.{[], _∷_};
 ghost use Rattle.map_files.specs.Reading.{isDigit, lineOf, Few};
 
 // What the line says: a number of variables that a list can have, or nothing that is one.

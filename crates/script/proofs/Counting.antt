@@ -7,21 +7,13 @@ use native.Mathlib.Omega.{arith}
 use lib.ListN.{length, getD, length-map}
 use Rattle.cube.specs.declared.Cube.{Cube}
 use Rattle.steps.specs.Moves.{After, stop, next}
-use Rattle.steps.specs.Steps.{Step, drop, join, split, turn, L, step}
-use Rattle.steps.proofs.Kept.{appends, removes, step-count}
+use Rattle.steps.specs.Steps.{Step, drop, join, split, turn, L, step, isSplit, isJoin, isDrop}
+use Rattle.steps.proofs.Kept.{step-count}
 use Rattle.steps.proofs.Inversion.{split-accepted}
 use Rattle.script.specs.Run.{Ran, stopped, ended, onward, stepsFrom, undo, run}
-use Rattle.script.specs.Counts.{isSplit, isJoin, isDrop, howMany, metAfter, lists, greatest}
+use Rattle.script.specs.Counts.{howMany, metAfter, lists, greatest}
 use Rattle.script.proofs.Pending.{undone, undo-map}
 use Rattle.script.proofs.Value.{ended-list, ended-peak, steps-onward, run-finished}
-
--- what a step appends and removes, by its kind
-kind-counts : (x : Step) → (appends x ≡ isSplit x) × (removes x ≡ isJoin x + 2 * isDrop x)
-kind-counts (drop i j) = (refl, refl)
-kind-counts (join i j) = (refl, refl)
-kind-counts (split v i) = (refl, refl)
-kind-counts (turn v i j) = (refl, refl)
-kind-counts (L v b) = (refl, refl)
 
 undo-length : (xs : List Step) (l : List Cube) → length (undo xs l) ≡ length l
 undo-length xs l = ap length (undo-map xs l) ∙ length-map l (undone xs)
@@ -37,7 +29,6 @@ steps-count n cap s q (x ∷ xs) l m p e =
     let o = steps-onward n cap s q x xs l m p e in
     omega (
       arith,
-      kind-counts x,
       step-count n cap x l (o .between) (o .first),
       steps-count n cap (suc s) (max q (length (o .between))) xs (o .between) m p (o .rest),
     )

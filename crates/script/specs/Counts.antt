@@ -6,30 +6,9 @@ use mathlib.Core.List.{List, [], _∷_}
 use lib.ListN.{length}
 use Rattle.cube.specs.declared.Cube.{Cube}
 use Rattle.steps.specs.Moves.{After, stop, next}
-use Rattle.steps.specs.Steps.{Step, drop, join, split, turn, L, step}
+use Rattle.steps.specs.Steps.{Step, step}
 
--- how many of a script's steps are splits, joins, drops
-abbrev pub isSplit : Step → ℕ
-isSplit (drop i j) = 0
-isSplit (join i j) = 0
-isSplit (split v i) = 1
-isSplit (turn v i j) = 0
-isSplit (L v b) = 0
-
-abbrev pub isJoin : Step → ℕ
-isJoin (drop i j) = 0
-isJoin (join i j) = 1
-isJoin (split v i) = 0
-isJoin (turn v i j) = 0
-isJoin (L v b) = 0
-
-abbrev pub isDrop : Step → ℕ
-isDrop (drop i j) = 1
-isDrop (join i j) = 0
-isDrop (split v i) = 0
-isDrop (turn v i j) = 0
-isDrop (L v b) = 0
-
+-- how many of a script's steps are of a kind: splits, joins, drops
 unfoldable pub howMany : (Step → ℕ) → List Step → ℕ
 howMany kind [] = 0
 howMany kind (x ∷ xs) = kind x + howMany kind xs

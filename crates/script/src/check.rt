@@ -3,7 +3,7 @@ use records::Counted;
 use records::Refusal;
 use steps::StepRecord;
 ghost use mathlib.Core.Path.{_≡_};
-ghost use lib.ListN.{length, getD};
+ghost use lib.ListN.{getD};
 ghost use Rattle.bits.specs.Sums.{firstBad};
 ghost use Rattle.records.specs.Words.{wordOf};
 ghost use Rattle.records.specs.Records.{listOf};

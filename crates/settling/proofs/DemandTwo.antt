@@ -20,7 +20,7 @@ use Rattle.cube.specs.Cubes.{code, put, Good, met, holds}
 use Rattle.cube.specs.Lists.{cubesOf, cubeCapacity, listValue, truthVector, vectorVariables}
 use Rattle.cube.proofs.Meaning as meaning
 use Rattle.steps.specs.Moves.{next}
-use Rattle.steps.specs.Steps.{Step, drop, join, split, turn, L, step, exchanged}
+use Rattle.steps.specs.Steps.{Step, drop, join, split, turn, L, step, exchanged, isSplit, isJoin, isDrop}
 use Rattle.steps.proofs.Inversion.{Dropped, Joined, Split, Turned}
 use Rattle.steps.proofs.Inversion as inversion
 use Rattle.steps.proofs.Rules.{complemented, plain, absent, Same, DropRule, JoinRule, SplitRule, TurnRule}
@@ -28,7 +28,7 @@ use Rattle.steps.proofs.Rules as rules
 use Rattle.steps.proofs.Transformation.{Transformed}
 use Rattle.steps.proofs.Transformation as transformation
 use Rattle.script.specs.Run.{ended, undo, run}
-use Rattle.script.specs.Counts.{isSplit, isJoin, isDrop, howMany, lists, greatest}
+use Rattle.script.specs.Counts.{howMany, lists, greatest}
 use Rattle.script.specs.Scripts.{stepsOf}
 use Rattle.script.specs.Calls.{runOf}
 use Rattle.script.proofs.Counting as counting

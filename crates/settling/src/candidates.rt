@@ -6,7 +6,7 @@ use records::Counted;
 ghost use mathlib.Core.Path.{_≡_};
 ghost use Prim.Native.Nat.{_^_, _<_, _≤_};
 ghost use lib.ListN.{length};
-ghost use Rattle.records.specs.Records.{records, image};
+ghost use Rattle.records.specs.Records.{records};
 ghost use Rattle.cube.specs.Lists.{cubes, cubesOf, cubeCapacity, truthVector, vectorVariables};
 ghost use Rattle.cube.specs.Calls.{checkList};
 ghost use Rattle.polarity.specs.Forms.{formList};

@@ -3,7 +3,7 @@
 use mathlib.Core.Path.{_≡_, sym, ap, _∙_, subst}
 use mathlib.Core.Bool.{Bool}
 use mathlib.Core.List.{List, map}
-use Prim.Native.Nat.{ℕ, _+_}
+use Prim.Native.Nat.{ℕ, _+_, _*_}
 use native.Mathlib.Omega.{arith}
 use lib.ListN.{length, length-map}
 use Rattle.bits.specs.Sums.{oneIf, sum, All}
@@ -14,7 +14,7 @@ use Rattle.cube.specs.Cubes.{one, Good, holds}
 use Rattle.cube.specs.Lists.{trues, listValue}
 use Rattle.cube.proofs.ListLaws.{good-at}
 use Rattle.steps.specs.Moves.{Move, drops, joins, splits, turns, next, applied}
-use Rattle.steps.specs.Steps.{Step, drop, join, split, turn, L, Fits, cubeAt, thirdAt, exchanged, step}
+use Rattle.steps.specs.Steps.{Step, drop, join, split, turn, L, Fits, cubeAt, thirdAt, exchanged, step, isSplit, isJoin, isDrop}
 use Rattle.steps.specs.Changes.{Placed}
 use Rattle.steps.proofs.Linear.{Linear, holds-linear, exchanged-good, exchanged-linear, exchanged-list-twice}
 use Rattle.steps.proofs.Balanced.{next-same, applied-sum, applied-all, applied-count}
@@ -44,43 +44,27 @@ taken-back-linear n (split v i) h w lin = lin
 taken-back-linear n (turn v i j) h w lin = lin
 taken-back-linear n (L v b) h w lin = exchanged-linear n v b (h .0) (h .1) w lin
 
--- ---- how many records a step appends, and how many it removes
-
-abbrev pub appends : Step → ℕ
-appends (drop i j) = 0
-appends (join i j) = 0
-appends (split v i) = 1
-appends (turn v i j) = 0
-appends (L v b) = 0
-
-abbrev pub removes : Step → ℕ
-removes (drop i j) = 2
-removes (join i j) = 1
-removes (split v i) = 0
-removes (turn v i j) = 0
-removes (L v b) = 0
-
 -- ---- one step
 
 pub record Kept (n : ℕ) (x : Step) (l m : List Cube) : Type 0 where
   pub good : All (Good n) m
   pub sums : (w : Cube → Bool) → Linear n w → sum (λ c. w (takenBack x c)) m ≡ sum w l
-  pub count : length m + removes x ≡ length l + appends x
+  pub count : length m + isJoin x + 2 * isDrop x ≡ length l + isSplit x
 
-pub step-count : (n cap : ℕ) (x : Step) (l m : List Cube) → step n cap x l ≡ next m → length m + removes x ≡ length l + appends x
+pub step-count : (n cap : ℕ) (x : Step) (l m : List Cube) → step n cap x l ≡ next m → length m + isJoin x + 2 * isDrop x ≡ length l + isSplit x
 unfolding step applied Placed
 step-count n cap (drop i j) l m e =
     let r = drop-accepted n cap i j l m e in
-    applied-count one l m cap i j drops (r .places) (ap next (sym (r .list)))
+    omega (arith, applied-count one l m cap i j drops (r .places) (ap next (sym (r .list))))
 step-count n cap (join i j) l m e =
     let r = join-accepted n cap i j l m e in
-    applied-count one l m cap i j (joins (thirdAt (cubeAt l i) (cubeAt l j) (r .v))) (r .places) (ap next (sym (r .list)))
+    omega (arith, applied-count one l m cap i j (joins (thirdAt (cubeAt l i) (cubeAt l j) (r .v))) (r .places) (ap next (sym (r .list))))
 step-count n cap (split v i) l m e =
     let r = split-accepted n cap v i l m e in
-    applied-count one l m cap i 0 (splits _ _) (record { inside = r .place; more = r .room }) (ap next (sym (r .list)))
+    omega (arith, applied-count one l m cap i 0 (splits _ _) (record { inside = r .place; more = r .room }) (ap next (sym (r .list))))
 step-count n cap (turn v i j) l m e =
     let r = turn-accepted n cap v i j l m e in
-    applied-count one l m cap i j (turns _ _) (r .places) (ap next (sym (r .list)))
+    omega (arith, applied-count one l m cap i j (turns _ _) (r .places) (ap next (sym (r .list))))
 step-count n cap (L v b) l m e = omega (arith, ap length (next-same e), length-map l (exchanged v b))
 
 module _ (n cap : ℕ) (l m : List Cube) (a : All (Good n) l) where

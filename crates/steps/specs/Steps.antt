@@ -104,3 +104,26 @@ step n cap (join i j) l = applied one i j l (joinMove n (length l) i j (cubeAt l
 step n cap (split v i) l = applied one i 0 l (splitMove (length l) cap v i (cubeAt l i))
 step n cap (turn v i j) l = applied one i j l (turnMove n (length l) v i j (cubeAt l i) (cubeAt l j))
 step n cap (L v b) l = next (map (exchanged v b) l)
+
+-- ---- the kind of a step: 1 for a split, a join, a drop
+
+abbrev pub isSplit : Step → ℕ
+isSplit (drop i j) = 0
+isSplit (join i j) = 0
+isSplit (split v i) = 1
+isSplit (turn v i j) = 0
+isSplit (L v b) = 0
+
+abbrev pub isJoin : Step → ℕ
+isJoin (drop i j) = 0
+isJoin (join i j) = 1
+isJoin (split v i) = 0
+isJoin (turn v i j) = 0
+isJoin (L v b) = 0
+
+abbrev pub isDrop : Step → ℕ
+isDrop (drop i j) = 1
+isDrop (join i j) = 0
+isDrop (split v i) = 0
+isDrop (turn v i j) = 0
+isDrop (L v b) = 0
