@@ -47,7 +47,10 @@ same-length : tie.Need-same-length
 same-length c = search needs
 
 returns : tie.Need-returns
-returns c = word-stored _ _ _ _ _ _ _ (c .before .before .before .before .before .pre) (omega arith) (c .before .before .before .low .ensures) (c .before .before .high .ensures) (c .before .low2 .ensures) (c .high2 .ensures)
+returns c =
+    let c₃ = c .before .before .before in
+    let c₅ = c₃ .before .before in
+    word-stored _ _ _ _ _ _ _ (c₅ .pre) (omega arith) (c₃ .low .ensures) (c .before .before .high .ensures) (c .before .low2 .ensures) (c .high2 .ensures)
 
 pub put-word-spec : {M : Type 1} → statement M
 put-word-spec =

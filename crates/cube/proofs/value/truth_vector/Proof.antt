@@ -61,8 +61,9 @@ same-length c = search needs
 
 returns-3 : tie.Need-returns-3
 returns-3 c =
-    let s = c .before .before .before .before .before in
-    let r = vector-done _ _ _ _ (told s) _ (size-is s) (c .before .before .before .before .if1 .left) _ (c .before .before .fill-vector .ensures) in
+    let c₄ = c .before .before .before .before in
+    let s = c₄ .before in
+    let r = vector-done _ _ _ _ (told s) _ (size-is s) (c₄ .if1 .left) _ (c .before .before .fill-vector .ensures) in
     (r .answer, r .buffer)
 
 pub truth-vector-spec : {M : Type 1} → statement M

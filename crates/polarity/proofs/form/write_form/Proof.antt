@@ -71,7 +71,8 @@ put-form-requires c κs = ok (c .before .before .before .before .before .before)
 returns-3 : tie.Need-returns-3
 unfolding formAfter
 returns-3 c =
-    let r = called-refused _ _ _ _ (form-refused _ _ _ _ _ (sym (c .before .before .before .check-vector .ensures) ∙ ap counted (c .before .r .given .1))) in
+    let c₃ = c .before .before .before in
+    let r = called-refused _ _ _ _ (form-refused _ _ _ _ _ (sym (c₃ .check-vector .ensures) ∙ ap counted (c .before .r .given .1))) in
     (r .says, r .buffer)
 
 same-length : tie.Need-same-length
@@ -80,10 +81,12 @@ same-length c = search needs
 returns-4 : tie.Need-returns-4
 unfolding formAfter
 returns-4 c =
-    let call = c .before .before .before .before .before .before in
+    let c₄ = c .before .before .before .before in
+    let c₅ = c₄ .before in
+    let call = c₅ .before in
     let r =
     called-accepted _ _ _ _ _ (form-0 _ _ _ _ _ (told (call .before .before .before)) (call .before .if1 .left) _ (call .count-products .ensures)
-    _ (c .before .before .before .before .before .capacity .ensures) (c .before .before .before .before .if2 .left)) (c .before .before .put-form .ensures) in
+    _ (c₅ .capacity .ensures) (c₄ .if2 .left)) (c .before .before .put-form .ensures) in
     (r .says, r .buffer)
 
 pub write-form-spec : {M : Type 1} → statement M

@@ -31,8 +31,9 @@ loop-less c = let l = c .before .before .before .before .before in omega (arith,
 
 loop-again : tie.Need-loop-again Inv-loop μ-loop
 loop-again c =
-    let l = c .before .before .before .before .before in
-    let b = c .before .before .before .before .loop-test .taken in
+    let c₄ = c .before .before .before .before in
+    let l = c₄ .before in
+    let b = c₄ .loop-test .taken in
     moving-more _ _ _ _ (l .loop .inv) b (moving-inside _ _ _ _ (l .loop .inv) (l .before .before .pre) b) _ (c .before .before .exchange .ensures)
 
 same-length : tie.Need-same-length Inv-loop μ-loop

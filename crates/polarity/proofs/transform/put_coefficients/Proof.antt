@@ -17,8 +17,9 @@ same-length c = search needs
 
 returns : tie.Need-returns
 returns c =
-    let s = c .before .before .before .before .before .before .before .before .before .before in
-    c .before .before .transform .ensures ∙ parities-moved _ _ _ _ (s .pre) _ (c .before .before .before .before .before .before .copy-moved .ensures)
+    let c₆ = c .before .before .before .before .before .before in
+    let s = c₆ .before .before .before .before in
+    c .before .before .transform .ensures ∙ parities-moved _ _ _ _ (s .pre) _ (c₆ .copy-moved .ensures)
 
 pub put-coefficients-spec : {M : Type 1} → statement M
 put-coefficients-spec =

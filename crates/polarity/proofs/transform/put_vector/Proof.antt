@@ -19,8 +19,9 @@ same-length c = search needs
 
 returns : tie.Need-returns
 returns c =
-    let s = c .before .before .before .before .before .before .before .before .before .before in
-    c .before .before .move-by .ensures ∙ positive-moved _ _ (s .args .bytes .now) _ (s .pre .polarity) (c .before .before .before .before .before .before .put-coefficients .ensures)
+    let c₆ = c .before .before .before .before .before .before in
+    let s = c₆ .before .before .before .before in
+    c .before .before .move-by .ensures ∙ positive-moved _ _ (s .args .bytes .now) _ (s .pre .polarity) (c₆ .put-coefficients .ensures)
 
 pub put-vector-spec : {M : Type 1} → statement M
 put-vector-spec = tie.close (tie.spec put-coefficients-requires move-by-requires same-length returns)

@@ -23,7 +23,10 @@ new-requires : tie.Need-new-requires
 new-requires c κs = search needs
 
 returns : tie.Need-returns
-returns c = run-short _ _ _ _ _ (sym (c .before .before .before .before .before .check .ensures) ∙ ap counted (c .before .before .before .enum-told .given .1)) _ (c .before .before .capacity .ensures) _ (c .new .ensures) (c .before .if1 .taken)
+returns c =
+    let c₃ = c .before .before .before in
+    let c₅ = c₃ .before .before in
+    run-short _ _ _ _ _ (sym (c₅ .check .ensures) ∙ ap counted (c₃ .enum-told .given .1)) _ (c .before .before .capacity .ensures) _ (c .new .ensures) (c .before .if1 .taken)
 
 check-script-requires : tie.Need-check-script-requires
 check-script-requires c κs = search needs
@@ -32,7 +35,10 @@ returns-2 : tie.Need-returns-2
 returns-2 c = run-list-refused _ _ _ _ _ (sym (c .before .before .before .check .ensures) ∙ ap counted (c .before .r .given .1))
 
 returns-3 : tie.Need-returns-3
-returns-3 c = c .check-script .ensures ∙ run-script _ _ _ _ _ (sym (c .before .before .before .before .before .check .ensures) ∙ ap counted (c .before .before .before .enum-told .given .1)) _ (c .before .before .capacity .ensures) (c .before .if1 .left)
+returns-3 c =
+    let c₃ = c .before .before .before in
+    let c₅ = c₃ .before .before in
+    c .check-script .ensures ∙ run-script _ _ _ _ _ (sym (c₅ .check .ensures) ∙ ap counted (c₃ .enum-told .given .1)) _ (c .before .before .capacity .ensures) (c .before .if1 .left)
 
 pub check-run-spec : {M : Type 1} → statement M
 check-run-spec =

@@ -26,7 +26,10 @@ same-length : tie.Need-same-length
 same-length c = search needs
 
 returns-2 : tie.Need-returns-2
-returns-2 c = whole-run _ _ _ _ _ (sym (c .before .before .before .before .before .before .check-run .ensures) ∙ ap counted (c .before .before .before .before .enum-told .given .1)) _ _ (c .before .before .run-accepted .ensures)
+returns-2 c =
+    let c₄ = c .before .before .before .before in
+    let c₆ = c₄ .before .before in
+    whole-run _ _ _ _ _ (sym (c₆ .check-run .ensures) ∙ ap counted (c₄ .enum-told .given .1)) _ _ (c .before .before .run-accepted .ensures)
 
 pub run-spec : {M : Type 1} → statement M
 run-spec =

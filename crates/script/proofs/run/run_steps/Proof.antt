@@ -21,7 +21,10 @@ step-at-requires : tie.Need-step-at-requires Inv-loop μ-loop
 step-at-requires c κs = search needs
 
 do-step-requires : tie.Need-do-step-requires Inv-loop μ-loop
-do-step-requires c κs = (c .before .before .before .loop .inv .ready, step-known _ _ _ _ (c .before .step-at .ensures) (c .before .before .loop-test .taken) (c .before .before .before .before .before .before .pre .1))
+do-step-requires c κs =
+    let c₃ = c .before .before .before in
+    let c₆ = c₃ .before .before .before in
+    (c₃ .loop .inv .ready, step-known _ _ _ _ (c .before .step-at .ensures) (c .before .before .loop-test .taken) (c₆ .pre .1))
 
 enum-known-stepped : tie.Need-enum-known-stepped Inv-loop μ-loop
 enum-known-stepped c = search needs
@@ -34,9 +37,13 @@ same-length c = search needs
 
 returns : tie.Need-returns Inv-loop μ-loop
 returns c =
-    let s = c .before .before .before .before .before .before .before .before .before .before .before .before .before in
-    running-stop _ _ _ _ _ _ _ _ _ _ (s .loop .inv) (c .before .before .before .before .before .before .before .before .before .before .before .before .loop-test .taken) (s .before .before .before .pre .1) _ (c .before .before .before .before .before .before .before .before .before .before .before .step-at .ensures)
-    _ (c .before .before .before .before .before .before .before .before .before .do-step .ensures .1) _ (c .before .before .before .before .before .before .before .before .before .do-step .ensures .0) _ (c .before .before .before .before .before .stepped .given .1) _ (c .before .before .clear .ensures)
+    let c₅ = c .before .before .before .before .before in
+    let c₉ = c₅ .before .before .before .before in
+    let c₁₁ = c₉ .before .before in
+    let c₁₂ = c₁₁ .before in
+    let s = c₁₂ .before in
+    running-stop _ _ _ _ _ _ _ _ _ _ (s .loop .inv) (c₁₂ .loop-test .taken) (s .before .before .before .pre .1) _ (c₁₁ .step-at .ensures)
+    _ (c₉ .do-step .ensures .1) _ (c₉ .do-step .ensures .0) _ (c₅ .stepped .given .1) _ (c .before .before .clear .ensures)
 
 enum-known-stepped-2 : tie.Need-enum-known-stepped-2 Inv-loop μ-loop
 enum-known-stepped-2 c = search needs
@@ -55,9 +62,12 @@ loop-less c = search needs
 
 loop-again : tie.Need-loop-again Inv-loop μ-loop
 loop-again c =
-    let s = c .before .before .before .before .before .before .before .before .before .before .before in
-    running-more _ _ _ _ _ _ _ _ _ _ (s .loop .inv) (c .before .before .before .before .before .before .before .before .before .before .loop-test .taken) (s .before .before .before .pre .1) _ (c .before .before .before .before .before .before .before .before .before .step-at .ensures)
-    _ (c .before .before .before .before .before .before .before .do-step .ensures .1) _ (c .before .before .before .before .before .before .before .do-step .ensures .0) _ (c .before .before .before .stepped2 .given .1) _ (c .before .larger .ensures) _ (c .pended .ensures)
+    let c₃ = c .before .before .before in
+    let c₇ = c₃ .before .before .before .before in
+    let c₉ = c₇ .before .before in
+    let l = c₉ .before .before in
+    running-more _ _ _ _ _ _ _ _ _ _ (l .loop .inv) (c₉ .before .loop-test .taken) (l .before .before .before .pre .1) _ (c₉ .step-at .ensures)
+    _ (c₇ .do-step .ensures .1) _ (c₇ .do-step .ensures .0) _ (c₃ .stepped2 .given .1) _ (c .before .larger .ensures) _ (c .pended .ensures)
 
 same-length-2 : tie.Need-same-length-2 Inv-loop μ-loop
 same-length-2 c = search needs

@@ -26,7 +26,8 @@ cast-undo-at c = search needs
 
 undo-at-requires : tie.Need-undo-at-requires Inv-loop μ-loop
 undo-at-requires c κs =
-    let s = c .before .before .before .before in (
+    let c₄ = c .before .before .before .before in
+    let s = c₄ in (
       undoing-held _ _ _ _ _ _ (c .before .before .loop .inv),
       (
         undoing-good _ _ _ _ _ _ (c .before .before .loop .inv) (s .pre .1 .1 .0) (s .pre .1 .0) (s .pre .1 .1 .1),
@@ -41,7 +42,10 @@ loop-less : tie.Need-loop-less Inv-loop μ-loop
 loop-less c = search needs
 
 loop-again : tie.Need-loop-again Inv-loop μ-loop
-loop-again c = undoing-more _ _ _ _ _ _ (c .before .before .before .before .before .loop .inv) _ (c .before .before .undo-at .ensures) (c .before .before .before .before .loop-test .taken)
+loop-again c =
+    let c₄ = c .before .before .before .before in
+    let c₅ = c₄ .before in
+    undoing-more _ _ _ _ _ _ (c₅ .loop .inv) _ (c .before .before .undo-at .ensures) (c₄ .loop-test .taken)
 
 same-length : tie.Need-same-length Inv-loop μ-loop
 same-length c = search needs

@@ -22,9 +22,11 @@ same-length c = search needs
 
 returns : tie.Need-returns
 returns c =
-    let s = c .before .before .before .before .before .before .before .before .before .before .before in
-    let v = vector-written _ _ (s .pre .0) _ _ (s .pre .1) (c .before .before .before .before .before .before .before .truth-vector .ensures .1) in
-    (best-polarity-found _ _ (s .pre .0) _ v _ _ _ (c .before .p .given .1) (c .before .before .before .best-polarity .ensures), v)
+    let c₃ = c .before .before .before in
+    let c₇ = c₃ .before .before .before .before in
+    let s = c₇ .before .before .before .before in
+    let v = vector-written _ _ (s .pre .0) _ _ (s .pre .1) (c₇ .truth-vector .ensures .1) in
+    (best-polarity-found _ _ (s .pre .0) _ v _ _ _ (c .before .p .given .1) (c₃ .best-polarity .ensures), v)
 
 same-length-2 : tie.Need-same-length-2
 same-length-2 c = search needs

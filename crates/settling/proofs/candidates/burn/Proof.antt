@@ -31,20 +31,29 @@ enum-known-w c = search needs
 
 put-form-requires : tie.Need-put-form-requires
 put-form-requires c κs =
-    let b = burn-formable _ _ _ _ _ _ _ _ (c .before .before .before .before .before .before .before .before .before .before .pre) _ (c .before .before .before .w .given .1) in
-    (b .vector-is, (b .polarity, (b .long, burn-room _ _ _ _ _ _ _ _ (c .before .before .before .before .before .before .before .before .before .before .pre) _ (c .before .before .before .w .given .1))))
+    let c₃ = c .before .before .before in
+    let c₁₀ = c₃ .before .before .before .before .before .before .before in
+    let b = burn-formable _ _ _ _ _ _ _ _ (c₁₀ .pre) _ (c₃ .w .given .1) in
+    (b .vector-is, (b .polarity, (b .long, burn-room _ _ _ _ _ _ _ _ (c₁₀ .pre) _ (c₃ .w .given .1))))
 
 same-length : tie.Need-same-length
 same-length c = search needs
 
 returns : tie.Need-returns
-returns c = burn-script _ _ _ _ _ _ _ _ (c .before .before .before .before .before .before .before .before .before .before .before .before .pre) (c .before .before .before .before .before .enum-told .given .1) _ refl _ (c .before .before .fill .ensures)
+returns c =
+    let c₅ = c .before .before .before .before .before in
+    let c₁₂ = c₅ .before .before .before .before .before .before .before in
+    burn-script _ _ _ _ _ _ _ _ (c₁₂ .pre) (c₅ .enum-told .given .1) _ refl _ (c .before .before .fill .ensures)
 
 same-length-2 : tie.Need-same-length-2
 same-length-2 c = search needs
 
 returns-2 : tie.Need-returns-2
-returns-2 c = burn-given _ _ _ _ _ _ _ _ (c .before .before .before .before .before .before .before .before .before .before .before .pre) (c .before .before .before .before .enum-told2 .given .1) (λ i. omega (arith, c .before .before .before .before .before .before .before .before .before .before .shared-slice-known .given i)) _ (c .before .before .fill2 .ensures)
+returns-2 c =
+    let c₄ = c .before .before .before .before in
+    let c₁₀ = c₄ .before .before .before .before .before .before in
+    let c₁₁ = c₁₀ .before in
+    burn-given _ _ _ _ _ _ _ _ (c₁₁ .pre) (c₄ .enum-told2 .given .1) (λ i. omega (arith, c₁₀ .shared-slice-known .given i)) _ (c .before .before .fill2 .ensures)
 
 same-length-3 : tie.Need-same-length-3
 same-length-3 c = search needs
@@ -53,7 +62,11 @@ same-length-4 : tie.Need-same-length-4
 same-length-4 c = search needs
 
 returns-3 : tie.Need-returns-3
-returns-3 c = burn-form _ _ _ _ _ _ _ _ (c .before .before .before .before .before .before .before .before .before .before .before .before .before .before .before .pre) _ (c .before .before .before .before .before .before .before .before .w .given .1) _ _ (c .before .before .before .before .put-form .ensures)
+returns-3 c =
+    let c₄ = c .before .before .before .before in
+    let c₈ = c₄ .before .before .before .before in
+    let c₁₅ = c₈ .before .before .before .before .before .before .before in
+    burn-form _ _ _ _ _ _ _ _ (c₁₅ .pre) _ (c₈ .w .given .1) _ _ (c₄ .put-form .ensures)
 
 pub burn-spec : {M : Type 1} → statement M
 burn-spec =

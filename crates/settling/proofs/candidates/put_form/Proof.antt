@@ -28,10 +28,13 @@ same-length-2 c = search needs
 
 returns : tie.Need-returns
 returns c =
-    let s = c .before .before .before .before .before .before .before .before .before .before .before .before .before .before .before .before .before .before .before in
-    let k = coefficients-written _ _ _ (s .pre .0) (s .pre .1 .0) _ _ (s .pre .1 .1 .0) (c .before .before .before .before .before .before .before .before .before .before .before .before .before .before .coefficients .ensures .1) in
-    form-burned _ _ _ (s .pre .0) (s .pre .1 .0) _ k _ (s .pre .1 .1 .1) _ _ (c .before .count .given .1) _ (c .before .before .before .before .before .before .before .before .before .before .clear .ensures)
-    (c .before .before .before .before .before .write-form .ensures .0) _ (c .before .before .before .before .before .write-form .ensures .1)
+    let c₅ = c .before .before .before .before .before in
+    let c₁₀ = c₅ .before .before .before .before .before in
+    let c₁₄ = c₁₀ .before .before .before .before in
+    let s = c₁₄ .before .before .before .before .before in
+    let k = coefficients-written _ _ _ (s .pre .0) (s .pre .1 .0) _ _ (s .pre .1 .1 .0) (c₁₄ .coefficients .ensures .1) in
+    form-burned _ _ _ (s .pre .0) (s .pre .1 .0) _ k _ (s .pre .1 .1 .1) _ _ (c .before .count .given .1) _ (c₁₀ .clear .ensures)
+    (c₅ .write-form .ensures .0) _ (c₅ .write-form .ensures .1)
 
 same-length-3 : tie.Need-same-length-3
 same-length-3 c = search needs
@@ -41,10 +44,13 @@ same-length-4 c = search needs
 
 returns-2 : tie.Need-returns-2
 returns-2 c =
-    let s = c .before .before .before .before .before .before .before .before .before .before .before .before .before .before .before .before .before .before in
-    let k = coefficients-written _ _ _ (s .pre .0) (s .pre .1 .0) _ _ (s .pre .1 .1 .0) (c .before .before .before .before .before .before .before .before .before .before .before .before .before .coefficients .ensures .1) in
-    absurd (form-not-refused _ _ _ (s .pre .0) (s .pre .1 .0) _ k (s .args .out .now) (s .pre .1 .1 .1) _ _ (c .enum-told .given .1) _ (c .before .before .before .before .before .before .before .before .before .clear .ensures)
-    (c .before .before .before .before .write-form .ensures .0))
+    let c₄ = c .before .before .before .before in
+    let c₉ = c₄ .before .before .before .before .before in
+    let c₁₃ = c₉ .before .before .before .before in
+    let s = c₁₃ .before .before .before .before .before in
+    let k = coefficients-written _ _ _ (s .pre .0) (s .pre .1 .0) _ _ (s .pre .1 .1 .0) (c₁₃ .coefficients .ensures .1) in
+    absurd (form-not-refused _ _ _ (s .pre .0) (s .pre .1 .0) _ k (s .args .out .now) (s .pre .1 .1 .1) _ _ (c .enum-told .given .1) _ (c₉ .clear .ensures)
+    (c₄ .write-form .ensures .0))
 
 pub put-form-spec : {M : Type 1} → statement M
 put-form-spec =

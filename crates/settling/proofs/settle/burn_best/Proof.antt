@@ -26,13 +26,21 @@ slice-aggregate-burn : tie.Need-slice-aggregate-burn
 slice-aggregate-burn c = search needs
 
 burn-requires : tie.Need-burn-requires
-burn-requires c κs = two-burnable _ _ _ _ _ (c .before .before .before .before .before .before .before .pre) (c .before .before .before .if1 .taken) _ _ (c .before .before .winner .ensures) _
+burn-requires c κs =
+    let c₃ = c .before .before .before in
+    let c₇ = c₃ .before .before .before .before in
+    two-burnable _ _ _ _ _ (c₇ .pre) (c₃ .if1 .taken) _ _ (c .before .before .winner .ensures) _
 
 same-length : tie.Need-same-length
 same-length c = search needs
 
 returns : tie.Need-returns
-returns c = two-burned _ _ _ _ _ (c .before .before .before .before .before .before .before .before .before .before .before .pre) (c .before .before .before .before .before .before .before .if1 .taken) _ _ (c .before .before .before .before .before .before .winner .ensures) _ _ (c .before .before .before .burn .ensures)
+returns c =
+    let c₃ = c .before .before .before in
+    let c₆ = c₃ .before .before .before in
+    let c₇ = c₆ .before in
+    let c₁₁ = c₇ .before .before .before .before in
+    two-burned _ _ _ _ _ (c₁₁ .pre) (c₇ .if1 .taken) _ _ (c₆ .winner .ensures) _ _ (c₃ .burn .ensures)
 
 shl-size : tie.Need-shl-size
 shl-size c = search needs

@@ -13,8 +13,10 @@ winner-requires c κs = search needs
 
 burn-requires : tie.Need-burn-requires
 burn-requires c κs =
-    let s = c .before .before .before .before .before .before .before .before .before .before .before .before .before in
-    three-burnable _ _ _ _ _ (s .pre .0) (s .pre .1 .0) _ (c .before .before .before .before .before .before .best-of .ensures .1) _ (c .before .before .before .before .before .before .best-of .ensures .0) _ (c .before .before .before .winner .ensures) _ (s .pre .1 .1 .1)
+    let c₃ = c .before .before .before in
+    let c₆ = c₃ .before .before .before in
+    let s = c₆ .before .before .before .before .before .before .before in
+    three-burnable _ _ _ _ _ (s .pre .0) (s .pre .1 .0) _ (c₆ .best-of .ensures .1) _ (c₆ .best-of .ensures .0) _ (c₃ .winner .ensures) _ (s .pre .1 .1 .1)
 
 same-length : tie.Need-same-length
 same-length c = search needs
@@ -27,8 +29,11 @@ same-length-3 c = search needs
 
 returns : tie.Need-returns
 returns c =
-    let s = c .before .before .before .before .before .before .before .before .before .before .before .before .before .before .before .before .before .before in
-    three-burned _ _ _ _ _ (s .pre .0) (s .pre .1 .0) _ (c .before .before .before .before .before .before .before .before .before .before .before .best-of .ensures .1) _ (c .before .before .before .before .before .before .before .before .before .before .before .best-of .ensures .0) _ (c .before .before .before .before .before .before .before .before .winner .ensures) _ _ (c .before .before .before .before .burn .ensures)
+    let c₄ = c .before .before .before .before in
+    let c₈ = c₄ .before .before .before .before in
+    let c₁₁ = c₈ .before .before .before in
+    let s = c₁₁ .before .before .before .before .before .before .before in
+    three-burned _ _ _ _ _ (s .pre .0) (s .pre .1 .0) _ (c₁₁ .best-of .ensures .1) _ (c₁₁ .best-of .ensures .0) _ (c₈ .winner .ensures) _ _ (c₄ .burn .ensures)
 
 pub burn-three-spec : {M : Type 1} → statement M
 burn-three-spec =

@@ -25,7 +25,9 @@ new-requires c κs = search needs
 
 returns : tie.Need-returns
 returns c =
-    let r = work-short _ _ _ _ _ _ (sym (c .before .before .before .before .before .before .check .ensures) ∙ ap counted (c .before .before .before .before .given .given .1)) _ (c .before .before .capacity .ensures) (c .before .if1 .taken) _ (c .new .ensures) in
+    let c₄ = c .before .before .before .before in
+    let c₆ = c₄ .before .before in
+    let r = work-short _ _ _ _ _ _ (sym (c₆ .check .ensures) ∙ ap counted (c₄ .given .given .1)) _ (c .before .before .capacity .ensures) (c .before .if1 .taken) _ (c .new .ensures) in
     (r .answer, (r .work-is, r .out-is))
 
 capacity-requires-2 : tie.Need-capacity-requires-2
@@ -36,7 +38,11 @@ new-requires-2 c κs = search needs
 
 returns-2 : tie.Need-returns-2
 returns-2 c =
-    let r = out-short _ _ _ _ _ _ (sym (c .before .before .before .before .before .before .before .before .check .ensures) ∙ ap counted (c .before .before .before .before .before .before .given .given .1)) _ (c .before .before .before .before .capacity .ensures) (c .before .before .before .if1 .left) _ (c .before .before .capacity2 .ensures) (c .before .if2 .taken) _ (c .new2 .ensures) in
+    let c₃ = c .before .before .before in
+    let c₄ = c₃ .before in
+    let c₆ = c₄ .before .before in
+    let c₈ = c₆ .before .before in
+    let r = out-short _ _ _ _ _ _ (sym (c₈ .check .ensures) ∙ ap counted (c₆ .given .given .1)) _ (c₄ .capacity .ensures) (c₃ .if1 .left) _ (c .before .before .capacity2 .ensures) (c .before .if2 .taken) _ (c .new2 .ensures) in
     (r .answer, (r .work-is, r .out-is))
 
 run-requires : tie.Need-run-requires
@@ -50,8 +56,16 @@ enum-known-count c = search needs
 
 burn-best-requires : tie.Need-burn-best-requires
 burn-best-requires c κs =
-    run-burns _ _ _ _ _ _ (sym (c .before .before .before .before .before .before .before .before .before .before .before .before .before .before .before .before .check .ensures) ∙ ap counted (c .before .before .before .before .before .before .before .before .before .before .before .before .before .before .given .given .1)) _ (c .before .before .before .before .before .before .before .before .before .before .before .before .capacity .ensures) (c .before .before .before .before .before .before .before .before .before .before .before .if1 .left) _ (c .before .before .before .before .before .before .before .before .before .before .capacity2 .ensures) (c .before .before .before .before .before .before .before .before .before .if2 .left) _ _ _
-    (sym (ap finished (c .before .before .before .count .given .1)) ∙ c .before .before .before .before .before .before .before .run .ensures .0) (c .before .before .before .before .before .before .before .run .ensures .1)
+    let c₃ = c .before .before .before in
+    let c₇ = c₃ .before .before .before .before in
+    let c₉ = c₇ .before .before in
+    let c₁₀ = c₉ .before in
+    let c₁₁ = c₁₀ .before in
+    let c₁₂ = c₁₁ .before in
+    let c₁₄ = c₁₂ .before .before in
+    let c₁₆ = c₁₄ .before .before in
+    run-burns _ _ _ _ _ _ (sym (c₁₆ .check .ensures) ∙ ap counted (c₁₄ .given .given .1)) _ (c₁₂ .capacity .ensures) (c₁₁ .if1 .left) _ (c₁₀ .capacity2 .ensures) (c₉ .if2 .left) _ _ _
+    (sym (ap finished (c₃ .count .given .1)) ∙ c₇ .run .ensures .0) (c₇ .run .ensures .1)
 
 clear-requires : tie.Need-clear-requires
 clear-requires c κs = search needs
@@ -66,8 +80,15 @@ same-length c = search needs
 
 returns-4 : tie.Need-returns-4
 returns-4 c =
-    let r = run-refused _ _ _ _ _ _ (sym (c .before .before .before .before .before .before .before .before .before .before .before .before .before .before .check .ensures) ∙ ap counted (c .before .before .before .before .before .before .before .before .before .before .before .before .given .given .1)) _ (c .before .before .before .before .before .before .before .before .before .before .capacity .ensures) (c .before .before .before .before .before .before .before .before .before .if1 .left) _ (c .before .before .before .before .before .before .before .before .capacity2 .ensures) (c .before .before .before .before .before .before .before .if2 .left) _ _
-    (sym (ap finished (c .before .r2 .given .1)) ∙ c .before .before .before .before .before .run .ensures .0) (c .before .before .before .before .before .run .ensures .1) in
+    let c₅ = c .before .before .before .before .before in
+    let c₇ = c₅ .before .before in
+    let c₈ = c₇ .before in
+    let c₉ = c₈ .before in
+    let c₁₀ = c₉ .before in
+    let c₁₂ = c₁₀ .before .before in
+    let c₁₄ = c₁₂ .before .before in
+    let r = run-refused _ _ _ _ _ _ (sym (c₁₄ .check .ensures) ∙ ap counted (c₁₂ .given .given .1)) _ (c₁₀ .capacity .ensures) (c₉ .if1 .left) _ (c₈ .capacity2 .ensures) (c₇ .if2 .left) _ _
+    (sym (ap finished (c .before .r2 .given .1)) ∙ c₅ .run .ensures .0) (c₅ .run .ensures .1) in
     (r .answer, (r .work-is, r .out-is))
 
 same-length-2 : tie.Need-same-length-2
@@ -78,8 +99,18 @@ same-length-3 c = search needs
 
 returns-5 : tie.Need-returns-5
 returns-5 c =
-    let r = run-settled _ _ _ _ _ _ (sym (c .before .before .before .before .before .before .before .before .before .before .before .before .before .before .before .before .before .before .before .before .before .before .before .check .ensures) ∙ ap counted (c .before .before .before .before .before .before .before .before .before .before .before .before .before .before .before .before .before .before .before .before .before .given .given .1)) _ (c .before .before .before .before .before .before .before .before .before .before .before .before .before .before .before .before .before .before .before .capacity .ensures) (c .before .before .before .before .before .before .before .before .before .before .before .before .before .before .before .before .before .before .if1 .left) _ (c .before .before .before .before .before .before .before .before .before .before .before .before .before .before .before .before .before .capacity2 .ensures) (c .before .before .before .before .before .before .before .before .before .before .before .before .before .before .before .before .if2 .left) _ _ _
-    (sym (ap finished (c .before .before .before .before .before .before .before .before .before .before .count .given .1)) ∙ c .before .before .before .before .before .before .before .before .before .before .before .before .before .before .run .ensures .0) (c .before .before .before .before .before .before .before .before .before .before .before .before .before .before .run .ensures .1) _ _ (c .before .before .before .before .before .before .burn-best .ensures) _ (c .before .before .clear .ensures) (search needs) in
+    let c₆ = c .before .before .before .before .before .before in
+    let c₁₀ = c₆ .before .before .before .before in
+    let c₁₃ = c₁₀ .before .before .before in
+    let c₁₄ = c₁₃ .before in
+    let c₁₆ = c₁₄ .before .before in
+    let c₁₇ = c₁₆ .before in
+    let c₁₈ = c₁₇ .before in
+    let c₁₉ = c₁₈ .before in
+    let c₂₁ = c₁₉ .before .before in
+    let c₂₃ = c₂₁ .before .before in
+    let r = run-settled _ _ _ _ _ _ (sym (c₂₃ .check .ensures) ∙ ap counted (c₂₁ .given .given .1)) _ (c₁₉ .capacity .ensures) (c₁₈ .if1 .left) _ (c₁₇ .capacity2 .ensures) (c₁₆ .if2 .left) _ _ _
+    (sym (ap finished (c₁₀ .count .given .1)) ∙ c₁₄ .run .ensures .0) (c₁₄ .run .ensures .1) _ _ (c₆ .burn-best .ensures) _ (c .before .before .clear .ensures) (c₁₃ .work .given) in
     (r .answer, (r .work-is, r .out-is))
 
 pub settle-spec : {M : Type 1} → statement M

@@ -27,8 +27,10 @@ same-length c = search needs
 
 returns : tie.Need-returns
 returns c =
-    let small : (k : ℕ) → getD (now (c .before .before .before .before .before .before .before .before .before .before .before .args .work)) k 0 < 256 =
-    λ k. omega (arith, c .before .before .before .before .before .before .before .before .before .before .slice-known .given k) in
+    let c₁₀ = c .before .before .before .before .before .before .before .before .before .before in
+    let c₁₁ = c₁₀ .before in
+    let small : (k : ℕ) → getD (now (c₁₁ .args .work)) k 0 < 256 =
+    λ k. omega (arith, c₁₀ .slice-known .given k) in
     search (remove-done, narrow-read, lawful)
 
 pub remove-spec : {M : Type 1} → statement M
