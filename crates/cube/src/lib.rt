@@ -60,7 +60,7 @@ impl Cube {
         self.seen % HALF + HALF * (self.value % HALF)
     }
 
-    // The cube of such a number.
+    // The cube of such a number: a decoded record.
     pub fn of_word(x: u32) -> Cube
         ensures { λ r. ⌜ r ≡ halves x ⌝ }
     {

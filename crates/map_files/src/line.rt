@@ -5,7 +5,7 @@ ghost use mathlib.Core.List.{[], _∷_};
 ghost use Rattle.map_files.specs.Reading.{isDigit, lineOf, Few};
 
 // What the line says: a number of variables that a list can have, or nothing that is one.
-pub enum Line {
+pub(crate) enum Line {
     Variables(usize),
     Bad,
 }
@@ -74,7 +74,7 @@ fn one(digit: u8) -> Line
 }
 
 // Reads the line, and nothing after it. A line of more than two bytes is bad at its third.
-pub fn read() -> Line
+pub(crate) fn read() -> Line
     ensures { λ r. ⌜ Few r ⌝ }
 {
     match next_byte() {

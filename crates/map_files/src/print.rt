@@ -25,18 +25,18 @@ fn widened(x: u8) -> usize {
     x as usize
 }
 
-pub fn no_file() {
+pub(crate) fn no_file() {
     text(b"no file\n");
 }
 
-pub fn refusal(r: Refusal) {
+pub(crate) fn refusal(r: Refusal) {
     number(b"refused ", widened(r.number));
     number(b" at ", r.place);
     text(b"\n");
 }
 
 // The line of counts.
-pub fn counts(s: Settlement) {
+pub(crate) fn counts(s: Settlement) {
     number(b"in ", s.given);
     number(b" peak ", s.peak);
     number(b" script ", s.script);
@@ -91,7 +91,7 @@ fn cube_line(n: usize, c: Cube)
 }
 
 // The first `count` cubes of a list.
-pub fn list(n: usize, bytes: &[u8], count: usize)
+pub(crate) fn list(n: usize, bytes: &[u8], count: usize)
     requires { ⌜ n ≤ mostVariables ⌝ }
 {
     let mut i: usize = 0;

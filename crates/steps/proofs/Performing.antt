@@ -173,12 +173,9 @@ module _ (k i j : ℕ) (b : List ℕ) (change : Change) where
     -- both removed
 
     module _ (e : change ≡ change-is.Drop) where
-      drop-in : TwoPlaces k i j
+      pub drop-in : TwoPlaces k i j
       unfolding moveOf Placed
       drop-in = subst (λ (t : Change). Placed k (length b / recordWidth) i j (moveOf t)) e p
-
-      pub drop-larger : (m : ℕ) → m ≡ max i j → m < k
-      drop-larger m q = let t : TwoPlaces k i j = drop-in in omega (arith, t .first, t .second)
 
       pub drop-smaller : (m : ℕ) → m ≡ min i j → m < k - 1
       drop-smaller m q = let t : TwoPlaces k i j = drop-in in omega (arith, t .first, t .second, t .unlike)

@@ -7,7 +7,7 @@ use denote.Ref.{now}
 use borrow.Author.Needs.{needs}
 use Rattle.cube.specs.Lists.{recordWidth}
 use Rattle.cube.proofs.ListLaws.{lawful}
-use Rattle.steps.proofs.Performing.{removed-held, perform-refuse, drop-larger, drop-smaller, drop-one, drop-two, perform-drop, join-one, join-below, join-held, perform-join, split-room, perform-split, perform-turn}
+use Rattle.steps.proofs.Performing.{removed-held, perform-refuse, drop-in, drop-smaller, drop-one, drop-two, perform-drop, join-one, join-below, join-held, perform-join, split-room, perform-split, perform-turn}
 use Rattle.steps.proofs.perform.perform.Statement.{statement}
 use Rattle.steps.proofs.perform.perform.Tie as tie
 
@@ -24,7 +24,11 @@ smaller-requires : tie.Need-smaller-requires
 smaller-requires c κs = search needs
 
 remove-requires : tie.Need-remove-requires
-remove-requires c κs = (search needs, search drop-larger)
+remove-requires c κs =
+    let start = c .before .before .before .before .before .before in
+    let places = drop-in (start .args .count) (start .args .i) (start .args .j) (now (start .args .work)) (start .args .change) (start .pre .1 .0)
+    (c .before .before .before .enum-told .given .1) in
+    (start .pre .0, omega (arith, places .first, places .second, c .before .before .larger .ensures, c .before .smaller .ensures))
 
 sub-remove : tie.Need-sub-remove
 sub-remove c = search drop-one
