@@ -31,12 +31,6 @@ pick zero x y z = x
 pick (suc zero) x y z = y
 pick (suc (suc k)) x y z = z
 
-pick-lt : (k x y z : ℕ) → x < 2 → y < 2 → z < 2 → pick k x y z < 2
-unfolding pick
-pick-lt zero x y z hx hy hz = hx
-pick-lt (suc zero) x y z hx hy hz = hy
-pick-lt (suc (suc k)) x y z hx hy hz = hz
-
 -- a function of a code is picked from its three values
 pick-code : (f : ℕ → ℕ) (k : ℕ) → k < 3 → pick k (f 0) (f 1) (f 2) ≡ f k
 unfolding pick
