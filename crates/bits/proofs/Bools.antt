@@ -1,11 +1,13 @@
 -- Laws of Bools: of `&&`, of the sum modulo 2, and a rule for all numbers below small bounds by one computed test.
 -- Assumes nothing.
 use mathlib.Core.Path.{_≡_, refl, sym, ap, ap₂, _∙_}
-use mathlib.Core.Logic.{⊎-elim}
+use mathlib.Core.Logic.{⊎-elim, _⊎_, inl, inr}
 use mathlib.Core.Bool.{Bool, true, false, _&&_, _||_, Bool·beq, true≢false, false≢true}
-use Prim.Native.Nat.{ℕ, zero, suc, _+_, _%_, _<_}
+use Prim.Native.Nat.{ℕ, zero, suc, _+_, _%_, _<_, _≤_}
 use native.Mathlib.Nat.{eq-or-lt-of-le, le-of-suc-le-suc, not-suc-le-zero}
 use native.Mathlib.Omega.{arith}
+use lib.Dec.{ltb}
+use borrow.Author.Tests.{ltb-true, ltb-false}
 use Rattle.bits.specs.Below.{allBelow}
 use Rattle.bits.specs.Sums.{_⊕_, oneIf}
 
@@ -36,6 +38,13 @@ beq-eq false false e = refl
 pub one-lt : (b : Bool) → oneIf b < 2
 one-lt true = omega arith
 one-lt false = omega arith
+
+pub below-or : (a m : ℕ) → (a < m) ⊎ (m ≤ a)
+below-or a m = go (ltb a m) refl
+  where
+    go : (b : Bool) → ltb a m ≡ b → (a < m) ⊎ (m ≤ a)
+    go true e = inl (ltb-true a m e)
+    go false e = inr (ltb-false a m e)
 
 -- ---- a test computed once over all numbers below n gives the rule at each
 

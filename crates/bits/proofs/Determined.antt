@@ -6,6 +6,24 @@ use Rattle.bits.proofs.bit.Kinds as bit-kinds
 use Rattle.bits.proofs.bit.Reads as bit-reads
 use Rattle.bits.proofs.within.Kinds as within-kinds
 use Rattle.bits.proofs.within.Reads as within-reads
+use Rattle.bits.proofs.packed.Packed.of.Kinds as packed-of-kinds
+use Rattle.bits.proofs.packed.Packed.of.Reads as packed-of-reads
+use Rattle.bits.proofs.packed.Packed.lowered.Kinds as packed-lowered-kinds
+use Rattle.bits.proofs.packed.Packed.lowered.Reads as packed-lowered-reads
+use Rattle.bits.proofs.packed.Packed.raised.Kinds as packed-raised-kinds
+use Rattle.bits.proofs.packed.Packed.raised.Reads as packed-raised-reads
+use Rattle.bits.proofs.packed.Packed.ones.Kinds as packed-ones-kinds
+use Rattle.bits.proofs.packed.Packed.ones.Reads as packed-ones-reads
+use Rattle.bits.proofs.packed.Packed.literal.Kinds as packed-literal-kinds
+use Rattle.bits.proofs.packed.Packed.literal.Reads as packed-literal-reads
+use Rattle.bits.proofs.packed.Packed.both.Kinds as packed-both-kinds
+use Rattle.bits.proofs.packed.Packed.both.Reads as packed-both-reads
+use Rattle.bits.proofs.packed.Packed.sum.Kinds as packed-sum-kinds
+use Rattle.bits.proofs.packed.Packed.sum.Reads as packed-sum-reads
+use Rattle.bits.proofs.packed.Packed.word.Kinds as packed-word-kinds
+use Rattle.bits.proofs.packed.Packed.word.Reads as packed-word-reads
+use Rattle.bits.proofs.packed.Packed.bit.Kinds as packed-bit-kinds
+use Rattle.bits.proofs.packed.Packed.bit.Reads as packed-bit-reads
 
 -- equal to the same
 pub same {ℓ} : {A : Type ℓ} {x y z : A} → x ≡ z → y ≡ z → x ≡ y
@@ -20,3 +38,30 @@ bit-determined κs a z z′ ws ws′ p q = (same p q, refl)
 
 pub within-determined : Determined 0 within-kinds.ps within-kinds.r within-reads.Learnt
 within-determined κs a z z′ ws ws′ p q = (same p q, refl)
+
+pub packed-of-determined : Determined 1 packed-of-kinds.ps packed-of-kinds.r packed-of-reads.Learnt
+packed-of-determined κs a z z′ ws ws′ p q = (same p q, refl)
+
+pub packed-lowered-determined : Determined 0 packed-lowered-kinds.ps packed-lowered-kinds.r packed-lowered-reads.Learnt
+packed-lowered-determined κs a z z′ ws ws′ p q = (same p q, refl)
+
+pub packed-raised-determined : Determined 0 packed-raised-kinds.ps packed-raised-kinds.r packed-raised-reads.Learnt
+packed-raised-determined κs a z z′ ws ws′ p q = (same p q, refl)
+
+pub packed-ones-determined : Determined 0 packed-ones-kinds.ps packed-ones-kinds.r packed-ones-reads.Learnt
+packed-ones-determined κs a z z′ ws ws′ p q = (same p q, refl)
+
+pub packed-literal-determined : Determined 0 packed-literal-kinds.ps packed-literal-kinds.r packed-literal-reads.Learnt
+packed-literal-determined κs a z z′ ws ws′ p q = (same p q, refl)
+
+pub packed-both-determined : Determined 0 packed-both-kinds.ps packed-both-kinds.r packed-both-reads.Learnt
+packed-both-determined κs a z z′ ws ws′ p q = (same p q, refl)
+
+pub packed-sum-determined : Determined 0 packed-sum-kinds.ps packed-sum-kinds.r packed-sum-reads.Learnt
+packed-sum-determined κs a z z′ ws ws′ p q = (same p q, refl)
+
+pub packed-bit-determined : Determined 0 packed-bit-kinds.ps packed-bit-kinds.r packed-bit-reads.Learnt
+packed-bit-determined κs a z z′ ws ws′ p q = (same p q, refl)
+
+pub packed-word-determined : Determined 0 packed-word-kinds.ps packed-word-kinds.r packed-word-reads.Learnt
+packed-word-determined κs a z z′ ws ws′ p q = (same p q, refl)

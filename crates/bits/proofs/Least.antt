@@ -3,13 +3,14 @@
 use mathlib.Core.Path.{_≡_, refl, sym, ap, _∙_, subst}
 use mathlib.Core.Logic.{⊎-elim}
 use mathlib.Core.Bool.{Bool, true, false, cond}
-use Prim.Native.Nat.{ℕ, zero, suc, _+_, _<_, _≤_}
+use Prim.Native.Nat.{ℕ, zero, suc, _+_, _<_, _≤_, zero-le}
 use native.Mathlib.Nat.{le-refl, not-suc-le-zero, eq-or-lt-of-le, le-of-suc-le-suc, le-antisymm}
 use native.Mathlib.Numerals.{add-one}
 use native.Mathlib.Omega.{arith}
 use lib.Dec.{ltb}
 use borrow.Author.Tests.{ltb-true, ltb-false, lt-ltb, le-ltb}
-use Rattle.bits.specs.Below.{leastBelow}
+use Rattle.bits.specs.Below.{leastBelow, LeastIn}
+use Rattle.bits.proofs.Bools.{below-or}
 
 module _ (f : ℕ → ℕ) (m : ℕ) where
   least-lower : f m < f (leastBelow f m) → leastBelow f (suc m) ≡ m
@@ -77,3 +78,38 @@ module _ (f : ℕ → ℕ) (p b rank next : ℕ) (eb : b ≡ leastBelow f p) (es
 
   pub turn-kept : rank ≤ next → b ≡ leastBelow f (p + 1)
   turn-kept l = eb ∙ sym (ap (leastBelow f) (add-one p) ∙ least-kept f p (omega (arith, there, en)))
+
+-- ---- the same over the numbers from a to b
+
+module _ (f : ℕ → ℕ) where
+  pub in-one : (a b : ℕ) → b ≡ a + 1 → LeastIn f a b a
+  in-one a b e = record {
+    from = le-refl a;
+    inside = omega arith;
+    fewest = λ q l h. subst (λ (x : ℕ). f a ≤ f x) (omega arith) (le-refl (f a));
+    smallest = λ q l h. absurd (omega arith);
+  }
+
+  -- of two ranges side by side: the upper one's where it is less, else the lower one's
+  module _ (a b c p q : ℕ) (P : LeastIn f a b p) (Q : LeastIn f b c q) where
+    pub in-upper : f q < f p → LeastIn f a c q
+    in-upper h = record {
+      from = omega (arith, P .from, P .inside, Q .from);
+      inside = Q .inside;
+      fewest = λ x l u. ⊎-elim (λ m. omega (arith, P .fewest x l m)) (λ m. Q .fewest x m u) (below-or x b);
+      smallest = λ x l u. ⊎-elim (λ m. omega (arith, P .fewest x l m)) (λ m. Q .smallest x m u) (below-or x b);
+    }
+
+    pub in-lower : f p ≤ f q → LeastIn f a c p
+    in-lower h = record {
+      from = P .from;
+      inside = omega (arith, P .inside, Q .from, Q .inside);
+      fewest = λ x l u. ⊎-elim (λ m. P .fewest x l m) (λ m. omega (arith, Q .fewest x m u)) (below-or x b);
+      smallest = P .smallest;
+    }
+
+  pub in-all : (m p : ℕ) → LeastIn f 0 m p → p ≡ leastBelow f m
+  in-all zero p P = absurd (omega (arith, P .inside))
+  in-all (suc m) p P =
+      least-unique f (suc m) p (leastBelow f (suc m))
+      (record { inside = P .inside; fewest = λ q h. P .fewest q zero-le h; smallest = λ q h. P .smallest q zero-le h }) (least-is f m)

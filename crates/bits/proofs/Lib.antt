@@ -3,4 +3,5 @@ pub mod Bits
 pub mod Below
 pub mod Sums
 pub mod Least
+pub mod Packing
 pub mod Determined

@@ -1,6 +1,6 @@
 -- Tests, sums, lists and a choice over the numbers below a bound.
 -- Assumes nothing.
-use Prim.Native.Nat.{ℕ, zero, suc, _+_}
+use Prim.Native.Nat.{ℕ, zero, suc, _+_, _≤_, _<_}
 use mathlib.Core.Bool.{Bool, true, cond, _&&_}
 use mathlib.Core.List.{List, [], _∷_}
 use lib.Dec.{ltb}
@@ -29,3 +29,10 @@ listBelow (suc m) f = f 0 ∷ listBelow m (λ k. f (suc k))
 unfoldable pub leastBelow : (ℕ → ℕ) → ℕ → ℕ
 leastBelow f zero = 0
 leastBelow f (suc m) = cond (ltb (f m) (f (leastBelow f m))) m (leastBelow f m)
+
+-- of the numbers from a to b, p is the one at which f is least, and of several such the smallest
+pub record LeastIn (f : ℕ → ℕ) (a b p : ℕ) : Type 0 where
+  pub from : a ≤ p
+  pub inside : p < b
+  pub fewest : (q : ℕ) → a ≤ q → q < b → f p ≤ f q
+  pub smallest : (q : ℕ) → a ≤ q → q < p → f p < f q

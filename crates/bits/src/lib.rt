@@ -1,4 +1,6 @@
 // Bits of a number, and numbers as sets of variables.
+pub mod packed;
+
 ghost use mathlib.Core.Path.{_≡_};
 ghost use Rattle.bits.specs.Bits.{bit, within};
 

@@ -71,13 +71,12 @@ module _ (n : ℕ) (b out : List ℕ) where
   pub vectoring-none : Vectoring n b out out 0
   vectoring-none = record { size = refl; within = zero-le; is = filling-none (listValue n (cubesOf b)) out }
 
-  pub vectoring-more : (out′ : List ℕ) (a t : ℕ) → Vectoring n b out out′ a → a < 2 ^ n → 2 ^ n ≤ length out → t ≡ trues n (cubesOf b) a
-      → Vectoring n b out (set out′ a (t % 2)) (a + 1)
-  unfolding listValue
-  vectoring-more out′ a t r h room et = record {
-    size = length-set out′ a (t % 2) ∙ r .size;
+  pub vectoring-more : (out′ : List ℕ) (a x : ℕ) → Vectoring n b out out′ a → a < 2 ^ n → 2 ^ n ≤ length out → x ≡ listValue n (cubesOf b) a
+      → Vectoring n b out (set out′ a x) (a + 1)
+  vectoring-more out′ a x r h room ex = record {
+    size = length-set out′ a x ∙ r .size;
     within = omega arith;
-    is = ap₂ (λ (l : List ℕ) (x : ℕ). set l a (x % 2)) (r .is) et ∙ filling-more (listValue n (cubesOf b)) out a (omega arith);
+    is = ap₂ (λ (l : List ℕ) (y : ℕ). set l a y) (r .is) ex ∙ filling-more (listValue n (cubesOf b)) out a (omega arith);
   }
 
   pub vectoring-done : (out′ : List ℕ) (a : ℕ) → Vectoring n b out out′ a → 2 ^ n ≤ a → out′ ≡ truthVector n (cubesOf b) ++ drop (2 ^ n) out

@@ -3,5 +3,7 @@ pub mod Masks
 pub mod Apart
 pub mod ListLaws
 pub mod CallLaws
+pub mod Slices
+pub mod Filling
 pub mod Determined
 pub mod Meaning

@@ -1,16 +1,21 @@
 // The value of a list at an assignment, and its truth vector.
+use crate::Cube;
 use crate::Valued;
 use crate::list;
+use bits::packed::Packed;
 use records::Counted;
 use records::Refusal;
 ghost use mathlib.Core.Path.{_≡_};
-ghost use Prim.Native.Nat.{_<_, _≤_, _^_};
+ghost use Prim.Native.Nat.{ℕ, _+_, min, _<_, _≤_, _^_};
 ghost use mathlib.Core.List.{_++_};
 ghost use lib.ListN.{length, drop};
-ghost use Rattle.bits.specs.Sums.{All};
+ghost use Rattle.bits.specs.Bits.{bit};
+ghost use Rattle.bits.specs.Below.{listBelow};
+ghost use Rattle.bits.specs.Sums.{All, oneIf};
+ghost use Rattle.bits.specs.Packed.{bitAt, both, literalBits};
 ghost use Rattle.records.specs.Answers.{counted};
-ghost use Rattle.cube.specs.Cubes.{Good};
-ghost use Rattle.cube.specs.Lists.{cubesOf, trues, truthVector};
+ghost use Rattle.cube.specs.Cubes.{code, Good, holds};
+ghost use Rattle.cube.specs.Lists.{cubesOf, trues, listValue, truthVector};
 ghost use Rattle.cube.specs.Calls.{valued, valueOutcome, vectorOutcome, vectorAfter};
 
 // Variables of a truth vector, at most.
@@ -47,17 +52,81 @@ pub fn value(n: usize, list: &[u8], a: u64) -> Valued
     }
 }
 
-// The value at each of `size` assignments, to the front of a buffer.
+// The bits of w at whose index the literal of variable k is true.
+fn with_literal(w: Packed, c: Cube, k: u32) -> Packed
+    requires { ⌜ k < 8 ⌝ }
+    ensures { λ r. ⌜ r ≡ both w (literalBits (code c k) k) ⌝ }
+{
+    w.both(Packed::literal(k as usize, c.code_at(k)))
+}
+
+// The assignments of eight variables at which a product is true, a bit each.
+fn product_bits(c: Cube) -> Packed
+    ensures { λ r. ⌜ ((a : ℕ) → a < 256 → bitAt r a ≡ oneIf (holds 8 c a)) ⌝ }
+{
+    let w0 = with_literal(Packed::EVERY, c, 0);
+    let w1 = with_literal(w0, c, 1);
+    let w2 = with_literal(w1, c, 2);
+    let w3 = with_literal(w2, c, 3);
+    let w4 = with_literal(w3, c, 4);
+    let w5 = with_literal(w4, c, 5);
+    let w6 = with_literal(w5, c, 6);
+    with_literal(w6, c, 7)
+}
+
+// The value of a list at each assignment of eight variables, a bit each.
+fn value_bits(list: &[u8]) -> Packed
+    ensures { λ r. ⌜ ((a : ℕ) → a < 256 → bitAt r a ≡ listValue 8 (cubesOf (now (list .entry))) a) ⌝ }
+{
+    let count = list.len() / list::RECORD_WIDTH;
+    let mut w = Packed::NONE;
+    let mut i: usize = 0;
+    while i < count {
+        let next = w.sum(product_bits(list::cube_at(list, i)));
+        w = next;
+        i += 1;
+    }
+    w
+}
+
+// Where the word that starts at a ends, or the whole.
+fn word_end(a: usize, size: usize) -> usize
+    requires { ⌜ (a ≤ size) × (size ≤ 256) ⌝ }
+    ensures { λ r. ⌜ r ≡ min (a + 64) size ⌝ }
+{
+    if a + 64 < size {
+        return a + 64;
+    }
+    size
+}
+
+// The bits of a word, a byte each. The part is exactly as long as what is written, so that the loop needs no test of the place.
+fn put_bits(w: u64, part: &mut [u8])
+    requires { ⌜ length (now part) ≤ 64 ⌝ }
+    ensures { λ _. ⌜ now (part .exit) ≡ listBelow (length (now (part .entry))) (bit w) ⌝ }
+{
+    let mut j: usize = 0;
+    while j < part.len() {
+        part[j] = ((w >> j) % 2) as u8;
+        j += 1;
+    }
+}
+
+// The value at each of `size` assignments, to the front of a buffer, word by word.
 fn fill_vector(n: usize, size: usize, list: &[u8], out: &mut [u8])
     requires { ⌜ All (Good n) (cubesOf (now list)) ⌝ }
-    requires { ⌜ (size ≡ 2 ^ n) × (size ≤ 256) ⌝ }
+    requires { ⌜ (size ≡ 2 ^ n) × (n ≤ 8) ⌝ }
     requires { ⌜ size ≤ length (now out) ⌝ }
     ensures { λ _. ⌜ now (out .exit) ≡ truthVector n (cubesOf (now (list .entry))) ++ drop (2 ^ n) (now (out .entry)) ⌝ }
 {
+    let values = value_bits(list);
+    let mut i: usize = 0;
     let mut a: usize = 0;
     while a < size {
-        out[a] = (trues_at(n, list, a as u32) % 2) as u8;
-        a += 1;
+        let end = word_end(a, size);
+        put_bits(values.word(i), &mut out[a..end]);
+        i += 1;
+        a = end;
     }
 }
 

@@ -24,7 +24,7 @@ six-or-four : (b : Bool) (given peak script p size burned : ℕ)
 six-or-four true given peak script p size burned = refl
 six-or-four false given peak script p size burned = refl
 
-count-of : (n : ℕ) (given : List Cube) (ran : Ran) (v : List ℕ) → ranSettled n given ran ≡ accepted v → length v ≡ cond (leb n vectorVariables) 6 4
+count-of : (n : ℕ) (given : List Cube) (ran : Ran Cube) (v : List ℕ) → ranSettled n given ran ≡ accepted v → length v ≡ cond (leb n vectorVariables) 6 4
 unfolding fixedOf
 count-of n given (stopped number step) v e = absurd (not-both (sym e))
 count-of n given (ended result peak) v e = sym (ap length (accepted-values e)) ∙ six-or-four (leb n vectorVariables) (length given) peak (length result) _ _ _

@@ -17,7 +17,8 @@ use Rattle.bits.specs.Below.{listBelow}
 use Rattle.bits.proofs.Bits.{shl-one}
 use Rattle.bits.proofs.Below.{length-listBelow, getD-listBelow, is-listBelow}
 use Rattle.polarity.specs.Vectors.{byteAt}
-use Rattle.polarity.specs.Passes.{added, addedBlock}
+use Rattle.bits.specs.Packed.{added}
+use Rattle.polarity.specs.Passes.{addedBlock}
 use Rattle.polarity.proofs.Subsets.{below-or}
 use Rattle.polarity.proofs.Parities.{pow-double}
 use Rattle.polarity.proofs.Passing.{Passed, passed-none, passed-more, passed-end, added-with, added-without}

@@ -6,6 +6,7 @@ pub mod Moving
 pub mod Checks
 pub mod Listing
 pub mod Writing
+pub mod Flipping
 pub mod Choosing
 pub mod Theorems
 pub mod Uniqueness

@@ -21,7 +21,8 @@ use Rattle.bits.proofs.Bits.{bit-lt, bit-high, weight-le, with-same, with-other
 use Rattle.bits.proofs.Below.{length-listBelow, getD-listBelow, is-listBelow, listBelow-cong}
 use Rattle.polarity.specs.Forms.{parityWithin}
 use Rattle.polarity.specs.Vectors.{byteAt, Vector}
-use Rattle.polarity.specs.Passes.{added, parities}
+use Rattle.bits.specs.Packed.{added}
+use Rattle.polarity.specs.Passes.{parities}
 use Rattle.polarity.proofs.Subsets.{below-or, xor-parity}
 use Rattle.polarity.proofs.Parities.{pow-double, parity-zero, parity-low, parity-top, parity-lt}
 

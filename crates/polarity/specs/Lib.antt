@@ -2,3 +2,4 @@ pub mod Forms
 pub mod Vectors
 pub mod Calls
 pub mod Passes
+pub mod Search

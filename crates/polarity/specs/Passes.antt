@@ -20,10 +20,6 @@ pub record Ready (n : ℕ) (l : List ℕ) (p : ℕ) (buffer : List ℕ) : Type 0
   pub polarity : p < 2 ^ n
   pub room : length buffer ≡ 2 ^ n
 
--- where t has variable k, f there and f without it, EXOR; else f
-unfoldable pub added : ℕ → (ℕ → ℕ) → ℕ → ℕ
-added k f t = cond (eqb (bit t k) 1) (bitXor (f t) (f (t - 2 ^ k))) (f t)
-
 -- in the upper half of the block of 2 h indices at `from`, f there and f h before, EXOR; else f
 unfoldable pub addedBlock : ℕ → ℕ → (ℕ → ℕ) → ℕ → ℕ
 addedBlock from h f t = cond (leb (from + h) t && ltb t (from + h + h)) (bitXor (f t) (f (t - h))) (f t)

@@ -10,7 +10,8 @@ ghost use Rattle.bits.specs.Below.{listBelow};
 ghost use Rattle.records.specs.Answers.{counted};
 ghost use Rattle.polarity.specs.Vectors.{byteAt, Vector, coefficientVector, vectorBack};
 ghost use Rattle.polarity.specs.Calls.{coefficientsOutcome, coefficientsAfter, backAfter};
-ghost use Rattle.polarity.specs.Passes.{Ready, added, addedBlock, parities, moved, exchanged};
+ghost use Rattle.bits.specs.Packed.{added};
+ghost use Rattle.polarity.specs.Passes.{Ready, addedBlock, parities, moved, exchanged};
 
 // To each byte of the upper half of the block of 2h bytes at `from`, the byte h before it is added, modulo 2.
 fn add_block(v: &mut [u8], from: usize, h: usize)

@@ -13,7 +13,8 @@ use Rattle.steps.proofs.Inversion.{split-accepted}
 use Rattle.script.specs.Run.{Ran, stopped, ended, onward, stepsFrom, undo, run}
 use Rattle.script.specs.Counts.{howMany, metAfter, lists, greatest}
 use Rattle.script.proofs.Pending.{undone, undo-map}
-use Rattle.script.proofs.Value.{ended-list, ended-peak, steps-onward, run-finished}
+use Rattle.script.proofs.Runs.{ended-list, ended-peak}
+use Rattle.script.proofs.Value.{steps-onward, run-finished}
 
 undo-length : (xs : List Step) (l : List Cube) → length (undo xs l) ≡ length l
 undo-length xs l = ap length (undo-map xs l) ∙ length-map l (undone xs)
@@ -21,7 +22,7 @@ undo-length xs l = ap length (undo-map xs l) ∙ length-map l (undone xs)
 -- ---- the steps in turn
 
 -- "the first count plus splits, less joins, less twice the drops"
-pub steps-count : (n cap s q : ℕ) (xs : List Step) (l m : List Cube) (p : ℕ) → stepsFrom n cap s q xs l ≡ ended m p
+pub steps-count : (n cap s q : ℕ) (xs : List Step) (l m : List Cube) (p : ℕ) → stepsFrom (step n cap) s q xs l ≡ ended m p
     → length m + howMany isJoin xs + 2 * howMany isDrop xs ≡ length l + howMany isSplit xs
 unfolding stepsFrom howMany
 steps-count n cap s q [] l m p e = omega (arith, ap length (ended-list e))
@@ -69,7 +70,7 @@ lists-bound n cap (x ∷ xs) l = go (step n cap x l) refl (lists-bound n cap xs)
     go (next r) f ih = let b = step-bound n cap x l r f in let t = ih r in (omega arith, omega arith)
 
 -- of steps that are all done there is one after each, and the last is the one they end with
-steps-lists : (n cap s q : ℕ) (xs : List Step) (l m : List Cube) (p : ℕ) → stepsFrom n cap s q xs l ≡ ended m p
+steps-lists : (n cap s q : ℕ) (xs : List Step) (l m : List Cube) (p : ℕ) → stepsFrom (step n cap) s q xs l ≡ ended m p
     → (length (lists n cap xs l) ≡ suc (length xs)) × (getD (lists n cap xs l) (length xs) [] ≡ m)
 unfolding stepsFrom lists
 steps-lists n cap s q [] l m p e = (refl, ended-list e)
@@ -80,7 +81,7 @@ steps-lists n cap s q (x ∷ xs) l m p e =
     (ap length are ∙ ap suc (t .0), ap (λ (k : List (List Cube)). getD k (suc (length xs)) []) are ∙ t .1)
 
 -- the greatest count met so far is kept up
-steps-peak : (n cap s q : ℕ) (xs : List Step) (l m : List Cube) (p : ℕ) → length l ≤ q → stepsFrom n cap s q xs l ≡ ended m p
+steps-peak : (n cap s q : ℕ) (xs : List Step) (l m : List Cube) (p : ℕ) → length l ≤ q → stepsFrom (step n cap) s q xs l ≡ ended m p
     → (p ≡ max q (greatest (lists n cap xs l))) × (length m ≤ p)
 unfolding stepsFrom lists greatest
 steps-peak n cap s q [] l m p h e = (omega (arith, ended-peak e), omega (arith, ended-peak e, ap length (ended-list e)))
@@ -91,24 +92,24 @@ steps-peak n cap s q (x ∷ xs) l m p h e =
 
 -- ---- step numbers and the starting peak only shift
 
-abbrev pub shifted : ℕ → ℕ → Ran → Ran
+abbrev pub shifted : ℕ → ℕ → Ran Cube → Ran Cube
 shifted s q (stopped r k) = stopped r (s + k)
 shifted s q (ended l p) = ended l (max q p)
 
-pub steps-shift : (n cap s q k p : ℕ) (xs : List Step) (l : List Cube) → stepsFrom n cap (s + k) (max q p) xs l ≡ shifted s q (stepsFrom n cap k p xs l)
+pub steps-shift : (n cap s q k p : ℕ) (xs : List Step) (l : List Cube) → stepsFrom (step n cap) (s + k) (max q p) xs l ≡ shifted s q (stepsFrom (step n cap) k p xs l)
 unfolding stepsFrom
 steps-shift n cap s q k p [] l = refl
 steps-shift n cap s q k p (x ∷ xs) l = go (step n cap x l) (λ r. steps-shift n cap s q (suc k) (max p (length r)) xs r)
   where
     go : (a : After Cube)
-        → ((r : List Cube) → stepsFrom n cap (s + suc k) (max q (max p (length r))) xs r ≡ shifted s q (stepsFrom n cap (suc k) (max p (length r)) xs r))
-        → onward (s + k) (λ r. stepsFrom n cap (suc (s + k)) (max (max q p) (length r)) xs r) a
-        ≡ shifted s q (onward k (λ r. stepsFrom n cap (suc k) (max p (length r)) xs r) a)
+        → ((r : List Cube) → stepsFrom (step n cap) (s + suc k) (max q (max p (length r))) xs r ≡ shifted s q (stepsFrom (step n cap) (suc k) (max p (length r)) xs r))
+        → onward (s + k) (λ r. stepsFrom (step n cap) (suc (s + k)) (max (max q p) (length r)) xs r) a
+        ≡ shifted s q (onward k (λ r. stepsFrom (step n cap) (suc k) (max p (length r)) xs r) a)
     go (stop r) ih = refl
     go (next r) ih =
         let number : suc (s + k) ≡ s + suc k = omega arith in
         let peak : max (max q p) (length r) ≡ max q (max p (length r)) = omega arith in
-        ap₂ (λ (i j : ℕ). stepsFrom n cap i j xs r) number peak ∙ ih r
+        ap₂ (λ (i j : ℕ). stepsFrom (step n cap) i j xs r) number peak ∙ ih r
 
 -- ---- a whole run
 

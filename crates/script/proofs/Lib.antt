@@ -1,3 +1,4 @@
+pub mod Runs
 pub mod Pending
 pub mod Value
 pub mod Counting

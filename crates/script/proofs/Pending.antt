@@ -24,13 +24,13 @@ use Rattle.steps.specs.Steps.{Step, drop, join, split, turn, L, Fits, exchanged
 use Rattle.steps.proofs.Linear.{exchanged-moved, reordered-moved, code-moved, code-moved-other, reordered-good}
 use Rattle.steps.proofs.Kept.{takenBack, taken-back-good}
 use Rattle.script.specs.Run.{unstep, undo}
+use Rattle.script.proofs.Runs.{undoneBy, undo-by-map, undone-by-good}
 use Rattle.script.specs.Pending.{nonePending, pendStep, pend, restored}
 
 -- ---- the undoing, cube by cube
 
-unfoldable pub undone : List Step → Cube → Cube
-undone [] c = c
-undone (x ∷ xs) c = takenBack x (undone xs c)
+abbrev pub undone : List Step → Cube → Cube
+undone xs c = undoneBy takenBack xs c
 
 pub unstep-map : (x : Step) (l : List Cube) → unstep x l ≡ map (takenBack x) l
 unstep-map (drop i j) l = map-same l
@@ -40,14 +40,10 @@ unstep-map (turn v i j) l = map-same l
 unstep-map (L v b) l = refl
 
 pub undo-map : (xs : List Step) (l : List Cube) → undo xs l ≡ map (undone xs) l
-unfolding undo undone
-undo-map [] l = map-same l
-undo-map (x ∷ xs) l = unstep-map x (undo xs l) ∙ ap (map (takenBack x)) (undo-map xs l) ∙ map-map (takenBack x) (undone xs) l
+undo-map xs l = undo-by-map unstep takenBack unstep-map xs l
 
 pub undone-good : (n : ℕ) (xs : List Step) → All (Fits n) xs → (c : Cube) → Good n c → Good n (undone xs c)
-unfolding undone
-undone-good n [] h c g = g
-undone-good n (x ∷ xs) h c g = taken-back-good n x (h .0) (undone xs c) (undone-good n xs (h .1) c g)
+undone-good n xs h c g = undone-by-good takenBack (Good n) (Fits n) (taken-back-good n) xs h c g
 
 -- ---- the pending orders are orders, as many as before
 
@@ -172,7 +168,7 @@ pend-step-code n (L v b) h os a l c k =
 
 pend-code : (n : ℕ) (xs : List Step) → All (Fits n) xs → (os : List ℕ) → All IsOrder os → n ≤ length os → (c : Cube) (k : ℕ)
     → image (inverse (getD os k noOrder)) (code (undone xs c) k) ≡ image (inverse (getD (pend os xs) k noOrder)) (code c k)
-unfolding undone pend
+unfolding undoneBy pend
 pend-code n [] h os a l c k = refl
 pend-code n (x ∷ xs) h os a l c k =
     pend-step-code n x (h .0) os a l (undone xs c) k

@@ -23,7 +23,7 @@ use Rattle.cube.specs.Calls.{checkList}
 use Rattle.cube.proofs.ListLaws.{lawful, Accepted, check-accepts, cubes-bytes, all-good-more}
 use Rattle.orders.specs.Orders.{orderCount, noOrder, follow, letterOrder}
 use Rattle.steps.specs.declared.StepRecord.{StepRecord}
-use Rattle.steps.specs.Steps.{Step, meaning, meaningBy, Fits}
+use Rattle.steps.specs.Steps.{Step, meaning, meaningBy, Fits, step}
 use Rattle.steps.specs.Calls.{Ready}
 use Rattle.script.specs.declared.Finished.{Finished}
 use Rattle.script.specs.declared.Finished.the-variants as finished-is
@@ -155,14 +155,14 @@ module _ (n : ℕ) (list script work : List ℕ) (p : Passed (checkRun n list sc
       xs : List Step
       xs = stepsOf script
 
-      whole : Ran
-      whole = stepsFrom n cap 0 (length (cubesOf list)) xs (cubesOf list)
+      whole : Ran Cube
+      whole = stepsFrom (step n cap) 0 (length (cubesOf list)) xs (cubesOf list)
 
       -- the steps done on the list itself
-      from-list : stepsFrom n cap 0 count xs (records cubes count w₁) ≡ whole
+      from-list : stepsFrom (step n cap) 0 count xs (records cubes count w₁) ≡ whole
       unfolding whole count
       from-list =
-          ap₂ (λ (k : ℕ) (l : List Cube). stepsFrom n cap 0 k xs l) (sym (length-list cubes list)) same
+          ap₂ (λ (k : ℕ) (l : List Cube). stepsFrom (step n cap) 0 k xs l) (sym (length-list cubes list)) same
 
       run-is : runOf n list script (length work) ≡ finish xs whole
       unfolding runOf run whole xs
@@ -170,14 +170,14 @@ module _ (n : ℕ) (list script work : List ℕ) (p : Passed (checkRun n list sc
 
       answer-is : r ≡ progressOf whole (pend nonePending xs)
       unfolding count xs
-      answer-is = s .answer ∙ ap (λ (t : Ran). progressOf t (pend nonePending xs)) from-list
+      answer-is = s .answer ∙ ap (λ (t : Ran Cube). progressOf t (pend nonePending xs)) from-list
 
       buffer-is : w₂ ≡ ranWork (length work) whole
       unfolding count xs
       buffer-is = s .buffer ∙ ap₂ ranWork long from-list
 
       -- refused at a step
-      stopped-answer : (t : Ran) → r ≡ progressOf t (pend nonePending xs) → r .done ≡ false → (refused (refusal (r .number) (r .place)) ≡ ranOutcome (finish xs t)) × (ranWork (length work) t ≡ ranWork (length work) (finish xs t))
+      stopped-answer : (t : Ran Cube) → r ≡ progressOf t (pend nonePending xs) → r .done ≡ false → (refused (refusal (r .number) (r .place)) ≡ ranOutcome (finish xs t)) × (ranWork (length work) t ≡ ranWork (length work) (finish xs t))
       stopped-answer (stopped number step) e f = (ap (λ (q : Progress). refused (refusal (q .number) (q .place))) e, refl)
       stopped-answer (ended l peak) e f = absurd (true≢false (sym (ap (λ (q : Progress). q .done) e) ∙ f))
 
@@ -190,13 +190,13 @@ module _ (n : ℕ) (list script work : List ℕ) (p : Passed (checkRun n list sc
           }
 
       -- done to the end: the list before the undoing
-      record Last (t : Ran) : Type 0 where
+      record Last (t : Ran Cube) : Type 0 where
         list-last : List Cube
         is : t ≡ ended list-last (r .peak)
         many : r .count ≡ length list-last
         orders : r .pending ≡ pend nonePending xs
 
-      last : (t : Ran) → r ≡ progressOf t (pend nonePending xs) → r .done ≡ true → Last t
+      last : (t : Ran Cube) → r ≡ progressOf t (pend nonePending xs) → r .done ≡ true → Last t
       last (stopped number step) e f = absurd (true≢false (sym f ∙ ap (λ (q : Progress). q .done) e))
       last (ended l peak) e f = record {
         list-last = l;

@@ -82,7 +82,7 @@ pub record Running (n cap first : ℕ) (script work : List ℕ) (k : ℕ) (b : L
   pub ready : Ready n count cap b
   pub long : length b ≡ length work
   pub within : k ≤ length script / stepWidth
-  pub so-far : stepsFrom n cap 0 first (stepsOf script) (records cubes first work) ≡ stepsFrom n cap k peak (drop k (stepsOf script)) (records cubes count b)
+  pub so-far : stepsFrom (step n cap) 0 first (stepsOf script) (records cubes first work) ≡ stepsFrom (step n cap) k peak (drop k (stepsOf script)) (records cubes count b)
   pub orders : pend nonePending (stepsOf script) ≡ pend pending (drop k (stepsOf script))
 
 module _ (n cap first : ℕ) (script work : List ℕ) where
@@ -100,13 +100,13 @@ module _ (n cap first : ℕ) (script work : List ℕ) where
     unfolding stepsFrom pend
     running-end h =
         let none : drop k (stepsOf script) ≡ [] = drop-of-length-le (stepsOf script) {i = k} (omega (arith, steps-long script)) in
-        let whole : stepsFrom n cap 0 first (stepsOf script) (records cubes first work) ≡ ended (records cubes count b) peak =
-        r .so-far ∙ ap (λ (xs : List Step). stepsFrom n cap k peak xs (records cubes count b)) none in
+        let whole : stepsFrom (step n cap) 0 first (stepsOf script) (records cubes first work) ≡ ended (records cubes count b) peak =
+        r .so-far ∙ ap (λ (xs : List Step). stepsFrom (step n cap) k peak xs (records cubes count b)) none in
         let os : pend nonePending (stepsOf script) ≡ pending = r .orders ∙ ap (pend pending) none in
         record {
           answer =
               (λ j. record { done = true; number = 0; place = 0; count = sym (length-records cubes count b) j; peak = peak; pending = sym os j })
-              ∙ sym (ap (λ (t : Ran). progressOf t (pend nonePending (stepsOf script))) whole);
+              ∙ sym (ap (λ (t : Ran Cube). progressOf t (pend nonePending (stepsOf script))) whole);
           buffer = held-image ∙ sym (ap (ranWork (length work)) whole);
           ready = λ e. r .ready;
         }
@@ -114,10 +114,10 @@ module _ (n cap first : ℕ) (script work : List ℕ) where
     module _ (h : k < length script / stepWidth) (fit : All (λ y. fits n y ≡ true) (listOf stepRecords script))
         (x : StepRecord) (ex : x ≡ getD (listOf stepRecords script) k (stepRecords .none))
         (b′ : List ℕ) (eb : b′ ≡ workStepped b (step n cap (meaning x) (records cubes count b))) where
-      onto : stepsFrom n cap 0 first (stepsOf script) (records cubes first work)
-          ≡ onward k (λ m. stepsFrom n cap (suc k) (max peak (length m)) (drop (k + 1) (stepsOf script)) m) (step n cap (meaning x) (records cubes count b))
+      onto : stepsFrom (step n cap) 0 first (stepsOf script) (records cubes first work)
+          ≡ onward k (λ m. stepsFrom (step n cap) (suc k) (max peak (length m)) (drop (k + 1) (stepsOf script)) m) (step n cap (meaning x) (records cubes count b))
       unfolding stepsFrom
-      onto = r .so-far ∙ ap (λ (xs : List Step). stepsFrom n cap k peak xs (records cubes count b)) (steps-on n script k x ex h fit)
+      onto = r .so-far ∙ ap (λ (xs : List Step). stepsFrom (step n cap) k peak xs (records cubes count b)) (steps-on n script k x ex h fit)
 
       -- a step that is refused
       pub running-stop : (s : Stepped) → s ≡ stepped (step n cap (meaning x) (records cubes count b)) → (number : ℕ) → s ≡ stepped-is.Refused number
@@ -125,11 +125,11 @@ module _ (n cap first : ℕ) (script work : List ℕ) where
           → Stepping n cap first (stepsOf script) work b″ (record { done = false; number = number; place = k; count = 0; peak = 0; pending = nonePending })
       running-stop s es number en b″ ez =
           let e = halted (step n cap (meaning x) (records cubes count b)) number (sym en ∙ es) in
-          let whole : stepsFrom n cap 0 first (stepsOf script) (records cubes first work) ≡ stopped number k =
-          onto ∙ ap (onward k (λ m. stepsFrom n cap (suc k) (max peak (length m)) (drop (k + 1) (stepsOf script)) m)) e in
+          let whole : stepsFrom (step n cap) 0 first (stepsOf script) (records cubes first work) ≡ stopped number k =
+          onto ∙ ap (onward k (λ m. stepsFrom (step n cap) (suc k) (max peak (length m)) (drop (k + 1) (stepsOf script)) m)) e in
           let same : b′ ≡ b = eb ∙ ap (workStepped b) e in
           record {
-            answer = sym (ap (λ (t : Ran). progressOf t (pend nonePending (stepsOf script))) whole);
+            answer = sym (ap (λ (t : Ran Cube). progressOf t (pend nonePending (stepsOf script))) whole);
             buffer = ez ∙ ap zeros (ap length same ∙ r .long) ∙ sym (ap (ranWork (length work)) whole);
             ready = λ f. absurd (false≢true f);
           }
@@ -149,9 +149,9 @@ module _ (n cap first : ℕ) (script work : List ℕ) where
             within = omega arith;
             so-far =
                 onto
-                ∙ ap (onward k (λ m. stepsFrom n cap (suc k) (max peak (length m)) (drop (k + 1) (stepsOf script)) m)) (w .is)
-                ∙ (λ j. stepsFrom n cap (sym (add-one k) j) (max peak (sym (w .many) j)) (drop (k + 1) (stepsOf script)) m)
-                ∙ ap₂ (λ (q : ℕ) (l : List Cube). stepsFrom n cap (k + 1) q (drop (k + 1) (stepsOf script)) l) (sym ep)
+                ∙ ap (onward k (λ m. stepsFrom (step n cap) (suc k) (max peak (length m)) (drop (k + 1) (stepsOf script)) m)) (w .is)
+                ∙ (λ j. stepsFrom (step n cap) (sym (add-one k) j) (max peak (sym (w .many) j)) (drop (k + 1) (stepsOf script)) m)
+                ∙ ap₂ (λ (q : ℕ) (l : List Cube). stepsFrom (step n cap) (k + 1) q (drop (k + 1) (stepsOf script)) l) (sym ep)
                 (sym (step-records n count cap b b′ (meaning x) m (r .ready) (w .is) eb) ∙ ap (λ (t : ℕ). records cubes t b′) (sym (w .many)));
             orders =
                 r .orders ∙ ap (pend pending) (steps-on n script k x ex h fit)

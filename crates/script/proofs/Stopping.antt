@@ -19,24 +19,24 @@ pub record Refused (n cap s q : ℕ) (xs : List Step) (l : List Cube) (r k : ℕ
   pub between : List Cube
   pub peak : ℕ
   -- the steps before it are done
-  pub before : stepsFrom n cap s q (take place xs) l ≡ ended between peak
+  pub before : stepsFrom (step n cap) s q (take place xs) l ≡ ended between peak
   -- the step there is refused
   pub here : step n cap (getD xs place (drop 0 0)) between ≡ stop r
 
-stopped-number : {r r′ k k′ : ℕ} → stopped r k ≡ stopped r′ k′ → (r ≡ r′) × (k ≡ k′)
+stopped-number : {r r′ k k′ : ℕ} → _≡_ {A = Ran Cube} (stopped r k) (stopped r′ k′) → (r ≡ r′) × (k ≡ k′)
 stopped-number e = (cc, cc)
 
 not-stopped : {r k p : ℕ} {l : List Cube} → ended l p ≡ stopped r k → ⊥
 not-stopped e = let z : _≡_ {A = ℕ} 0 1 = cc in omega arith
 
-pub steps-refused : (n cap s q : ℕ) (xs : List Step) (l : List Cube) (r k : ℕ) → stepsFrom n cap s q xs l ≡ stopped r k → Refused n cap s q xs l r k
+pub steps-refused : (n cap s q : ℕ) (xs : List Step) (l : List Cube) (r k : ℕ) → stepsFrom (step n cap) s q xs l ≡ stopped r k → Refused n cap s q xs l r k
 unfolding stepsFrom
 steps-refused n cap s q [] l r k e = absurd (not-stopped e)
 steps-refused n cap s q (x ∷ xs) l r k e = go (step n cap x l) refl (λ m f. steps-refused n cap (suc s) (max q (length m)) xs m r k f) e
   where
     go : (a : After Cube) → step n cap x l ≡ a
-        → ((m : List Cube) → stepsFrom n cap (suc s) (max q (length m)) xs m ≡ stopped r k → Refused n cap (suc s) (max q (length m)) xs m r k)
-        → onward s (λ m. stepsFrom n cap (suc s) (max q (length m)) xs m) a ≡ stopped r k → Refused n cap s q (x ∷ xs) l r k
+        → ((m : List Cube) → stepsFrom (step n cap) (suc s) (max q (length m)) xs m ≡ stopped r k → Refused n cap (suc s) (max q (length m)) xs m r k)
+        → onward s (λ m. stepsFrom (step n cap) (suc s) (max q (length m)) xs m) a ≡ stopped r k → Refused n cap s q (x ∷ xs) l r k
     go (stop i) f ih e =
         let t = stopped-number e in
         record { place = 0; number = omega (arith, t .1); within = omega arith; between = l; peak = q; before = refl; here = f ∙ ap stop (t .0) }
@@ -48,7 +48,7 @@ steps-refused n cap s q (x ∷ xs) l r k e = go (step n cap x l) refl (λ m f. s
           within = omega (arith, t .within);
           between = t .between;
           peak = t .peak;
-          before = ap (onward s (λ m. stepsFrom n cap (suc s) (max q (length m)) (take (t .place) xs) m)) f ∙ t .before;
+          before = ap (onward s (λ m. stepsFrom (step n cap) (suc s) (max q (length m)) (take (t .place) xs) m)) f ∙ t .before;
           here = t .here;
         }
 
@@ -56,9 +56,9 @@ module _ (n cap : ℕ) (xs : List Step) (l : List Cube) (r k : ℕ) (ran : run n
   -- the steps of a refused run
   pub run-refused : Refused n cap 0 (length l) xs l r k
   unfolding run
-  run-refused = steps-refused n cap 0 (length l) xs l r k (go (stepsFrom n cap 0 (length l) xs l) ran)
+  run-refused = steps-refused n cap 0 (length l) xs l r k (go (stepsFrom (step n cap) 0 (length l) xs l) ran)
     where
-      go : (a : Ran) → finish xs a ≡ stopped r k → a ≡ stopped r k
+      go : (a : Ran Cube) → finish xs a ≡ stopped r k → a ≡ stopped r k
       go (stopped i j) e = e
       go (ended m p) e = absurd (not-stopped e)
 

@@ -1,5 +1,6 @@
 -- The call `run`: what it answers, and what it leaves in the work buffer. Document 01, "Refusal numbers and places".
 -- Assumes nothing.
+use Rattle.cube.specs.declared.Cube.{Cube}
 use Prim.Native.Nat.{ℕ, _/_, _%_}
 use mathlib.Core.List.{List, [], _∷_}
 use lib.Dec.{leb, eqb}
@@ -29,10 +30,10 @@ checkRun n list script size =
     (checkScript n script))
 
 -- "then steps in turn, each 10, 11, 12, 13": the run of an accepted list and script
-unfoldable pub runOf : ℕ → List ℕ → List ℕ → ℕ → Ran
+unfoldable pub runOf : ℕ → List ℕ → List ℕ → ℕ → Ran Cube
 runOf n list script size = run n (cubeCapacity size) (stepsOf script) (cubesOf list)
 
-abbrev pub ranOutcome : Ran → Outcome
+abbrev pub ranOutcome : Ran Cube → Outcome
 ranOutcome (stopped number step) = refused (refusal number step)
 ranOutcome (ended l peak) = accepted (length l ∷ peak ∷ [])
 
@@ -41,12 +42,12 @@ unfoldable pub runOutcome : ℕ → List ℕ → List ℕ → ℕ → Outcome
 runOutcome n list script size = andThen (checkRun n list script size) (ranOutcome (runOf n list script size))
 
 -- "One found at a step leaves every byte of the work buffer zero"; "An accepted run fills the front of the work buffer with its list and clears the rest"
-abbrev pub ranWork : ℕ → Ran → List ℕ
+abbrev pub ranWork : ℕ → Ran Cube → List ℕ
 ranWork size (stopped number step) = zeros size
 ranWork size (ended l peak) = image cubes size l
 
 -- "A refusal found before the first step writes nothing"
-abbrev pub workAfter : Outcome → List ℕ → Ran → List ℕ
+abbrev pub workAfter : Outcome → List ℕ → Ran Cube → List ℕ
 workAfter (accepted values) work r = ranWork (length work) r
 workAfter (refused r) work ran = work
 

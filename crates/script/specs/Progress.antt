@@ -1,5 +1,6 @@
 -- How far the steps of a run went: what the inner functions of `run` answer one another.
 -- Assumes nothing.
+use Rattle.cube.specs.declared.Cube.{Cube}
 use Prim.Native.Nat.{ℕ}
 use mathlib.Core.Bool.{true, false}
 use mathlib.Core.Path.{_≡_}
@@ -8,7 +9,7 @@ use lib.ListN.{length}
 use Rattle.records.specs.Records.{records}
 use Rattle.cube.specs.Lists.{cubes}
 use Rattle.records.specs.Answers.{Outcome, accepted}
-use Rattle.steps.specs.Steps.{Step}
+use Rattle.steps.specs.Steps.{Step, step}
 use Rattle.steps.specs.Calls.{Ready}
 use Rattle.script.specs.declared.Finished.{Finished}
 use Rattle.script.specs.declared.Progress.{Progress}
@@ -17,14 +18,14 @@ use Rattle.script.specs.Pending.{nonePending, pend}
 use Rattle.script.specs.Calls.{ranWork, ranOutcome, runOf, finished}
 
 -- what is answered of the steps, with what is pending after them
-abbrev pub progressOf : Ran → List ℕ → Progress
+abbrev pub progressOf : Ran Cube → List ℕ → Progress
 progressOf (stopped number step) pending = record { done = false; number = number; place = step; count = 0; peak = 0; pending = nonePending }
 progressOf (ended l peak) pending = record { done = true; number = 0; place = 0; count = length l; peak = peak; pending = pending }
 
 -- the steps xs done from `first` records on: the answer r, and the work buffer after it
 pub record Stepping (n cap first : ℕ) (xs : List Step) (work work′ : List ℕ) (r : Progress) : Type 0 where
-  pub answer : r ≡ progressOf (stepsFrom n cap 0 first xs (records cubes first work)) (pend nonePending xs)
-  pub buffer : work′ ≡ ranWork (length work) (stepsFrom n cap 0 first xs (records cubes first work))
+  pub answer : r ≡ progressOf (stepsFrom (step n cap) 0 first xs (records cubes first work)) (pend nonePending xs)
+  pub buffer : work′ ≡ ranWork (length work) (stepsFrom (step n cap) 0 first xs (records cubes first work))
   pub ready : r .done ≡ true → Ready n (r .count) cap work′
 
 -- a chain of tests was accepted

@@ -97,7 +97,7 @@ module _ (n : ℕ) (list script work out : List ℕ) (work′ out′ : List ℕ)
       let b = both-accepted (checkSettle n list script (length work) (length out)) (ranSettled n (cubesOf list) (runOf n list script (length work))) _ (sym (c .answer)) in
       go (runOf n list script (length work)) refl (b .values) (b .first) (b .second)
     where
-      go : (ran : Ran) → runOf n list script (length work) ≡ ran
+      go : (ran : Ran Cube) → runOf n list script (length work) ≡ ran
           → (v : List ℕ) → checkSettle n list script (length work) (length out) ≡ accepted v
           → ranSettled n (cubesOf list) ran ≡ settled (settled-is.Burned s)
           → Accepting n list script work out s work′ out′
@@ -117,7 +117,7 @@ module _ (n : ℕ) (list script work out : List ℕ) (work′ out′ : List ℕ)
             fixed-is = last .0;
             burned-is = last .1;
             work-is = c .work-is ∙ ap (λ (o : Outcome). settleWorkBy o work) e;
-            out-is = c .out-is ∙ ap₂ (λ (o : Outcome) (r : Ran). settleOutBy o n (cubesOf list) r out) e f;
+            out-is = c .out-is ∙ ap₂ (λ (o : Outcome) (r : Ran Cube). settleOutBy o n (cubesOf list) r out) e f;
           }
 
 -- ---- a refused call
@@ -142,7 +142,7 @@ module _ (n : ℕ) (list script work out : List ℕ) (work′ out′ : List ℕ)
   called-refused r c =
       first (checkSettle n list script (length work) (length out)) refl (runOf n list script (length work)) refl (sym (c .answer))
     where
-      first : (o : Outcome) → checkSettle n list script (length work) (length out) ≡ o → (ran : Ran) → runOf n list script (length work) ≡ ran
+      first : (o : Outcome) → checkSettle n list script (length work) (length out) ≡ o → (ran : Ran Cube) → runOf n list script (length work) ≡ ran
           → andThen o (ranSettled n (cubesOf list) ran) ≡ refused r
           → Before n list script work out r work′ out′ ⊎ AtStep n list script work out r work′ out′
       first (refused q) e ran f h =
@@ -158,5 +158,5 @@ module _ (n : ℕ) (list script work out : List ℕ) (work′ out′ : List ℕ)
             passed = passing n list script (length work) (length out) v e;
             found = f ∙ ap (λ (q : Refusal). stopped (q .number) (q .place)) is;
             work-cleared = c .work-is ∙ ap (λ (o : Outcome). settleWorkBy o work) e;
-            out-kept = c .out-is ∙ ap₂ (λ (o : Outcome) (r : Ran). settleOutBy o n (cubesOf list) r out) e f;
+            out-kept = c .out-is ∙ ap₂ (λ (o : Outcome) (r : Ran Cube). settleOutBy o n (cubesOf list) r out) e f;
           })

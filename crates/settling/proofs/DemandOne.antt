@@ -26,7 +26,7 @@ use Rattle.cube.proofs.ListLaws.{good-at}
 use Rattle.script.specs.Run.{ended, run}
 use Rattle.script.specs.Scripts.{stepRecords, stepWidth, mostSteps, fits, stepsOf}
 use Rattle.script.specs.Calls.{checkScript, runOf}
-use Rattle.script.proofs.Value.{not-ended}
+use Rattle.script.proofs.Runs.{not-ended}
 use Rattle.script.proofs.Stopping.{Refused, run-refused, run-refused-place, run-refused-number}
 use Rattle.settling.specs.declared.Settled.the-variants as settled-is
 use Rattle.settling.specs.declared.Settlement.{Settlement}

@@ -23,7 +23,8 @@ use Rattle.polarity.proofs.Theorems.{form-is-good}
 use Rattle.script.specs.Run.{ended, run}
 use Rattle.script.specs.Scripts.{stepsOf, stepWidth, mostSteps}
 use Rattle.script.specs.Calls.{runOf}
-use Rattle.script.proofs.Value.{run-value, run-good, ended-list}
+use Rattle.script.proofs.Runs.{ended-list}
+use Rattle.script.proofs.Value.{run-value, run-good}
 use Rattle.settling.specs.declared.Settled.the-variants as settled-is
 use Rattle.settling.specs.declared.Settlement.{Settlement}
 use Rattle.settling.specs.Candidates.{bestOf, bestForm, burnedList}

@@ -30,14 +30,14 @@ use Rattle.settling.specs.Calls.{checkSettle, fixedValues, ranSettled, s
 
 module _ (n : ℕ) (list script work out : List ℕ) where
   -- by the checks before the first step, and the run
-  by-parts : (o : Outcome) (ran : Ran) → checkSettle n list script (length work) (length out) ≡ o → runOf n list script (length work) ≡ ran
+  by-parts : (o : Outcome) (ran : Ran Cube) → checkSettle n list script (length work) (length out) ≡ o → runOf n list script (length work) ≡ ran
       → (work′ out′ : List ℕ) (a : Outcome) → a ≡ andThen o (ranSettled n (cubesOf list) ran) → work′ ≡ settleWorkBy o work → out′ ≡ settleOutBy o n (cubesOf list) ran out
       → Called n list script work out a work′ out′
   unfolding settleOutcome settleWork settleOut
   by-parts o ran e er work′ out′ a ea ew eo = record {
-    answer = ea ∙ sym (ap₂ (λ (x : Outcome) (t : Ran). andThen x (ranSettled n (cubesOf list) t)) e er);
+    answer = ea ∙ sym (ap₂ (λ (x : Outcome) (t : Ran Cube). andThen x (ranSettled n (cubesOf list) t)) e er);
     work-is = ew ∙ sym (ap (λ (x : Outcome). settleWorkBy x work) e);
-    out-is = eo ∙ sym (ap₂ (λ (x : Outcome) (t : Ran). settleOutBy x n (cubesOf list) t out) e er);
+    out-is = eo ∙ sym (ap₂ (λ (x : Outcome) (t : Ran Cube). settleOutBy x n (cubesOf list) t out) e er);
   }
 
   settle-refused : (r : Refusal) → checkSettle n list script (length work) (length out) ≡ refused r → Called n list script work out (refused r) work out
@@ -95,7 +95,7 @@ module _ (n : ℕ) (list script work out : List ℕ) where
         unfolding runOutcome runAfter
         run-refused r work′ e ew = go (checkRun n list script (length work)) refl (runOf n list script (length work)) refl e ew
           where
-            go : (o : Outcome) → checkRun n list script (length work) ≡ o → (ran : Ran) → runOf n list script (length work) ≡ ran
+            go : (o : Outcome) → checkRun n list script (length work) ≡ o → (ran : Ran Cube) → runOf n list script (length work) ≡ ran
                 → refused r ≡ andThen o (ranOutcome ran) → work′ ≡ workAfter o work ran → Called n list script work out (refused r) work′ out
             go (accepted v) eo (stopped number step) et a w = by-parts (accepted v) (stopped number step) (same-check ∙ eo) et work′ out (refused r) a w refl
             go (accepted v) eo (ended m p) et a w = absurd (not-both (sym a))
@@ -115,7 +115,7 @@ module _ (n : ℕ) (list script work out : List ℕ) where
           unfolding runOutcome runAfter
           ran-to = go (checkRun n list script (length work)) refl (runOf n list script (length work)) refl e ew
             where
-              go : (o : Outcome) → checkRun n list script (length work) ≡ o → (ran : Ran) → runOf n list script (length work) ≡ ran
+              go : (o : Outcome) → checkRun n list script (length work) ≡ o → (ran : Ran Cube) → runOf n list script (length work) ≡ ran
                   → accepted (count ∷ peak ∷ []) ≡ andThen o (ranOutcome ran) → work′ ≡ workAfter o work ran → Ran-to count peak work′
               go (accepted v) eo (stopped number step) et a w = absurd (not-both a)
               go (accepted v) eo (ended m p) et a w = record {

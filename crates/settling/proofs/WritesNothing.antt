@@ -1,6 +1,7 @@
 -- Demand 1, of the calls below settle: a refusal found before the first step writes nothing; one found at a step of `run` clears the work buffer.
 -- Each is stated of any outcome that the call's contract allows: a are the arguments, z the answer, ws the last contents of the buffers.
 -- Assumes nothing.
+use Rattle.cube.specs.declared.Cube.{Cube}
 use mathlib.Core.Path.{_≡_, refl, sym, ap, _∙_}
 use mathlib.Core.Logic.{_⊎_, inl, inr}
 use mathlib.Core.List.{List}
@@ -75,7 +76,7 @@ module _ (n : ℕ) (list script work work′ : List ℕ) (r : Refusal) where
     pub found : runOf n list script (length work) ≡ stopped (r .number) (r .place)
     pub work-cleared : work′ ≡ zeros (length work)
 
-  run-by : (o : Outcome) → checkRun n list script (length work) ≡ o → (ran : Ran) → runOf n list script (length work) ≡ ran
+  run-by : (o : Outcome) → checkRun n list script (length work) ≡ o → (ran : Ran Cube) → runOf n list script (length work) ≡ ran
       → andThen o (ranOutcome ran) ≡ refused r → work′ ≡ workAfter o work ran → RunBefore ⊎ RunAtStep
   run-by (refused q) e ran f h w = inl (record { found = e ∙ h; work-kept = w })
   run-by (accepted v) e (ended l peak) f h w = absurd (not-both h)

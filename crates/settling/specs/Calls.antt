@@ -32,7 +32,7 @@ fixedValues (fixed-is.Polarity p size) = p ∷ size ∷ []
 fixedValues fixed-is.Absent = []
 
 -- "The counts are: given, peak, script's result, best polarity and its size .., burned"
-abbrev pub ranSettled : ℕ → List Cube → Ran → Outcome
+abbrev pub ranSettled : ℕ → List Cube → Ran Cube → Outcome
 ranSettled n given (stopped number step) = refused (refusal number step)
 ranSettled n given (ended result peak) =
     accepted (length given ∷ peak ∷ length result ∷ (fixedValues (fixedOf n given) ++ (length (burnedList n result given) ∷ [])))
@@ -49,11 +49,11 @@ unfoldable pub settleWork : ℕ → List ℕ → List ℕ → List ℕ → ℕ �
 settleWork n list script work out = settleWorkBy (checkSettle n list script (length work) out) work
 
 -- "The winner fills the front of the output buffer; every other byte of it is zero"; a refusal leaves "the output untouched"
-abbrev pub ranBurned : ℕ → List Cube → Ran → List ℕ → List ℕ
+abbrev pub ranBurned : ℕ → List Cube → Ran Cube → List ℕ → List ℕ
 ranBurned n given (stopped number step) out = out
 ranBurned n given (ended result peak) out = image cubes (length out) (burnedList n result given)
 
-abbrev pub settleOutBy : Outcome → ℕ → List Cube → Ran → List ℕ → List ℕ
+abbrev pub settleOutBy : Outcome → ℕ → List Cube → Ran Cube → List ℕ → List ℕ
 settleOutBy (accepted values) n given ran out = ranBurned n given ran out
 settleOutBy (refused r) n given ran out = out
 

@@ -92,7 +92,7 @@ abbrev pub afterIs : After Cube → List Cube → Bool
 afterIs (stop number) l = false
 afterIs (next m) l = sameCubes m l
 
-abbrev pub ranIs : ℕ → List Cube → Ran → List Cube → Bool
+abbrev pub ranIs : ℕ → List Cube → Ran Cube → List Cube → Bool
 ranIs n given (stopped number s) l = false
 ranIs n given (ended result peak) l = sameCubes (burnedList n result given) l
 

@@ -3,11 +3,11 @@
 use mathlib.Core.Path.{_≡_, refl, sym, ap, _∙_, subst}
 use mathlib.Core.Bool.{Bool}
 use mathlib.Core.List.{List, map}
-use Prim.Native.Nat.{ℕ, _+_}
+use Prim.Native.Nat.{ℕ, _+_, _<_}
 use native.Mathlib.Omega.{arith}
 use lib.ListN.{length, getD}
 use Rattle.bits.specs.Sums.{_⊕_, sum, All}
-use Rattle.steps.specs.Moves.{Move, refuse, drops, joins, splits, turns, After, stop, next, applied}
+use Rattle.steps.specs.Moves.{Move, refuse, drops, joins, splits, turns, After, stop, next, applied, mapMove}
 use Rattle.steps.specs.Changes.{Placed, Writes}
 use Rattle.steps.proofs.Places.{length-drop-at, length-join-at, length-split-at, length-turn-at, all-drop, all-join, all-split, all-turn, drop-map, join-map, split-map, turn-map, sum-drop, sum-join, sum-split, sum-turn}
 
@@ -76,22 +76,35 @@ module _ {A : Type 0} (d : A) (l m : List A) (room i j : ℕ) where
   applied-count (splits x y) p e = omega (arith, ap length (next-same e), length-split-at l i x y)
   applied-count (turns x y) p e = omega (arith, ap length (next-same e), length-turn-at l i j x y)
 
+-- ---- sound moves
+
+-- a move at the places i and j, of so many and with so much room, where a and b stand: its places are there, what it writes is fine, and it is balanced
+-- for every fair weight
+pub record SoundBy {A : Type 0} (Fine : A → Type 0) (Fair : (A → Bool) → Type 0) (count room i j : ℕ) (a b : A) (m : Move A) : Type 0 where
+  pub places : Placed count room i j m
+  pub good : Writes Fine m
+  pub balanced : (w : A → Bool) → Fair w → Balanced w a b m
+
+module _ {A : Type 0} (Fine : A → Type 0) (Fair : (A → Bool) → Type 0) where
+  pub refuse-sound : (count room i j : ℕ) (a b : A) (r : ℕ) → SoundBy Fine Fair count room i j a b (refuse r)
+  unfolding Placed Writes
+  refuse-sound count room i j a b r = record { places = tt {0}; good = tt {0}; balanced = λ w fair. tt {0} }
+
+  -- made, it keeps a fine list fine, and every fair weight its sum
+  pub sound-made : (d : A) (l m : List A) (room i j : ℕ) (x : Move A) → SoundBy Fine Fair (length l) room i j (getD l i d) (getD l j d) x → All Fine l
+      → applied d i j l x ≡ next m → All Fine m × ((w : A → Bool) → Fair w → sum w m ≡ sum w l)
+  sound-made d l m room i j x s a e =
+      (applied-all d l m room i j Fine x (s .places) (s .good) a e, λ w fair. applied-sum d l m room i j w x (s .places) (s .balanced w fair) e)
+
 -- ---- a move of records that carry others
 
 module _ {A B : Type 0} (f : A → B) where
-  abbrev pub mapMove : Move A → Move B
-  mapMove (refuse r) = refuse r
-  mapMove drops = drops
-  mapMove (joins x) = joins (f x)
-  mapMove (splits x y) = splits (f x) (f y)
-  mapMove (turns x y) = turns (f x) (f y)
-
   abbrev pub mapAfter : After A → After B
   mapAfter (stop r) = stop r
   mapAfter (next l) = next (map f l)
 
   -- it is made on the carrying list as on the carried one
-  pub applied-map : (d : A) (e : B) (i j : ℕ) (l : List A) (x : Move A) → applied e i j (map f l) (mapMove x) ≡ mapAfter (applied d i j l x)
+  pub applied-map : (d : A) (e : B) (i j : ℕ) (l : List A) (x : Move A) → applied e i j (map f l) (mapMove f x) ≡ mapAfter (applied d i j l x)
   unfolding applied
   applied-map d e i j l (refuse r) = refl
   applied-map d e i j l drops = ap next (drop-map f d e l i j)
@@ -100,9 +113,37 @@ module _ {A B : Type 0} (f : A → B) where
   applied-map d e i j l (turns x y) = ap next (turn-map f l i j x y)
 
   -- and is balanced for w where the move of the carried ones is for w after f
-  pub balanced-map : (w : B → Bool) (a b : A) (x : Move A) → Balanced (λ c. w (f c)) a b x → Balanced w (f a) (f b) (mapMove x)
+  pub balanced-map : (w : B → Bool) (a b : A) (x : Move A) → Balanced (λ c. w (f c)) a b x → Balanced w (f a) (f b) (mapMove f x)
   balanced-map w a b (refuse r) h = tt {0}
   balanced-map w a b drops h = h
   balanced-map w a b (joins x) h = h
   balanced-map w a b (splits x y) h = h
   balanced-map w a b (turns x y) h = h
+
+  pub placed-map : (count room i j : ℕ) (x : Move A) → Placed count room i j x → Placed count room i j (mapMove f x)
+  unfolding Placed
+  placed-map count room i j (refuse r) p = p
+  placed-map count room i j drops p = p
+  placed-map count room i j (joins x) p = p
+  placed-map count room i j (splits x y) p = p
+  placed-map count room i j (turns x y) p = p
+
+  -- what is written by a move whose places are there, place i among them
+  pub writes-map : (P : A → Type 0) (Q : B → Type 0) (count room i j : ℕ) → ((x : A) → i < count → P x → Q (f x))
+      → (x : Move A) → Placed count room i j x → Writes P x → Writes Q (mapMove f x)
+  unfolding Writes Placed
+  writes-map P Q count room i j h (refuse r) p k = k
+  writes-map P Q count room i j h drops p k = k
+  writes-map P Q count room i j h (joins x) p k = h x (p .first) k
+  writes-map P Q count room i j h (splits x y) p k = (h x (p .inside) (k .0), h y (p .inside) (k .1))
+  writes-map P Q count room i j h (turns x y) p k = (h x (p .first) (k .0), h y (p .first) (k .1))
+
+  -- and is sound where that of the carried ones is
+  pub sound-map : (P : A → Type 0) (Q : B → Type 0) (Fair : (A → Bool) → Type 0) (Fair′ : (B → Bool) → Type 0)
+      → (count room i j : ℕ) → ((x : A) → i < count → P x → Q (f x)) → ((w : B → Bool) → Fair′ w → Fair (λ x. w (f x)))
+      → (a b : A) (x : Move A) → SoundBy P Fair count room i j a b x → SoundBy Q Fair′ count room i j (f a) (f b) (mapMove f x)
+  sound-map P Q Fair Fair′ count room i j h k a b x s = record {
+    places = placed-map count room i j x (s .places);
+    good = writes-map P Q count room i j h x (s .places) (s .good);
+    balanced = λ w fair. balanced-map w a b x (s .balanced (λ c. w (f c)) (k w fair));
+  }

@@ -16,11 +16,11 @@ use Rattle.cube.proofs.Codes.{code-lt}
 use Rattle.cube.proofs.Apart.{apart-one, Two, apart-two, two-swap}
 use Rattle.orders.specs.Codes.{third}
 use Rattle.orders.proofs.CodeLaws.{third-lt, Permutes}
-use Rattle.steps.specs.Moves.{Move, refuse, joins, turns, applied}
+use Rattle.steps.specs.Moves.{Move, refuse, joins, turns, applied, mapMove}
 use Rattle.steps.specs.Steps.{Step, drop, join, split, turn, L, cubeAt, thirdAt, twoPlaces, dropped, dropMove, joined, joinMove, turned, turnMove, step}
 use Rattle.steps.proofs.Linear.{moved, code-moved, code-moved-other, moved-put-same, moved-put-other}
 use Rattle.steps.proofs.Places.{two-tests, get-map}
-use Rattle.steps.proofs.Balanced.{mapMove, mapAfter, applied-map}
+use Rattle.steps.proofs.Balanced.{mapAfter, applied-map}
 
 -- a step with two cubes: drop, join or turn
 abbrev pub TwoCubes : Step → Type 0

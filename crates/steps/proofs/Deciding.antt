@@ -57,14 +57,14 @@ module _ (count i j : ℕ) where
   unfolding placesNumber
   places-fine hi hj ne = simp (lt-ltb i count hi, lt-ltb j count hj, ne-eqb i j ne)
 
-  module _ (p : ℕ) (e : p ≡ placesNumber count i j) (m : Move Cube) where
-    number-refused : (p ≡ 0 → ⊥) → refuse p ≡ twoPlaces count i j m
+  module _ {A : Type 0} (p : ℕ) (e : p ≡ placesNumber count i j) (m : Move A) where
+    pub number-refused : (p ≡ 0 → ⊥) → refuse p ≡ twoPlaces count i j m
     unfolding placesNumber
     number-refused ne =
         two-tests count i j (λ t u. p ≡ cond t (cond u 11 0) 10 → refuse p ≡ cond t (cond u (refuse 11) m) (refuse 10))
         (λ u h q. ap refuse q) (λ h f q. ap refuse q) (λ two q. absurd (ne q)) e
 
-    number-passed : p ≡ 0 → m ≡ twoPlaces count i j m
+    pub number-passed : p ≡ 0 → m ≡ twoPlaces count i j m
     unfolding placesNumber
     number-passed z =
         two-tests count i j (λ t u. _≡_ {A = ℕ} 0 (cond t (cond u 11 0) 10) → m ≡ cond t (cond u (refuse 11) m) (refuse 10))
@@ -106,7 +106,7 @@ module _ (n : ℕ) (a b : Cube) (g : Good n a) (h : Good n b) where
   bit-apart : (k : ℕ) → (k < n → code a k ≡ code b k) → bit (differing a b) k ≡ 0
   bit-apart k f = bit-alike k (elim (decLt k n) [ yes l ↦ f l | no l ↦ code-above n a g k (omega arith) ∙ sym (code-above n b h k (omega arith)) ])
 
-  none-set : apart n a b ≡ [] → differing a b ≡ 0
+  pub none-set : apart n a b ≡ [] → differing a b ≡ 0
   none-set e = bit-ext (differing a b) 0 (λ k. bit-apart k (apart-none n a b e k) ∙ sym (bit-high 0 0 k (lit< tt) (omega arith)))
 
   one-set : (v : ℕ) → apart n a b ≡ v ∷ [] → differing a b ≡ 2 ^ v

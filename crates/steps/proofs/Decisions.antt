@@ -17,7 +17,7 @@ use Rattle.steps.specs.Moves.{Move, refuse}
 use Rattle.steps.specs.Steps.{thirdAt, dropMove, joinMove, splitMove, turnMove}
 use Rattle.steps.specs.Changes.{Placed, Writes}
 use Rattle.steps.proofs.Linear.{Linear}
-use Rattle.steps.proofs.Balanced.{Balanced}
+use Rattle.steps.proofs.Balanced.{SoundBy, refuse-sound}
 use Rattle.steps.proofs.Inversion.{drop-by, join-by, turn-by, split-by, two-of}
 
 -- ---- the cubes of each rewrite
@@ -78,28 +78,22 @@ module _ (n : ℕ) (w : Cube → Bool) (lin : Linear n w) where
 
 -- ---- the decisions
 
--- a move at the places i and j, of so many and with so much room, where a and b stand
-pub record Sound (n count cap i j : ℕ) (a b : Cube) (m : Move Cube) : Type 0 where
-  pub places : Placed count cap i j m
-  pub good : Writes (Good n) m
-  pub balanced : (w : Cube → Bool) → Linear n w → Balanced w a b m
+-- sound for cubes: it writes good ones, and is balanced for every linear weight
+abbrev pub Sound : (n count cap i j : ℕ) (a b : Cube) → Move Cube → Type 0
+Sound n count cap i j a b m = SoundBy (Good n) (Linear n) count cap i j a b m
 
 module _ (n count cap i j : ℕ) (a b : Cube) where
-  refuse-sound : (r : ℕ) → Sound n count cap i j a b (refuse r)
-  unfolding Placed Writes
-  refuse-sound r = record { places = tt {0}; good = tt {0}; balanced = λ w lin. tt {0} }
-
   module _ (g : Good n a) (h : Good n b) where
     pub drop-sound : Sound n count cap i j a b (dropMove n count i j a b)
     unfolding Placed Writes
     drop-sound =
-        drop-by count i j (Sound n count cap i j a b) n a b (λ r t. refuse-sound r)
+        drop-by count i j (Sound n count cap i j a b) n a b (λ r t. refuse-sound (Good n) (Linear n) count cap i j a b r)
         (λ p e. record { places = p; good = tt {0}; balanced = λ w lin. ap w (cube-ext n a b g h (apart-none n a b e)) })
 
     pub join-sound : Sound n count cap i j a b (joinMove n count i j a b)
     unfolding Placed Writes
     join-sound =
-        join-by count i j (Sound n count cap i j a b) n a b (λ r t. refuse-sound r)
+        join-by count i j (Sound n count cap i j a b) n a b (λ r t. refuse-sound (Good n) (Linear n) count cap i j a b r)
         (λ p v e.
         let t = apart-one n a b v e in
         record { places = p; good = third-good n v a b g (t .0); balanced = λ w lin. join-weight n w lin a b v g h (t .0) (t .1) (t .2) })
@@ -107,7 +101,7 @@ module _ (n count cap i j : ℕ) (a b : Cube) where
     pub turn-sound : (v : ℕ) → Sound n count cap i j a b (turnMove n count v i j a b)
     unfolding Placed Writes
     turn-sound v =
-        turn-by count i j (Sound n count cap i j a b) n a b v (λ r t. refuse-sound r)
+        turn-by count i j (Sound n count cap i j a b) n a b v (λ r t. refuse-sound (Good n) (Linear n) count cap i j a b r)
         (λ p u e.
         let t = two-of n a b v u e in
         record {
@@ -119,7 +113,7 @@ module _ (n count cap i j : ℕ) (a b : Cube) where
   pub split-sound : (v : ℕ) → Good n a → v < n → Sound n count cap i j a b (splitMove count cap v i a)
   unfolding Placed Writes
   split-sound v g hv =
-      split-by count cap v i (Sound n count cap i j a b) a (λ r t. refuse-sound r)
+      split-by count cap v i (Sound n count cap i j a b) a (λ r t. refuse-sound (Good n) (Linear n) count cap i j a b r)
       (λ p. record {
         places = p;
         good = (put-good n a v (lower (code a v)) g hv (lower-lt (code a v)), put-good n a v (higher (code a v)) g hv (higher-lt (code a v)));

@@ -76,19 +76,20 @@ head-same e = cc
 
 module _ (count i j : ℕ) where
   -- two places pass their tests
-  pub two-passed : (x : Move Cube) → TwoPlaces count i j → twoPlaces count i j x ≡ x
+  pub two-passed : {A : Type 0} (x : Move A) → TwoPlaces count i j → twoPlaces count i j x ≡ x
   two-passed x p = simp (lt-ltb i count (p .first), lt-ltb j count (p .second), ne-eqb i j (p .unlike))
 
-  module _ (P : Move Cube → Type 0) where
-    two-by : (Unfit : Type 0) (x : Move Cube) → ((r : ℕ) → TwoRefused count i j Unfit r → P (refuse r)) → (TwoPlaces count i j → P x) → P (twoPlaces count i j x)
-    two-by U x stops goes =
-        two-tests count i j (λ s t. P (cond s (cond t (refuse 11) x) (refuse 10))) (λ u h. stops 10 (outside h)) (λ h e. stops 11 (same h e)) goes
+  pub two-by : {A : Type 0} (P : Move A → Type 0) (Unfit : Type 0) (x : Move A)
+      → ((r : ℕ) → TwoRefused count i j Unfit r → P (refuse r)) → (TwoPlaces count i j → P x) → P (twoPlaces count i j x)
+  two-by P U x stops goes =
+      two-tests count i j (λ s t. P (cond s (cond t (refuse 11) x) (refuse 10))) (λ u h. stops 10 (outside h)) (λ h e. stops 11 (same h e)) goes
 
+  module _ (P : Move Cube → Type 0) where
     module _ (n : ℕ) (a b : Cube) where
       pub drop-by : ((r : ℕ) → TwoRefused count i j (apart n a b ≢ []) r → P (refuse r))
           → (TwoPlaces count i j → apart n a b ≡ [] → P drops) → P (dropMove n count i j a b)
       unfolding dropMove
-      drop-by stops goes = two-by (apart n a b ≢ []) (dropped (apart n a b)) stops (go (apart n a b) refl)
+      drop-by stops goes = two-by P (apart n a b ≢ []) (dropped (apart n a b)) stops (go (apart n a b) refl)
         where
           go : (vs : List ℕ) → apart n a b ≡ vs → TwoPlaces count i j → P (dropped vs)
           go [] f p = goes p f
@@ -97,7 +98,7 @@ module _ (count i j : ℕ) where
       pub join-by : ((r : ℕ) → TwoRefused count i j ((v : ℕ) → apart n a b ≢ v ∷ []) r → P (refuse r))
           → (TwoPlaces count i j → (v : ℕ) → apart n a b ≡ v ∷ [] → P (joins (thirdAt a b v))) → P (joinMove n count i j a b)
       unfolding joinMove
-      join-by stops goes = two-by ((v : ℕ) → apart n a b ≢ v ∷ []) (joined a b (apart n a b)) stops (go (apart n a b) refl)
+      join-by stops goes = two-by P ((v : ℕ) → apart n a b ≢ v ∷ []) (joined a b (apart n a b)) stops (go (apart n a b) refl)
         where
           go : (vs : List ℕ) → apart n a b ≡ vs → TwoPlaces count i j → P (joined a b vs)
           go [] f p = stops 12 (unfit p (λ w e. cons-nil (sym (sym f ∙ e))))
@@ -109,7 +110,7 @@ module _ (count i j : ℕ) where
           → P (turnMove n count v i j a b)
       unfolding turnMove
       turn-by v stops goes =
-          two-by ((u : ℕ) → (apart n a b ≢ v ∷ u ∷ []) × (apart n a b ≢ u ∷ v ∷ [])) (turned a b v (apart n a b)) stops (go (apart n a b) refl)
+          two-by P ((u : ℕ) → (apart n a b ≢ v ∷ u ∷ []) × (apart n a b ≢ u ∷ v ∷ [])) (turned a b v (apart n a b)) stops (go (apart n a b) refl)
         where
           go : (vs : List ℕ) → apart n a b ≡ vs → TwoPlaces count i j → P (turned a b v vs)
           go [] f p = stops 12 (unfit p (λ u. (λ e. cons-nil (sym (sym f ∙ e)), λ e. cons-nil (sym (sym f ∙ e)))))

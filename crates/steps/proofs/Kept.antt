@@ -17,9 +17,9 @@ use Rattle.steps.specs.Moves.{Move, drops, joins, splits, turns, next, a
 use Rattle.steps.specs.Steps.{Step, drop, join, split, turn, L, Fits, cubeAt, thirdAt, exchanged, step, isSplit, isJoin, isDrop}
 use Rattle.steps.specs.Changes.{Placed}
 use Rattle.steps.proofs.Linear.{Linear, holds-linear, exchanged-good, exchanged-linear, exchanged-list-twice}
-use Rattle.steps.proofs.Balanced.{next-same, applied-sum, applied-all, applied-count}
+use Rattle.steps.proofs.Balanced.{next-same, applied-count, sound-made}
 use Rattle.steps.proofs.Inversion.{drop-accepted, join-accepted, split-accepted, turn-accepted}
-use Rattle.steps.proofs.Decisions.{Sound, drop-sound, join-sound, split-sound, turn-sound}
+use Rattle.steps.proofs.Decisions.{drop-sound, join-sound, split-sound, turn-sound}
 
 -- ---- a step taken back, cube by cube: an L step is its own inverse, and nothing else is taken back
 
@@ -68,25 +68,19 @@ step-count n cap (turn v i j) l m e =
 step-count n cap (L v b) l m e = omega (arith, ap length (next-same e), length-map l (exchanged v b))
 
 module _ (n cap : ℕ) (l m : List Cube) (a : All (Good n) l) where
-  -- a step that takes nothing back
-  made : (i j : ℕ) (x : Move Cube) → Sound n (length l) cap i j (cubeAt l i) (cubeAt l j) x → applied one i j l x ≡ next m
-      → All (Good n) m × ((w : Cube → Bool) → Linear n w → sum w m ≡ sum w l)
-  made i j x s e =
-      (applied-all one l m cap i j (Good n) x (s .places) (s .good) a e, λ w lin. applied-sum one l m cap i j w x (s .places) (s .balanced w lin) e)
-
   pub step-kept : (x : Step) → Fits n x → step n cap x l ≡ next m → Kept n x l m
   unfolding step
   step-kept (drop i j) h e =
-      let t = made i j _ (drop-sound n (length l) cap i j (cubeAt l i) (cubeAt l j) (good-at n l a i) (good-at n l a j)) e in
+      let t = sound-made (Good n) (Linear n) one l m cap i j _ (drop-sound n (length l) cap i j (cubeAt l i) (cubeAt l j) (good-at n l a i) (good-at n l a j)) a e in
       record { good = t .0; sums = t .1; count = step-count n cap (drop i j) l m e }
   step-kept (join i j) h e =
-      let t = made i j _ (join-sound n (length l) cap i j (cubeAt l i) (cubeAt l j) (good-at n l a i) (good-at n l a j)) e in
+      let t = sound-made (Good n) (Linear n) one l m cap i j _ (join-sound n (length l) cap i j (cubeAt l i) (cubeAt l j) (good-at n l a i) (good-at n l a j)) a e in
       record { good = t .0; sums = t .1; count = step-count n cap (join i j) l m e }
   step-kept (split v i) h e =
-      let t = made i 0 _ (split-sound n (length l) cap i 0 (cubeAt l i) (cubeAt l 0) v (good-at n l a i) h) e in
+      let t = sound-made (Good n) (Linear n) one l m cap i 0 _ (split-sound n (length l) cap i 0 (cubeAt l i) (cubeAt l 0) v (good-at n l a i) h) a e in
       record { good = t .0; sums = t .1; count = step-count n cap (split v i) l m e }
   step-kept (turn v i j) h e =
-      let t = made i j _ (turn-sound n (length l) cap i j (cubeAt l i) (cubeAt l j) (good-at n l a i) (good-at n l a j) v) e in
+      let t = sound-made (Good n) (Linear n) one l m cap i j _ (turn-sound n (length l) cap i j (cubeAt l i) (cubeAt l j) (good-at n l a i) (good-at n l a j) v) a e in
       record { good = t .0; sums = t .1; count = step-count n cap (turn v i j) l m e }
   step-kept (L v b) h e = record {
     good = subst (All (Good n)) (next-same e) (all-map (Good n) (Good n) (exchanged v b) (exchanged-good n v b (h .0) (h .1)) l a);

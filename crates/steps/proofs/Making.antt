@@ -11,7 +11,7 @@ use Rattle.cube.specs.Lists.{mostVariables}
 use Rattle.steps.specs.declared.Change.{Change}
 use Rattle.steps.specs.declared.StepRecord.{StepRecord}
 use Rattle.steps.specs.Moves.{Move, applied}
-use Rattle.steps.specs.Steps.{Step, Fits, meaning, meaningBy, cubeAt, dropMove, joinMove, splitMove, turnMove, step}
+use Rattle.steps.specs.Steps.{Step, Fits, meaning, meaningBy, cubeAt, dropMove, joinMove, splitMove, turnMove, step, decision}
 use Rattle.steps.specs.Calls.{Known}
 use Rattle.steps.specs.Changes.{moveOf, Placed, Writes, Decided}
 use Rattle.steps.proofs.Inversion.{split-by}
@@ -52,8 +52,9 @@ module _ (n count cap : ℕ) (x : StepRecord) (a b : Cube) (change : Change) (g 
   -- the change is the move f that the step makes, and that is sound
   decided : (op : ℕ) (f : ℕ → Cube → Cube → Move Cube)
       → ((l : List Cube) → step n cap (meaningBy op x) l ≡ applied one (x .i) (x .j) l (f (length l) (cubeAt l (x .i)) (cubeAt l (x .j))))
-      → Sound n count cap (x .i) (x .j) a b (f count a b) → x .op ≡ op → moveOf change ≡ f count a b → Decided n count cap x a b change
-  decided op f makes s eo e = record {
+      → f count a b ≡ decision n count cap (meaningBy op x) a b → Sound n count cap (x .i) (x .j) a b (f count a b) → x .op ≡ op → moveOf change ≡ f count a b → Decided n count cap x a b change
+  decided op f makes same s eo e = record {
+    is = e ∙ same ∙ ap (λ (y : Step). decision n count cap y a b) (sym (means x op eo));
     makes = λ l el ea eb.
         ap (λ (y : Step). step n cap y l) (means x op eo) ∙ makes l
         ∙ (λ t. applied one (x .i) (x .j) l (f (el t) (sym ea t) (sym eb t))) ∙ ap (applied one (x .i) (x .j) l) (sym e);
@@ -62,19 +63,19 @@ module _ (n count cap : ℕ) (x : StepRecord) (a b : Cube) (change : Change) (g 
   }
 
   pub drop-decided : x .op ≡ 1 → moveOf change ≡ dropMove n count (x .i) (x .j) a b → Decided n count cap x a b change
-  unfolding step
-  drop-decided = decided 1 (λ k c d. dropMove n k (x .i) (x .j) c d) (λ l. refl) (drop-sound n count cap (x .i) (x .j) a b g h)
+  unfolding step decision
+  drop-decided = decided 1 (λ k c d. dropMove n k (x .i) (x .j) c d) (λ l. refl) refl (drop-sound n count cap (x .i) (x .j) a b g h)
 
   pub join-decided : x .op ≡ 2 → moveOf change ≡ joinMove n count (x .i) (x .j) a b → Decided n count cap x a b change
-  unfolding step
-  join-decided = decided 2 (λ k c d. joinMove n k (x .i) (x .j) c d) (λ l. refl) (join-sound n count cap (x .i) (x .j) a b g h)
+  unfolding step decision
+  join-decided = decided 2 (λ k c d. joinMove n k (x .i) (x .j) c d) (λ l. refl) refl (join-sound n count cap (x .i) (x .j) a b g h)
 
   pub split-decided : Known n x → x .op ≡ 3 → moveOf change ≡ splitMove count cap (x .v) (x .i) a → Decided n count cap x a b change
-  unfolding step
+  unfolding step decision
   split-decided k op =
-      decided 3 (λ k c d. splitMove k cap (x .v) (x .i) c) (λ l. split-anywhere (length l) cap (x .v) (x .i) (x .j) (cubeAt l (x .i)) l)
+      decided 3 (λ k c d. splitMove k cap (x .v) (x .i) c) (λ l. split-anywhere (length l) cap (x .v) (x .i) (x .j) (cubeAt l (x .i)) l) refl
       (split-sound n count cap (x .i) (x .j) a b (x .v) g (means-fits x n 3 op k)) op
 
   pub turn-decided : x .op ≡ 4 → moveOf change ≡ turnMove n count (x .v) (x .i) (x .j) a b → Decided n count cap x a b change
-  unfolding step
-  turn-decided = decided 4 (λ k c d. turnMove n k (x .v) (x .i) (x .j) c d) (λ l. refl) (turn-sound n count cap (x .i) (x .j) a b g h (x .v))
+  unfolding step decision
+  turn-decided = decided 4 (λ k c d. turnMove n k (x .v) (x .i) (x .j) c d) (λ l. refl) refl (turn-sound n count cap (x .i) (x .j) a b g h (x .v))

@@ -17,7 +17,7 @@ use Rattle.steps.specs.declared.reorder.Masks.{Masks}
 use Rattle.steps.specs.declared.StepRecord.{StepRecord}
 use Rattle.steps.specs.declared.Stepped.{Stepped}
 use Rattle.steps.specs.Moves.{Move, refuse, drops, joins, splits, turns, After, applied}
-use Rattle.steps.specs.Steps.{cubeAt, meaning, step}
+use Rattle.steps.specs.Steps.{cubeAt, meaning, decision, step}
 use Rattle.steps.specs.Calls.{stepped, workStepped}
 
 -- the move that a change is
@@ -65,6 +65,7 @@ Narrow c = narrow c ≡ c
 
 -- what is decided of a step, from the cubes a and b at its places: the step makes this change, at places of the list, with good cubes
 pub record Decided (n count cap : ℕ) (x : StepRecord) (a b : Cube) (change : Change) : Type 0 where
+  pub is : moveOf change ≡ decision n count cap (meaning x) a b
   pub makes : (l : List Cube) → length l ≡ count → a ≡ cubeAt l (x .i) → b ≡ cubeAt l (x .j)
       → step n cap (meaning x) l ≡ applied one (x .i) (x .j) l (moveOf change)
   pub placed : Placed count cap (x .i) (x .j) (moveOf change)

@@ -42,3 +42,11 @@ applied d i j l drops = next (dropAt d l i j)
 applied d i j l (joins x) = next (joinAt d l i j x)
 applied d i j l (splits x y) = next (splitAt l i x y)
 applied d i j l (turns x y) = next (turnAt l i j x y)
+
+-- a move of records, as one of those that carry them
+abbrev pub mapMove : {A B : Type 0} → (A → B) → Move A → Move B
+mapMove f (refuse r) = refuse r
+mapMove f drops = drops
+mapMove f (joins x) = joins (f x)
+mapMove f (splits x y) = splits (f x) (f y)
+mapMove f (turns x y) = turns (f x) (f y)

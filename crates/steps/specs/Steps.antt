@@ -50,7 +50,7 @@ thirdAt c d v = put c v (third (code c v) (code d v))
 -- ---- decisions: from the count, the places and the cubes as they stand
 
 -- 10: "a used i or j not below the present count"; 11: "i equals j in a step with two cubes"
-abbrev pub twoPlaces : ℕ → ℕ → ℕ → Move Cube → Move Cube
+abbrev pub twoPlaces : {A : Type 0} → ℕ → ℕ → ℕ → Move A → Move A
 twoPlaces count i j m = cond (ltb i count && ltb j count) (cond (eqb i j) (refuse 11) m) (refuse 10)
 
 -- drop needs "equal cubes": by the variables in which they differ
@@ -85,6 +85,14 @@ turned a b v (p ∷ q ∷ r ∷ vs) = refuse 12
 
 unfoldable pub turnMove : ℕ → ℕ → ℕ → ℕ → ℕ → Cube → Cube → Move Cube
 turnMove n count v i j a b = twoPlaces count i j (turned a b v (apart n a b))
+
+-- what is decided of a step, from the count and the cubes at its places; an L step decides nothing
+unfoldable pub decision : ℕ → ℕ → ℕ → Step → Cube → Cube → Move Cube
+decision n count cap (drop i j) a b = dropMove n count i j a b
+decision n count cap (join i j) a b = joinMove n count i j a b
+decision n count cap (split v i) a b = splitMove count cap v i a
+decision n count cap (turn v i j) a b = turnMove n count v i j a b
+decision n count cap (L v x) a b = refuse 0
 
 -- ---- L
 

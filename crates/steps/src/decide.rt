@@ -12,7 +12,7 @@ ghost use Rattle.steps.specs.Calls.{Known};
 ghost use Rattle.steps.specs.Changes.{moveOf, placesNumber, Decided};
 
 // The number that two places are refused by, 10 or 11, or 0.
-fn two_places(count: usize, i: usize, j: usize) -> u8
+pub fn two_places(count: usize, i: usize, j: usize) -> u8
     ensures { λ r. ⌜ r ≡ placesNumber count i j ⌝ }
 {
     if count <= i {
@@ -132,7 +132,7 @@ fn decide_turn(n: usize, count: usize, v: u32, i: usize, j: usize, a: Cube, b: C
 }
 
 // What a drop, join, split or turn does, from the cubes at its places.
-pub(crate) fn decide(n: usize, count: usize, cap: usize, x: StepRecord, a: Cube, b: Cube) -> Change
+pub fn decide(n: usize, count: usize, cap: usize, x: StepRecord, a: Cube, b: Cube) -> Change
     requires { ⌜ Good n a × Good n b ⌝ }
     requires { ⌜ n ≤ mostVariables ⌝ }
     requires { ⌜ Known n x ⌝ }

@@ -1,6 +1,6 @@
 // The five steps of a script: look, decide, perform; and L by one pass over the records.
-mod decide;
-mod perform;
+pub mod decide;
+pub mod perform;
 pub mod reorder;
 pub mod step;
 

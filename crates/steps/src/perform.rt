@@ -13,7 +13,7 @@ ghost use Rattle.cube.specs.Lists.{cubes, recordWidth};
 ghost use Rattle.steps.specs.Moves.{applied};
 ghost use Rattle.steps.specs.Changes.{moveOf, Placed, Writes, Narrow, Done};
 
-pub(crate) fn smaller(i: usize, j: usize) -> usize
+pub fn smaller(i: usize, j: usize) -> usize
     ensures { λ r. ⌜ r ≡ min i j ⌝ }
 {
     if i < j {
@@ -22,7 +22,7 @@ pub(crate) fn smaller(i: usize, j: usize) -> usize
     j
 }
 
-fn larger(i: usize, j: usize) -> usize
+pub fn larger(i: usize, j: usize) -> usize
     ensures { λ r. ⌜ r ≡ max i j ⌝ }
 {
     if i < j {

@@ -4,7 +4,6 @@ use mathlib.Core.Path.{_≡_, sym, ap, _∙_}
 use mathlib.Core.List.{[], _∷_}
 use Prim.Native.Nat.{_*_, _%_, _^_}
 use native.Mathlib.Omega.{arith}
-use lib.Pow.{pow-mono}
 use Rattle.records.specs.Answers.{accepted, counted}
 use Rattle.cube.specs.Calls.{checkList}
 use Rattle.bits.proofs.Bits.{shl-one}
@@ -49,7 +48,7 @@ returns c =
 fill-vector-requires : tie.Need-fill-vector-requires
 fill-vector-requires c κs =
     let s = c .before .before in
-    (list-is s .good, ((size-is s, omega (arith, size-is s, pow-mono (list-is s .few))), c .before .if1 .left))
+    (list-is s .good, ((size-is s, list-is s .few), c .before .if1 .left))
 
 returns-2 : tie.Need-returns-2
 returns-2 c =

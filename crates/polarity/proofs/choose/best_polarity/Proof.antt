@@ -2,17 +2,16 @@
 -- Assumes nothing.
 use mathlib.Core.Path.{_≡_, sym, ap, _∙_}
 use mathlib.Core.List.{[], _∷_}
-use lib.Seq.{length-take-le}
 use Rattle.records.specs.Answers.{accepted, counted}
 use Rattle.polarity.specs.Vectors.{checkVector}
-use Rattle.polarity.proofs.Choosing.{best-refused, best-most, best-ready, best-found}
+use Rattle.polarity.proofs.Choosing.{best-refused, best-vector, best-found}
 use borrow.Author.Needs.{needs}
 use Rattle.polarity.proofs.choose.best_polarity.Statement.{statement}
 use Rattle.polarity.proofs.choose.best_polarity.Tie as tie
 
 -- what the accepted check said
-told : (a : tie.After-m) → checkVector (a .before .before .before .before .args .n) (a .before .before .before .before .args .vector .now) ≡ accepted (a .m .given .0 .0 ∷ [])
-told a = sym (a .before .before .check-vector .ensures) ∙ ap counted (a .m .given .1)
+told : (a : tie.After-enum-told) → checkVector (a .before .before .before .before .args .n) (a .before .before .before .before .args .vector .now) ≡ accepted (a .enum-told .given .0 .0 ∷ [])
+told a = sym (a .before .before .check-vector .ensures) ∙ ap counted (a .enum-told .given .1)
 
 check-vector-requires : tie.Need-check-vector-requires
 check-vector-requires c κs = search needs
@@ -20,33 +19,19 @@ check-vector-requires c κs = search needs
 enum-known-r : tie.Need-enum-known-r
 enum-known-r c = search needs
 
-enum-known-m : tie.Need-enum-known-m
-enum-known-m c = search needs
-
-array-borrow-prefix-work : tie.Need-array-borrow-prefix-work
-array-borrow-prefix-work c = best-most _ _ _ (told (c .before))
-
-slice-aggregate-find-best : tie.Need-slice-aggregate-find-best
-slice-aggregate-find-best c = sym (length-take-le _ _ (best-most _ _ _ (told (c .before .before))))
+enum-told : tie.Need-enum-told
+enum-told c = search needs
 
 find-best-requires : tie.Need-find-best-requires
-find-best-requires c κs = best-ready _ _ _ (told (c .before .before)) _ (best-most _ _ _ (told (c .before .before)))
+find-best-requires c κs = best-vector _ _ _ (told c)
 
 returns : tie.Need-returns
 returns c = best-refused _ _ _ (sym (c .before .before .before .check-vector .ensures) ∙ ap counted (c .before .r .given .1))
 
 returns-2 : tie.Need-returns-2
-returns-2 c = best-found _ _ _ (told (c .before .before .before .before)) _ _ (c .before .find-best .ensures .0) (c .before .find-best .ensures .1)
+returns-2 c = best-found _ _ _ (told (c .before)) _ _ (c .find-best .ensures .0) (c .find-best .ensures .1)
 
 pub best-polarity-spec : {M : Type 1} → statement M
 best-polarity-spec =
     tie.close
-    (tie.spec
-    check-vector-requires
-    enum-known-r
-    enum-known-m
-    array-borrow-prefix-work
-    slice-aggregate-find-best
-    find-best-requires
-    returns
-    returns-2)
+    (tie.spec check-vector-requires enum-known-r enum-told find-best-requires returns returns-2)
