@@ -1,4 +1,4 @@
-//! Links `libdruthmoy.a`, which `rt staticlib druthmoy` writes; `DRUTHMOY_ARCHIVE` names another folder that has it.
+//! Links `libdruthmoy.a`, which `rust/archive` writes; `DRUTHMOY_ARCHIVE` names another folder that has it.
 
 use std::path::{Path, PathBuf};
 
@@ -12,7 +12,7 @@ fn main() {
         .unwrap_or_else(|| Path::new(env!("CARGO_MANIFEST_DIR")).join("../../target/staticlib"));
     let archive = folder.join("libdruthmoy.a");
     println!("cargo:rerun-if-changed={}", archive.display());
-    assert!(archive.exists(), "no {}: run `rt staticlib druthmoy` at the repository's root first", archive.display());
+    assert!(archive.exists(), "no {}: run `rust/archive` first", archive.display());
     println!("cargo:rustc-link-search=native={}", folder.display());
     println!("cargo:rustc-link-lib=static=druthmoy");
 }

@@ -27,6 +27,18 @@ pub fn paired_list(count: usize, n: u32, apart: u32) -> Vec<u8> {
     half.iter().copied().chain(partners).take(count).flat_map(|(seen, value)| record(seen, value)).collect()
 }
 
+/// `count` cubes over few variables.
+pub fn few_records(count: usize, n: u32) -> Vec<u8> {
+    let mut random = Random(count as u64);
+    let mask = (1u16 << n) - 1;
+    (0..count)
+        .flat_map(|_| {
+            let seen = random.next() as u16 & mask;
+            record(seen, random.next() as u16 & seen)
+        })
+        .collect()
+}
+
 pub fn record(seen: u16, value: u16) -> [u8; 4] {
     let ([a, b], [c, d]) = (seen.to_le_bytes(), value.to_le_bytes());
     [a, b, c, d]

@@ -1,14 +1,16 @@
-//! Each call of the library beside plain Rust with the same algorithm, on the same buffers, in one run.
+//! Each call of the library beside plain Rust, on the same buffers, in one run: plain Rust with the same algorithm, and, where it is another
+//! one, plain Rust as one would write it first.
 //!
-//! Prints a table in Markdown: medians of a call, and their ratio. Before a pair is measured, both are called once, and
-//! their answers and buffers must be equal.
+//! Prints a table in Markdown: medians of a call, and the library's over plain Rust's with the same algorithm. Before they are measured, all are
+//! called once, and their answers and buffers must be equal.
 
 mod inputs;
 mod measure;
 mod plain;
 
 use druthmoy::words;
-use inputs::{bits, exchanges, joins, mixed, paired_list, record, step, turns};
+use inputs::{bits, exchanges, few_records, joins, mixed, paired_list, record, step, turns};
+use plain::{ByBytes, ByWords};
 use std::hint::black_box;
 
 const RECORDS: usize = 4096;
@@ -19,8 +21,8 @@ fn main() {
     if cfg!(feature = "standin") {
         println!("STAND-IN: the calls are answered by the model; the table says nothing of the library.\n");
     }
-    println!("| call | size | library | plain Rust | ratio |");
-    println!("|---|---|---:|---:|---:|");
+    println!("| call | size | library | plain Rust, same way | ratio | plain Rust, straightforward |");
+    println!("|---|---|---:|---:|---:|---:|");
     let mut highest: f64 = 0.0;
     lists(&mut highest);
     polarities(&mut highest);
@@ -39,6 +41,7 @@ fn lists(highest: &mut f64) {
             size,
             |_, _| words::check(n, black_box(list)),
             |_, _| answered(|answer| plain::check(n, black_box(list), answer)),
+            SAME_WAY,
         );
         row(
             highest,
@@ -46,23 +49,35 @@ fn lists(highest: &mut f64) {
             size,
             |_, _| words::value(n, black_box(list), 5),
             |_, _| answered(|answer| plain::value(n, black_box(list), 5, answer)),
+            SAME_WAY,
         );
     }
-    for (count, n, size) in [(4, 4, "4 records, n = 4"), (RECORDS, 8, "4,096 records, n = 8")] {
-        let list = &paired_list(count, n, 1);
+    for (count, n, size) in [
+        (1, 0, "1 record, n = 0"),
+        (2, 1, "2 records, n = 1"),
+        (3, 2, "3 records, n = 2"),
+        (4, 4, "4 records, n = 4"),
+        (RECORDS, 8, "4,096 records, n = 8"),
+    ] {
+        let list = &if n < 4 { few_records(count, n) } else { paired_list(count, n, 1) };
         let n = u64::from(n);
         row(
             highest,
             "truth vector",
             size,
             |_, out| words::truth_vector(n, black_box(list), out),
-            |_, out| answered(|answer| plain::truth_vector(n, black_box(list), out, answer)),
+            |_, out| answered(|answer| plain::truth_vector::<ByWords>(n, black_box(list), out, answer)),
+            Some(|_: &mut [u8], out: &mut [u8]| {
+                answered(|answer| plain::truth_vector::<ByBytes>(n, black_box(list), out, answer))
+            }),
         );
     }
 }
 
 fn polarities(highest: &mut f64) {
-    for (n, p, size) in [(3, 5, "n = 3"), (8, 0xa6, "n = 8")] {
+    for (n, p, size) in
+        [(0, 0, "n = 0"), (1, 1, "n = 1"), (2, 2, "n = 2"), (3, 5, "n = 3"), (8, 0xa6, "n = 8"), (8, 0, "n = 8, p = 0")]
+    {
         let vector = &bits(n);
         let n = u64::from(n);
         row(
@@ -70,14 +85,20 @@ fn polarities(highest: &mut f64) {
             "coefficients",
             size,
             |_, out| words::coefficients(n, black_box(vector), p, out),
-            |_, out| answered(|answer| plain::coefficients(n, black_box(vector), p, out, answer)),
+            |_, out| answered(|answer| plain::coefficients::<ByWords>(n, black_box(vector), p, out, answer)),
+            Some(|_: &mut [u8], out: &mut [u8]| {
+                answered(|answer| plain::coefficients::<ByBytes>(n, black_box(vector), p, out, answer))
+            }),
         );
         row(
             highest,
             "vector",
             size,
             |_, out| words::vector(n, black_box(vector), p, out),
-            |_, out| answered(|answer| plain::vector(n, black_box(vector), p, out, answer)),
+            |_, out| answered(|answer| plain::vector::<ByWords>(n, black_box(vector), p, out, answer)),
+            Some(|_: &mut [u8], out: &mut [u8]| {
+                answered(|answer| plain::vector::<ByBytes>(n, black_box(vector), p, out, answer))
+            }),
         );
         row(
             highest,
@@ -85,13 +106,17 @@ fn polarities(highest: &mut f64) {
             size,
             |_, out| words::write_form(n, black_box(vector), p, out),
             |_, out| answered(|answer| plain::write_form(n, black_box(vector), p, out, answer)),
+            SAME_WAY,
         );
         row(
             highest,
             "best polarity",
             size,
             |_, _| words::best_polarity(n, black_box(vector)),
-            |_, _| answered(|answer| plain::best_polarity(n, black_box(vector), answer)),
+            |_, _| answered(|answer| plain::best_polarity::<ByWords>(n, black_box(vector), answer)),
+            Some(|_: &mut [u8], _: &mut [u8]| {
+                answered(|answer| plain::best_polarity::<ByBytes>(n, black_box(vector), answer))
+            }),
         );
     }
 }
@@ -113,6 +138,7 @@ fn scripts(highest: &mut f64) {
             size,
             |work, _| words::run(n, black_box(list), black_box(script), work),
             |work, _| answered(|answer| plain::run(n, black_box(list), black_box(script), work, answer)),
+            SAME_WAY,
         );
     }
 }
@@ -133,7 +159,12 @@ fn settling(highest: &mut f64) {
             "settle",
             size,
             |work, out| words::settle(n, black_box(list), black_box(script), work, out),
-            |work, out| answered(|answer| plain::settle(n, black_box(list), black_box(script), work, out, answer)),
+            |work, out| {
+                answered(|answer| plain::settle::<ByWords>(n, black_box(list), black_box(script), work, out, answer))
+            },
+            (n <= 8).then_some(|work: &mut [u8], out: &mut [u8]| {
+                answered(|answer| plain::settle::<ByBytes>(n, black_box(list), black_box(script), work, out, answer))
+            }),
         );
     }
 }
@@ -145,23 +176,29 @@ fn small_map() -> (Vec<u8>, Vec<u8>) {
     (list, script)
 }
 
-/// Prints one line of the table. Both functions get a work and an output buffer of the greatest useful length.
+/// No straightforward way that is another than the library's.
+const SAME_WAY: Option<Call> = None;
+
+type Call = fn(&mut [u8], &mut [u8]) -> [u64; 8];
+
+/// Prints one line of the table. All functions get a work and an output buffer of the greatest useful length.
 fn row(
     highest: &mut f64,
     call: &str,
     size: &str,
     library: impl Fn(&mut [u8], &mut [u8]) -> [u64; 8],
     plain: impl Fn(&mut [u8], &mut [u8]) -> [u64; 8],
+    straightforward: Option<impl Fn(&mut [u8], &mut [u8]) -> [u64; 8]>,
 ) {
-    let mut work = (vec![7; BUFFER], vec![7; BUFFER]);
-    let mut out = (vec![7; BUFFER], vec![7; BUFFER]);
-    let answers = (library(&mut work.0, &mut out.0), plain(&mut work.1, &mut out.1));
-    assert_eq!(answers.0, answers.1, "answers of {call}, {size}");
-    assert_eq!(answers.0[0], 0, "{call}, {size} is refused");
-    assert!(work.0 == work.1 && out.0 == out.1, "buffers of {call}, {size} differ");
+    let expected = outcome(&library);
+    assert_eq!(expected.0[0], 0, "{call}, {size} is refused");
+    assert!(expected == outcome(&plain), "{call}, {size}: plain Rust differs");
+    if let Some(straightforward) = &straightforward {
+        assert!(expected == outcome(straightforward), "{call}, {size}: the straightforward way differs");
+    }
 
-    // The same buffers for both: a call leaves nothing that the next one sees.
-    let (library, plain) = measure::medians(
+    // The same buffers for all: a call leaves nothing that the next one sees.
+    let (library, plain, straightforward) = measure::medians(
         (0..PLACEMENTS).map(Buffers::placed),
         |buffers| {
             let (work, out) = buffers.lent();
@@ -171,10 +208,24 @@ fn row(
             let (work, out) = buffers.lent();
             black_box(plain(black_box(work), black_box(out)));
         },
+        straightforward.map(|straightforward| {
+            move |buffers: &mut Buffers| {
+                let (work, out) = buffers.lent();
+                black_box(straightforward(black_box(work), black_box(out)));
+            }
+        }),
     );
     let ratio = library / plain;
     *highest = highest.max(ratio);
-    println!("| {call} | {size} | {} | {} | {ratio:.2} |", time(library), time(plain));
+    let straightforward = straightforward.map_or("the same".to_string(), time);
+    println!("| {call} | {size} | {} | {} | {ratio:.2} | {straightforward} |", time(library), time(plain));
+}
+
+/// The words and both buffers after one call.
+fn outcome(call: &impl Fn(&mut [u8], &mut [u8]) -> [u64; 8]) -> ([u64; 8], Vec<u8>, Vec<u8>) {
+    let (mut work, mut out) = (vec![7; BUFFER], vec![7; BUFFER]);
+    let answer = call(&mut work, &mut out);
+    (answer, work, out)
 }
 
 /// How many placements of the buffers are measured.

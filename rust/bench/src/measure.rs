@@ -1,4 +1,4 @@
-//! Two functions by turns, and the medians of their times.
+//! Functions by turns, and the medians of their times.
 
 use std::time::{Duration, Instant};
 
@@ -8,18 +8,27 @@ const SAMPLES: usize = 11;
 /// A sample repeats a function for about this long.
 const SAMPLE: Duration = Duration::from_micros(200);
 
-/// Medians in nanoseconds a call, over all samples at all placements. The two functions are sampled by turns, so that
-/// both meet the same machine; where buffers stand in memory can cost more than what is measured, so they are moved.
-pub fn medians<P>(placements: impl Iterator<Item = P>, first: impl Fn(&mut P), second: impl Fn(&mut P)) -> (f64, f64) {
-    let mut samples = (Vec::new(), Vec::new());
+/// Medians in nanoseconds a call, over all samples at all placements. The functions are sampled by turns, so that all meet the same machine;
+/// where buffers stand in memory can cost more than what is measured, so they are moved.
+pub fn medians<P>(
+    placements: impl Iterator<Item = P>,
+    first: impl Fn(&mut P),
+    second: impl Fn(&mut P),
+    third: Option<impl Fn(&mut P)>,
+) -> (f64, f64, Option<f64>) {
+    let mut samples = (Vec::new(), Vec::new(), Vec::new());
     for mut on in placements {
-        let repeats = (repeats(&mut on, &first), repeats(&mut on, &second));
+        let often = (repeats(&mut on, &first), repeats(&mut on, &second));
+        let often_third = third.as_ref().map(|third| (third, repeats(&mut on, third)));
         for _ in 0..SAMPLES {
-            samples.0.push(sample(&mut on, &first, repeats.0));
-            samples.1.push(sample(&mut on, &second, repeats.1));
+            samples.0.push(sample(&mut on, &first, often.0));
+            samples.1.push(sample(&mut on, &second, often.1));
+            if let Some((third, often)) = often_third {
+                samples.2.push(sample(&mut on, third, often));
+            }
         }
     }
-    (median(samples.0), median(samples.1))
+    (median(samples.0), median(samples.1), third.map(|_| median(samples.2)))
 }
 
 /// How often a function fits into a sample.

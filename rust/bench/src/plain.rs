@@ -1,17 +1,20 @@
-//! The calls in plain Rust: the library's algorithms on the same buffers, as one would write them without proofs.
+//! The calls in plain Rust, on the same buffers, as one would write them without proofs: the library's algorithms, and for the calls on vectors
+//! the straightforward ones too.
 //! Every call tests its input as the library does, answers the same eight words and, like the library's, is not inlined.
 
+mod bytes;
 mod cube;
 mod lists;
 mod orders;
-mod polarity;
 mod script;
 mod settling;
+mod vectors;
+mod words;
 
 pub use lists::{check, truth_vector, value};
-pub use polarity::{best_polarity, coefficients, vector, write_form};
 pub use script::run;
 pub use settling::settle;
+pub use vectors::{ByBytes, ByWords, best_polarity, coefficients, vector, write_form};
 
 pub type Words = [u64; 8];
 

@@ -1,6 +1,7 @@
-//! Check, value and truth vector: one masked comparison a record.
+//! Check and value: one masked comparison a record; and the truth vector, in either way.
 
 use super::cube::{Cube, RECORD};
+use super::vectors::Way;
 use super::{Refusal, Words, refusal, refuse_if, words};
 
 pub type Records<'a> = &'a [[u8; RECORD]];
@@ -16,8 +17,8 @@ pub fn value(n: u64, list: &[u8], a: u64, answer: &mut Words) {
 }
 
 #[inline(never)]
-pub fn truth_vector(n: u64, list: &[u8], out: &mut [u8], answer: &mut Words) {
-    *answer = words(try_truth_vector(n, list, out));
+pub fn truth_vector<W: Way>(n: u64, list: &[u8], out: &mut [u8], answer: &mut Words) {
+    *answer = words(try_truth_vector::<W>(n, list, out));
 }
 
 /// Rules 1 to 4.
@@ -32,14 +33,8 @@ pub fn checked(n: u64, limit: u64, list: &[u8]) -> Result<Records<'_>, Refusal> 
     }
 }
 
-pub fn value_at(records: Records, a: u32) -> u8 {
+fn value_at(records: Records, a: u32) -> u8 {
     (records.iter().filter(|record| Cube::read(record).holds_at(a)).count() & 1) as u8
-}
-
-pub fn write_values(records: Records, out: &mut [u8]) {
-    for (a, byte) in out.iter_mut().enumerate() {
-        *byte = value_at(records, a as u32);
-    }
 }
 
 fn try_value(n: u64, list: &[u8], a: u64) -> Result<[u64; 1], Refusal> {
@@ -48,10 +43,10 @@ fn try_value(n: u64, list: &[u8], a: u64) -> Result<[u64; 1], Refusal> {
     Ok([value_at(records, a as u32) as u64])
 }
 
-fn try_truth_vector(n: u64, list: &[u8], out: &mut [u8]) -> Result<[u64; 1], Refusal> {
+fn try_truth_vector<W: Way>(n: u64, list: &[u8], out: &mut [u8]) -> Result<[u64; 1], Refusal> {
     let records = checked(n, 8, list)?;
     let length = 1 << n;
     refuse_if(out.len() < length, 5)?;
-    write_values(records, &mut out[..length]);
+    W::write_values(n, records, &mut out[..length]);
     Ok([length as u64])
 }

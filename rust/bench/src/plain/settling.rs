@@ -1,17 +1,23 @@
 //! Settle: run in the work buffer, find the best polarity where there are few variables, burn the best of the three.
 
 use super::cube::{RECORD, records};
-use super::lists::{checked, write_values};
-use super::polarity::{best, transform_moved, write_cubes};
+use super::lists::checked;
 use super::script::{checked_script, run_in};
+use super::vectors::{Way, write_cubes};
 use super::{Refusal, Words, refuse_if, words};
 
 #[inline(never)]
-pub fn settle(n: u64, list: &[u8], script: &[u8], work: &mut [u8], out: &mut [u8], answer: &mut Words) {
-    *answer = words(try_settle(n, list, script, work, out));
+pub fn settle<W: Way>(n: u64, list: &[u8], script: &[u8], work: &mut [u8], out: &mut [u8], answer: &mut Words) {
+    *answer = words(try_settle::<W>(n, list, script, work, out));
 }
 
-fn try_settle(n: u64, list: &[u8], script: &[u8], work: &mut [u8], out: &mut [u8]) -> Result<[u64; 6], Refusal> {
+fn try_settle<W: Way>(
+    n: u64,
+    list: &[u8],
+    script: &[u8],
+    work: &mut [u8],
+    out: &mut [u8],
+) -> Result<[u64; 6], Refusal> {
     let given = checked(n, 16, list)?;
     refuse_if(records(work).len() < given.len(), 5)?;
     refuse_if(records(out).len() < given.len(), 5)?;
@@ -22,8 +28,8 @@ fn try_settle(n: u64, list: &[u8], script: &[u8], work: &mut [u8], out: &mut [u8
     let few = n <= 8;
     let (p, size) = if few {
         let vector = &mut vector[..1 << n];
-        write_values(given, vector);
-        best(vector)
+        W::write_values(n, given, vector);
+        W::best(n, vector)
     } else {
         (usize::MAX, usize::MAX)
     };
@@ -37,7 +43,7 @@ fn try_settle(n: u64, list: &[u8], script: &[u8], work: &mut [u8], out: &mut [u8
     } else {
         let mut coefficients = [0; 256];
         let coefficients = &mut coefficients[..1 << n];
-        transform_moved(&vector[..1 << n], p, coefficients);
+        W::coefficients(n, &vector[..1 << n], p, coefficients);
         write_cubes(coefficients, p, out);
     }
     work.fill(0);

@@ -1,0 +1,121 @@
+//! The calls on vectors of at most 8 variables, in either of two ways.
+
+use super::cube::{Cube, RECORD, records};
+use super::words::Packed;
+use super::{Refusal, Words, bytes, refusal, refuse_if, words};
+
+/// How a vector is kept and worked on. Vectors and coefficients have 2^n bytes, and so have the buffers that are written.
+pub trait Way {
+    fn write_values(n: u64, records: &[[u8; RECORD]], out: &mut [u8]);
+    fn coefficients(n: u64, vector: &[u8], p: usize, out: &mut [u8]);
+    fn vector(n: u64, coefficients: &[u8], p: usize, out: &mut [u8]);
+    /// The polarity with the fewest products, the smallest on a tie, and how many.
+    fn best(n: u64, vector: &[u8]) -> (usize, usize);
+}
+
+/// The library's way: four words.
+pub struct ByWords;
+
+/// The straightforward way: a byte for each assignment.
+pub struct ByBytes;
+
+impl Way for ByWords {
+    fn write_values(_: u64, records: &[[u8; RECORD]], out: &mut [u8]) {
+        Packed::values(records).put(out);
+    }
+
+    fn coefficients(n: u64, vector: &[u8], p: usize, out: &mut [u8]) {
+        Packed::of(vector).transformed(n).turned(n, p).put(out);
+    }
+
+    fn vector(n: u64, coefficients: &[u8], p: usize, out: &mut [u8]) {
+        Packed::of(coefficients).turned(n, p).transformed(n).put(out);
+    }
+
+    fn best(n: u64, vector: &[u8]) -> (usize, usize) {
+        Packed::of(vector).best(n)
+    }
+}
+
+impl Way for ByBytes {
+    fn write_values(_: u64, records: &[[u8; RECORD]], out: &mut [u8]) {
+        bytes::write_values(records, out);
+    }
+
+    fn coefficients(_: u64, vector: &[u8], p: usize, out: &mut [u8]) {
+        bytes::coefficients(vector, p, out);
+    }
+
+    fn vector(_: u64, coefficients: &[u8], p: usize, out: &mut [u8]) {
+        bytes::vector(coefficients, p, out);
+    }
+
+    fn best(_: u64, vector: &[u8]) -> (usize, usize) {
+        bytes::best(vector)
+    }
+}
+
+#[inline(never)]
+pub fn coefficients<W: Way>(n: u64, vector: &[u8], p: u64, out: &mut [u8], answer: &mut Words) {
+    *answer = words(checked(n, vector, p, out.len()).map(|length| {
+        W::coefficients(n, vector, p as usize, &mut out[..length]);
+        [length as u64]
+    }));
+}
+
+#[inline(never)]
+pub fn vector<W: Way>(n: u64, coefficients: &[u8], p: u64, out: &mut [u8], answer: &mut Words) {
+    *answer = words(checked(n, coefficients, p, out.len()).map(|length| {
+        W::vector(n, coefficients, p as usize, &mut out[..length]);
+        [length as u64]
+    }));
+}
+
+#[inline(never)]
+pub fn best_polarity<W: Way>(n: u64, vector: &[u8], answer: &mut Words) {
+    *answer = words(check_bits(n, vector).map(|()| {
+        let (p, size) = W::best(n, vector);
+        [p as u64, size as u64]
+    }));
+}
+
+#[inline(never)]
+pub fn write_form(n: u64, coefficients: &[u8], p: u64, out: &mut [u8], answer: &mut Words) {
+    *answer = words(try_write_form(n, coefficients, p, out));
+}
+
+pub fn write_cubes(coefficients: &[u8], p: usize, out: &mut [u8]) {
+    let nonzero = coefficients.iter().enumerate().filter(|&(_, &coefficient)| coefficient != 0);
+    for ((s, _), record) in nonzero.zip(records(out)) {
+        *record = Cube { seen: s as u32, value: (s & !p) as u32 }.record();
+    }
+}
+
+/// Rules 1 and 14.
+fn check_bits(n: u64, bits: &[u8]) -> Result<(), Refusal> {
+    refuse_if(n > 8, 1)?;
+    if bits.len() != 1 << n {
+        return refusal(14, 1 << n);
+    }
+    match bits.iter().position(|&byte| byte > 1) {
+        Some(place) => refusal(14, place),
+        None => Ok(()),
+    }
+}
+
+/// Rules 1, 14, 15 and 5; the length.
+fn checked(n: u64, bits: &[u8], p: u64, room: usize) -> Result<usize, Refusal> {
+    check_bits(n, bits)?;
+    refuse_if(p >> n != 0, 15)?;
+    refuse_if(room < bits.len(), 5)?;
+    Ok(bits.len())
+}
+
+fn try_write_form(n: u64, coefficients: &[u8], p: u64, out: &mut [u8]) -> Result<[u64; 1], Refusal> {
+    check_bits(n, coefficients)?;
+    refuse_if(p >> n != 0, 15)?;
+    let count = coefficients.iter().filter(|&&coefficient| coefficient != 0).count();
+    refuse_if(records(out).len() < count, 5)?;
+    write_cubes(coefficients, p as usize, out);
+    Ok([count as u64])
+}

@@ -1,0 +1,136 @@
+//! The library's way with vectors: 256 bits in four words, one masked shift a variable.
+
+use super::cube::{Cube, RECORD};
+
+/// The bits whose index is without variable k.
+const WITHOUT: [u64; 6] = [
+    0x5555555555555555,
+    0x3333333333333333,
+    0x0f0f0f0f0f0f0f0f,
+    0x00ff00ff00ff00ff,
+    0x0000ffff0000ffff,
+    0x00000000ffffffff,
+];
+
+/// Bit t is bit t % 64 of word t / 64.
+#[derive(Clone, Copy)]
+pub struct Packed([u64; 4]);
+
+impl Packed {
+    pub fn of(bytes: &[u8]) -> Packed {
+        let mut words = [0; 4];
+        for (word, part) in words.iter_mut().zip(bytes.chunks(64)) {
+            for (j, &byte) in part.iter().enumerate() {
+                *word |= u64::from(byte) << j;
+            }
+        }
+        Packed(words)
+    }
+
+    pub fn put(self, bytes: &mut [u8]) {
+        for (word, part) in self.0.iter().zip(bytes.chunks_mut(64)) {
+            for (j, byte) in part.iter_mut().enumerate() {
+                *byte = (word >> j) as u8 & 1;
+            }
+        }
+    }
+
+    /// The values of a list at all assignments of eight variables.
+    pub fn values(records: &[[u8; RECORD]]) -> Packed {
+        let mut sum = Packed([0; 4]);
+        for record in records {
+            let product = Packed::product(Cube::read(record));
+            for (sum, product) in sum.0.iter_mut().zip(product.0) {
+                *sum ^= product;
+            }
+        }
+        sum
+    }
+
+    /// Where a product is true: an AND of the bits of its literals, with no branch on a code.
+    #[inline]
+    fn product(cube: Cube) -> Packed {
+        let mut bits = [u64::MAX; 4];
+        for k in 0..8 {
+            let code = cube.code(k);
+            let low = u64::from(code != 1).wrapping_neg();
+            let high = u64::from(code != 0).wrapping_neg();
+            for (i, word) in bits.iter_mut().enumerate() {
+                let without = if k < 6 { WITHOUT[k as usize] } else { u64::from(i >> (k - 6) & 1 == 0).wrapping_neg() };
+                *word &= without & low | !without & high;
+            }
+        }
+        Packed(bits)
+    }
+
+    /// To each bit with variable k, the bit without it is added.
+    #[inline]
+    pub fn raised(self, k: usize) -> Packed {
+        let [a, b, c, d] = self.0;
+        match k {
+            0..6 => Packed(self.0.map(|word| word ^ (word & WITHOUT[k]) << (1 << k))),
+            6 => Packed([a, b ^ a, c, d ^ c]),
+            _ => Packed([a, b, c ^ a, d ^ b]),
+        }
+    }
+
+    /// To each bit without variable k, the bit with it is added.
+    #[inline]
+    pub fn lowered(self, k: usize) -> Packed {
+        let [a, b, c, d] = self.0;
+        match k {
+            0..6 => Packed(self.0.map(|word| word ^ word >> (1 << k) & WITHOUT[k])),
+            6 => Packed([a ^ b, b, c ^ d, d]),
+            _ => Packed([a ^ c, b ^ d, c, d]),
+        }
+    }
+
+    #[inline]
+    fn ones(self) -> usize {
+        self.0.iter().map(|word| word.count_ones() as usize).sum()
+    }
+
+    /// From a vector's bits the positive coefficients, and from those the vector's bits.
+    pub fn transformed(self, n: u64) -> Packed {
+        (0..n as usize).fold(self, Packed::raised)
+    }
+
+    /// From the coefficients under one polarity, those under it EXOR p.
+    pub fn turned(self, n: u64, p: usize) -> Packed {
+        (0..n as usize).filter(|k| p >> k & 1 == 1).fold(self, Packed::lowered)
+    }
+
+    /// The best of the polarities that have p's variables from k on, from the coefficients under p, which has none below k. The last three
+    /// variables are taken at once.
+    fn best_from(self, k: usize, p: usize) -> (usize, usize) {
+        match k {
+            0 => self.best_of::<0>(p),
+            1 => self.best_of::<1>(p),
+            2 => self.best_of::<2>(p),
+            3 => self.best_of::<3>(p),
+            _ => fewer(self.best_from(k - 1, p), self.lowered(k - 1).best_from(k - 1, p + (1 << (k - 1)))),
+        }
+    }
+
+    #[inline]
+    fn best_of<const K: usize>(self, p: usize) -> (usize, usize) {
+        let mut best = (p, self.ones());
+        let mut bits = [self; 8];
+        for q in 1..1 << K {
+            let k = usize::ilog2(q) as usize;
+            bits[q] = bits[q - (1 << k)].lowered(k);
+            best = fewer(best, (p + q, bits[q].ones()));
+        }
+        best
+    }
+
+    /// The polarity with the fewest products, the smallest on a tie, and how many, from the vector's bits.
+    pub fn best(self, n: u64) -> (usize, usize) {
+        self.transformed(n).best_from(n as usize, 0)
+    }
+}
+
+#[inline]
+fn fewer(lower: (usize, usize), upper: (usize, usize)) -> (usize, usize) {
+    if upper.1 < lower.1 { upper } else { lower }
+}
