@@ -17,11 +17,11 @@ use Rattle.bits.specs.Below.{listBelow}
 use Rattle.bits.proofs.Bits.{shl-one}
 use Rattle.bits.proofs.Below.{length-listBelow, getD-listBelow, is-listBelow}
 use Rattle.polarity.specs.Vectors.{byteAt}
-use Rattle.bits.specs.Packed.{added}
+use Rattle.bits.specs.Packed.{plusLower}
 use Rattle.polarity.specs.Passes.{addedBlock}
 use Rattle.polarity.proofs.Subsets.{below-or}
 use Rattle.polarity.proofs.Parities.{pow-double}
-use Rattle.polarity.proofs.Passing.{Passed, passed-none, passed-more, passed-end, added-with, added-without}
+use Rattle.polarity.proofs.Passing.{Passed, passed-none, passed-more, passed-end, plusLower-with, plusLower-without}
 
 -- ---- a block of twice 2 ^ k indices: those of the lower half are without variable k, those of the upper half have it
 
@@ -96,7 +96,7 @@ pub record Adding (k h : ℕ) (l₀ l : List ℕ) (from : ℕ) : Type 0 where
   pub half : h ≡ 2 ^ k
   pub start : 2 ^ suc k ∣ from
   pub upto : from ≤ length l₀
-  pub passed : Passed (added k (byteAt l₀)) l₀ l from
+  pub passed : Passed (plusLower k (byteAt l₀)) l₀ l from
 
 module _ (k h : ℕ) (l₀ : List ℕ) where
   pub adding-none : k < 64 → h ≡ (1 * 2 ^ k) % 2 ^ 64 → Adding k h l₀ l₀ 0
@@ -104,7 +104,7 @@ module _ (k h : ℕ) (l₀ : List ℕ) where
     half = e ∙ shl-one k 64 b;
     start = dvd-zero (2 ^ suc k);
     upto = zero-le;
-    passed = passed-none (added k (byteAt l₀)) l₀ 0 (below-none (λ t. byteAt l₀ t ≡ added k (byteAt l₀) t));
+    passed = passed-none (plusLower k (byteAt l₀)) l₀ 0 (below-none (λ t. byteAt l₀ t ≡ plusLower k (byteAt l₀) t));
   }
 
   module _ (l : List ℕ) (from : ℕ) (A : Adding k h l₀ l from) where
@@ -119,19 +119,19 @@ module _ (k h : ℕ) (l₀ : List ℕ) where
         omega (arith, A .passed .long, A .half, pow-double k)
 
     -- the lower half of the block is as the pass of k leaves it
-    adding-lower : (t : ℕ) → t < from + h → t < length l₀ → byteAt l t ≡ added k (byteAt l₀) t
+    adding-lower : (t : ℕ) → t < from + h → t < length l₀ → byteAt l t ≡ plusLower k (byteAt l₀) t
     adding-lower t b c =
         ⊎-elim (A .passed .done t)
-        (λ m. A .passed .rest t m c ∙ sym (added-without k (byteAt l₀) t (lower-bit k from (A .start) t m (omega (arith, A .half)))))
+        (λ m. A .passed .rest t m c ∙ sym (plusLower-without k (byteAt l₀) t (lower-bit k from (A .start) t m (omega (arith, A .half)))))
         (below-or t from)
 
     -- the pass over the block makes the upper half so
-    adding-upper : (t : ℕ) → from + h ≤ t → t < from + h + h → t < length l₀ → addedBlock from h (byteAt l) t ≡ added k (byteAt l₀) t
+    adding-upper : (t : ℕ) → from + h ≤ t → t < from + h + h → t < length l₀ → addedBlock from h (byteAt l) t ≡ plusLower k (byteAt l₀) t
     adding-upper t b e c =
         let at : t - h ≡ t - 2 ^ k = ap (λ (x : ℕ). t - x) (A .half) in
         block-upper from h (byteAt l) t b e
         ∙ ap₂ bitXor (A .passed .rest t (omega arith) c) (A .passed .rest (t - h) (omega arith) (omega arith) ∙ ap (byteAt l₀) at)
-        ∙ sym (added-with k (byteAt l₀) t (upper-bit k from (A .start) t (omega (arith, A .half)) (omega (arith, A .half))))
+        ∙ sym (plusLower-with k (byteAt l₀) t (upper-bit k from (A .start) t (omega (arith, A .half)) (omega (arith, A .half))))
 
     pub adding-more : (m : List ℕ) → from + h + h ≤ length l → m ≡ listBelow (length l) (addedBlock from h (byteAt l)) → Adding k h l₀ m (from + h + h)
     adding-more m room e =
@@ -151,5 +151,5 @@ module _ (k h : ℕ) (l₀ : List ℕ) where
           };
         }
 
-    pub adding-all : length l ≤ from + h → l ≡ listBelow (length l₀) (added k (byteAt l₀))
-    adding-all b = is-listBelow 0 l (length l₀) (added k (byteAt l₀)) (A .passed .long) (λ t c. adding-lower t (omega (arith, A .passed .long)) c)
+    pub adding-all : length l ≤ from + h → l ≡ listBelow (length l₀) (plusLower k (byteAt l₀))
+    adding-all b = is-listBelow 0 l (length l₀) (plusLower k (byteAt l₀)) (A .passed .long) (λ t c. adding-lower t (omega (arith, A .passed .long)) c)

@@ -14,13 +14,14 @@ use lib.Pow.{pow-mono}
 use Rattle.bits.specs.Bits.{bit, withBit}
 use Rattle.bits.specs.Below.{sumBelow, leastBelow, LeastIn}
 use Rattle.bits.specs.Sums.{tally, oneIf}
-use Rattle.bits.specs.Packed.{wordAt, bitAt, packed, dropped, added, lowered, raised}
+use Rattle.bits.specs.Packed.{wordAt, bitAt, packed, plusUpper, plusLower, lowered, raised}
 use Rattle.bits.specs.declared.packed.Packed.{Packed}
 use Rattle.bits.proofs.Bools.{below-or}
 use Rattle.bits.proofs.Bits.{bit-lt, bit-zero, bit-high, with-other, with-lt, is-with, shl-one}
 use Rattle.bits.proofs.Below.{length-listBelow, getD-listBelow, sum-cong, sum-parts, sum-none}
 use Rattle.bits.proofs.Least.{in-one, in-upper, in-lower, in-all}
-use Rattle.bits.proofs.Packing.{dropped-cong, added-cong, lowered-bit, raised-bit, packed-bit}
+use Rattle.bits.proofs.packed.Passes.{plusUpper-cong, plusLower-cong, lowered-bit, raised-bit}
+use Rattle.bits.proofs.packed.Packing.{packed-bit}
 use Rattle.records.specs.declared.Refusal.{Refusal}
 use Rattle.records.specs.Answers.{accepted, refused}
 use Rattle.records.proofs.Answering.{and-then, and-not}
@@ -31,9 +32,9 @@ use Rattle.polarity.specs.Calls.{bestOutcome}
 use Rattle.polarity.specs.Passes.{nonzero, countsFrom}
 use Rattle.polarity.specs.Search.{Shows, raisedBelow, Trying, BestIn}
 use Rattle.polarity.proofs.Parities.{pow-double, parity-cong, parity-lt}
-use Rattle.polarity.proofs.Passing.{passes, passes-parity, added-with, added-without}
+use Rattle.polarity.proofs.Passing.{passes, passes-parity, plusLower-with, plusLower-without}
 use Rattle.polarity.proofs.Moving.{bits-below}
-use Rattle.polarity.proofs.Flipping.{plus-with, plus-lt, dropped-with, dropped-without, coefficient-turned}
+use Rattle.polarity.proofs.Flipping.{plus-with, plus-lt, plusUpper-with, plusUpper-without, coefficient-turned}
 use Rattle.polarity.proofs.Checks.{check-accepts, vector-most}
 use Rattle.polarity.proofs.Listing.{form-counts, form-cong}
 
@@ -93,7 +94,7 @@ unfolding raisedBelow passes
 raised-passes zero hk w t h = refl
 raised-passes (suc k) hk w t h =
     raised-bit k (raisedBelow k w) t (omega arith) h
-    ∙ added-cong k (bitAt (raisedBelow k w)) (passes k (bitAt w)) t t refl (raised-passes k (omega arith) w t h) (λ e. raised-passes k (omega arith) w (t - 2 ^ k) (omega arith))
+    ∙ plusLower-cong k (bitAt (raisedBelow k w)) (passes k (bitAt w)) t t refl (raised-passes k (omega arith) w t h) (λ e. raised-passes k (omega arith) w (t - 2 ^ k) (omega arith))
 
 -- past the vector's end all stays 0
 minus-with : (t k : ℕ) → bit t k ≡ 1 → t - 2 ^ k ≡ withBit t k 0
@@ -117,9 +118,9 @@ unfolding passes
 passes-high n f z zero hk t h u = z t h u
 passes-high n f z (suc k) hk t h u = go (bit t k) refl (bit-lt t k) (passes-high n f z k (omega arith))
   where
-    go : (b : ℕ) → bit t k ≡ b → b < 2 → ((s : ℕ) → 2 ^ n ≤ s → s < 256 → passes k f s ≡ 0) → added k (passes k f) t ≡ 0
-    go zero e l ih = added-without k (passes k f) t e ∙ ih t h u
-    go (suc zero) e l ih = added-with k (passes k f) t e ∙ ap₂ bitXor (ih t h u) (ih (t - 2 ^ k) (minus-high n k t hk e h) (omega arith))
+    go : (b : ℕ) → bit t k ≡ b → b < 2 → ((s : ℕ) → 2 ^ n ≤ s → s < 256 → passes k f s ≡ 0) → plusLower k (passes k f) t ≡ 0
+    go zero e l ih = plusLower-without k (passes k f) t e ∙ ih t h u
+    go (suc zero) e l ih = plusLower-with k (passes k f) t e ∙ ap₂ bitXor (ih t h u) (ih (t - 2 ^ k) (minus-high n k t hk e h) (omega arith))
     go (suc (suc b)) e l ih = absurd (omega arith)
 
 -- the bytes of the coefficients, also past their end
@@ -171,7 +172,7 @@ module _ (n : ℕ) (l : List ℕ) (k : ℕ) (w : Packed) (p : ℕ) (T : Trying n
       let most : 2 ^ n ≤ 256 = vector-most n l (T .vector) in
       shows-under n (p + 2 ^ j) l (T .vector .few) (lowered j w)
       (λ t m h. lowered-bit j w t (omega (arith, T .vector .few, under)) h
-      ∙ dropped-cong j (bitAt w) f t t refl (T .shows .same t h ∙ under-at n p l t m)
+      ∙ plusUpper-cong j (bitAt w) f t t refl (T .shows .same t h ∙ under-at n p l t m)
       (λ z. let up : t + 2 ^ j < 2 ^ n = plus-lt n j t under m z in T .shows .same (t + 2 ^ j) (omega arith) ∙ under-at n p l (t + 2 ^ j) up)
       ∙ sym (coefficient-turned n j p under clear (byteAt l) t m))
       (λ t m h. lowered-bit j w t (omega (arith, T .vector .few, under)) h ∙ past t m h)
@@ -179,14 +180,14 @@ module _ (n : ℕ) (l : List ℕ) (k : ℕ) (w : Packed) (p : ℕ) (T : Trying n
       zero-at : (t : ℕ) → 2 ^ n ≤ t → t < 256 → bitAt w t ≡ 0
       zero-at t m h = T .shows .same t h ∙ under-past n p l t m
 
-      past : (t : ℕ) → 2 ^ n ≤ t → t < 256 → dropped j (bitAt w) t ≡ 0
+      past : (t : ℕ) → 2 ^ n ≤ t → t < 256 → plusUpper j (bitAt w) t ≡ 0
       past t m h = go (bit t j) refl (bit-lt t j)
         where
-          go : (b : ℕ) → bit t j ≡ b → b < 2 → dropped j (bitAt w) t ≡ 0
+          go : (b : ℕ) → bit t j ≡ b → b < 2 → plusUpper j (bitAt w) t ≡ 0
           go zero z b =
-              dropped-without j (bitAt w) t z
+              plusUpper-without j (bitAt w) t z
               ∙ ap₂ bitXor (zero-at t m h) (zero-at (t + 2 ^ j) (omega arith) (plus-lt 8 j t (omega (arith, T .vector .few, under)) h z))
-          go (suc zero) z b = dropped-with j (bitAt w) t z ∙ zero-at t m h
+          go (suc zero) z b = plusUpper-with j (bitAt w) t z ∙ zero-at t m h
           go (suc (suc x)) z b = absurd (omega arith)
 
   pub trying-lower : Trying n l j w p

@@ -12,10 +12,10 @@ use lib.Dec.{eqb, lit<}
 use borrow.Author.Tests.{eqb-true, eq-eqb, ne-eqb}
 use Rattle.bits.specs.Bits.{bit, withBit}
 use Rattle.bits.specs.Below.{allBelow}
-use Rattle.bits.specs.Packed.{dropped}
+use Rattle.bits.specs.Packed.{plusUpper}
 use Rattle.bits.proofs.Bools.{below-or, all-at₂, all-at₃}
 use Rattle.bits.proofs.Bits.{bit-lt, bit-ext, bit-high, bit-xor, with-same, with-other, with-lt, is-with, pow-bit, pow-bit-other, differ-zero}
-use Rattle.bits.proofs.Packing.{dropped-cong}
+use Rattle.bits.proofs.packed.Passes.{plusUpper-cong}
 use Rattle.polarity.specs.Forms.{parityWithin, coefficient}
 use Rattle.polarity.proofs.Subsets.{xor-twice, xor-parity}
 use Rattle.polarity.proofs.Parities.{pow-double, parity-low, parity-top, parity-cong, parity-lt}
@@ -75,13 +75,13 @@ xor-below n t k h l =
 -- ---- the pass
 
 module _ (k : ℕ) (f : ℕ → ℕ) (t : ℕ) where
-  pub dropped-with : bit t k ≡ 1 → dropped k f t ≡ f t
-  unfolding dropped
-  dropped-with e = ap (λ (b : Bool). cond b (bitXor (f t) (f (t + 2 ^ k))) (f t)) (ne-eqb (bit t k) 0 (λ q. omega arith))
+  pub plusUpper-with : bit t k ≡ 1 → plusUpper k f t ≡ f t
+  unfolding plusUpper
+  plusUpper-with e = ap (λ (b : Bool). cond b (bitXor (f t) (f (t + 2 ^ k))) (f t)) (ne-eqb (bit t k) 0 (λ q. omega arith))
 
-  pub dropped-without : bit t k ≡ 0 → dropped k f t ≡ bitXor (f t) (f (t + 2 ^ k))
-  unfolding dropped
-  dropped-without e = ap (λ (b : Bool). cond b (bitXor (f t) (f (t + 2 ^ k))) (f t)) (eq-eqb (bit t k) 0 e)
+  pub plusUpper-without : bit t k ≡ 0 → plusUpper k f t ≡ bitXor (f t) (f (t + 2 ^ k))
+  unfolding plusUpper
+  plusUpper-without e = ap (λ (b : Bool). cond b (bitXor (f t) (f (t + 2 ^ k))) (f t)) (eq-eqb (bit t k) 0 e)
 
 -- ---- the parities of f moved by one variable
 
@@ -102,37 +102,37 @@ module _ (n : ℕ) (g : ℕ → ℕ) (r : ℕ) (h : r < 2 ^ n) where
   turned-high = parity-cong n (λ t. turned n g (2 ^ n + t)) g r (λ t l. ap g (top-xor n t l))
 
   -- by the top variable
-  top-low : parityWithin (suc n) (turned n g) r ≡ dropped n (parityWithin (suc n) g) r
+  top-low : parityWithin (suc n) (turned n g) r ≡ plusUpper n (parityWithin (suc n) g) r
   top-low =
       let at : r + 2 ^ n ≡ 2 ^ n + r = omega arith in
       parity-low n (turned n g) r h ∙ turned-low
-      ∙ sym (dropped-without n (parityWithin (suc n) g) r (top-none n r h)
+      ∙ sym (plusUpper-without n (parityWithin (suc n) g) r (top-none n r h)
       ∙ ap₂ bitXor (parity-low n g r h) (ap (parityWithin (suc n) g) at ∙ parity-top n g r h)
       ∙ eqb-true _ _ (all-at₂ 2 2 (λ a b. eqb (bitXor a ((a + b) % 2)) b) refl low high (parity-lt n g r) (parity-lt n (λ t. g (2 ^ n + t)) r)))
 
-  top-high : parityWithin (suc n) (turned n g) (2 ^ n + r) ≡ dropped n (parityWithin (suc n) g) (2 ^ n + r)
+  top-high : parityWithin (suc n) (turned n g) (2 ^ n + r) ≡ plusUpper n (parityWithin (suc n) g) (2 ^ n + r)
   top-high =
       let sum : high + low ≡ low + high = omega arith in
       parity-top n (turned n g) r h ∙ ap₂ (λ (x y : ℕ). (x + y) % 2) turned-low turned-high ∙ ap (λ (x : ℕ). x % 2) sum
-      ∙ sym (dropped-with n (parityWithin (suc n) g) (2 ^ n + r) (top-has n r h) ∙ parity-top n g r h)
+      ∙ sym (plusUpper-with n (parityWithin (suc n) g) (2 ^ n + r) (top-has n r h) ∙ parity-top n g r h)
 
   -- by a variable below
-  module _ (k : ℕ) (l : k < n) (ih : (f : ℕ → ℕ) (s : ℕ) → s < 2 ^ n → parityWithin n (turned k f) s ≡ dropped k (parityWithin n f) s) where
-    below-low : parityWithin (suc n) (turned k g) r ≡ dropped k (parityWithin (suc n) g) r
+  module _ (k : ℕ) (l : k < n) (ih : (f : ℕ → ℕ) (s : ℕ) → s < 2 ^ n → parityWithin n (turned k f) s ≡ plusUpper k (parityWithin n f) s) where
+    below-low : parityWithin (suc n) (turned k g) r ≡ plusUpper k (parityWithin (suc n) g) r
     below-low =
         parity-low n (turned k g) r h ∙ ih g r h
-        ∙ dropped-cong k (parityWithin n g) (parityWithin (suc n) g) r r refl (sym (parity-low n g r h)) (λ e. sym (parity-low n g (r + 2 ^ k) (plus-lt n k r l h e)))
+        ∙ plusUpper-cong k (parityWithin n g) (parityWithin (suc n) g) r r refl (sym (parity-low n g r h)) (λ e. sym (parity-low n g (r + 2 ^ k) (plus-lt n k r l h e)))
 
     abbrev upper : ℕ → ℕ
     upper t = g (2 ^ n + t)
 
-    below-sum : (b : ℕ) → bit r k ≡ b → b < 2 → (dropped k (parityWithin n g) r + dropped k (parityWithin n upper) r) % 2 ≡ dropped k (parityWithin (suc n) g) (2 ^ n + r)
+    below-sum : (b : ℕ) → bit r k ≡ b → b < 2 → (plusUpper k (parityWithin n g) r + plusUpper k (parityWithin n upper) r) % 2 ≡ plusUpper k (parityWithin (suc n) g) (2 ^ n + r)
     below-sum zero e hb =
         let at : 2 ^ n + r + 2 ^ k ≡ 2 ^ n + (r + 2 ^ k) = omega arith in
         let s : ℕ = r + 2 ^ k in
-        ap₂ (λ (x y : ℕ). (x + y) % 2) (dropped-without k (parityWithin n g) r e) (dropped-without k (parityWithin n upper) r e)
+        ap₂ (λ (x y : ℕ). (x + y) % 2) (plusUpper-without k (parityWithin n g) r e) (plusUpper-without k (parityWithin n upper) r e)
         ∙ four low (parityWithin n g s) high (parityWithin n upper s) (parity-lt n g r) (parity-lt n g s) (parity-lt n upper r) (parity-lt n upper s)
-        ∙ sym (dropped-without k (parityWithin (suc n) g) (2 ^ n + r) (top-below n r h k l ∙ e)
+        ∙ sym (plusUpper-without k (parityWithin (suc n) g) (2 ^ n + r) (top-below n r h k l ∙ e)
         ∙ ap₂ bitXor (parity-top n g r h) (ap (parityWithin (suc n) g) at ∙ parity-top n g s (plus-lt n k r l h e)))
       where
         four : (a a′ b b′ : ℕ) → a < 2 → a′ < 2 → b < 2 → b′ < 2 → (bitXor a a′ + bitXor b b′) % 2 ≡ bitXor ((a + b) % 2) ((a′ + b′) % 2)
@@ -140,34 +140,34 @@ module _ (n : ℕ) (g : ℕ → ℕ) (r : ℕ) (h : r < 2 ^ n) where
             eqb-true _ _ (all-at₂ 2 2 (λ b b′. eqb ((bitXor a a′ + bitXor b b′) % 2) (bitXor ((a + b) % 2) ((a′ + b′) % 2)))
             (all-at₂ 2 2 (λ a a′. allBelow 2 (λ b. allBelow 2 (λ b′. eqb ((bitXor a a′ + bitXor b b′) % 2) (bitXor ((a + b) % 2) ((a′ + b′) % 2))))) refl a a′ ha ha′) b b′ hb hb′)
     below-sum (suc zero) e hb =
-        ap₂ (λ (x y : ℕ). (x + y) % 2) (dropped-with k (parityWithin n g) r e) (dropped-with k (parityWithin n upper) r e)
-        ∙ sym (dropped-with k (parityWithin (suc n) g) (2 ^ n + r) (top-below n r h k l ∙ e) ∙ parity-top n g r h)
+        ap₂ (λ (x y : ℕ). (x + y) % 2) (plusUpper-with k (parityWithin n g) r e) (plusUpper-with k (parityWithin n upper) r e)
+        ∙ sym (plusUpper-with k (parityWithin (suc n) g) (2 ^ n + r) (top-below n r h k l ∙ e) ∙ parity-top n g r h)
     below-sum (suc (suc b)) e hb = absurd (omega arith)
 
-    below-high : parityWithin (suc n) (turned k g) (2 ^ n + r) ≡ dropped k (parityWithin (suc n) g) (2 ^ n + r)
+    below-high : parityWithin (suc n) (turned k g) (2 ^ n + r) ≡ plusUpper k (parityWithin (suc n) g) (2 ^ n + r)
     below-high =
         parity-top n (turned k g) r h
         ∙ ap₂ (λ (x y : ℕ). (x + y) % 2) (ih g r h)
         (parity-cong n (λ t. turned k g (2 ^ n + t)) (turned k upper) r (λ t ht. ap g (xor-below n t k ht l)) ∙ ih upper r h)
         ∙ below-sum (bit r k) refl (bit-lt r k)
 
-pub parity-turned : (n k : ℕ) → k < n → (g : ℕ → ℕ) (s : ℕ) → s < 2 ^ n → parityWithin n (turned k g) s ≡ dropped k (parityWithin n g) s
+pub parity-turned : (n k : ℕ) → k < n → (g : ℕ → ℕ) (s : ℕ) → s < 2 ^ n → parityWithin n (turned k g) s ≡ plusUpper k (parityWithin n g) s
 parity-turned zero k hk g s hs = absurd (omega arith)
 parity-turned (suc n) k hk g s hs =
     ⊎-elim
     (λ l. ⊎-elim (λ m. below-low n g s m k l (parity-turned n k l))
-    (λ m. subst (λ (x : ℕ). parityWithin (suc n) (turned k g) x ≡ dropped k (parityWithin (suc n) g) x) (omega arith)
+    (λ m. subst (λ (x : ℕ). parityWithin (suc n) (turned k g) x ≡ plusUpper k (parityWithin (suc n) g) x) (omega arith)
     (below-high n g (s - 2 ^ n) (omega (arith, pow-double n)) k l (parity-turned n k l))) (below-or s (2 ^ n)))
-    (λ l. subst (λ (j : ℕ). parityWithin (suc n) (turned j g) s ≡ dropped j (parityWithin (suc n) g) s) (omega arith)
+    (λ l. subst (λ (j : ℕ). parityWithin (suc n) (turned j g) s ≡ plusUpper j (parityWithin (suc n) g) s) (omega arith)
     (⊎-elim (λ m. top-low n g s m)
-    (λ m. subst (λ (x : ℕ). parityWithin (suc n) (turned n g) x ≡ dropped n (parityWithin (suc n) g) x) (omega arith)
+    (λ m. subst (λ (x : ℕ). parityWithin (suc n) (turned n g) x ≡ plusUpper n (parityWithin (suc n) g) x) (omega arith)
     (top-high n g (s - 2 ^ n) (omega (arith, pow-double n)))) (below-or s (2 ^ n))))
     (below-or k n)
 
 -- ---- the coefficients
 
 -- Under p with variable k complemented as well, a set without k has the sum of its coefficient and that of the set with k; a set with k keeps its own.
-pub coefficient-turned : (n k p : ℕ) → k < n → bit p k ≡ 0 → (f : ℕ → ℕ) (s : ℕ) → s < 2 ^ n → coefficient n (p + 2 ^ k) f s ≡ dropped k (coefficient n p f) s
+pub coefficient-turned : (n k p : ℕ) → k < n → bit p k ≡ 0 → (f : ℕ → ℕ) (s : ℕ) → s < 2 ^ n → coefficient n (p + 2 ^ k) f s ≡ plusUpper k (coefficient n p f) s
 coefficient-turned n k p hk z f s hs =
     parity-cong n (λ t. f (bitXor t (p + 2 ^ k))) (turned k (λ t. f (bitXor t p))) s (λ t l. ap f (moved t))
     ∙ parity-turned n k hk (λ t. f (bitXor t p)) s hs

@@ -10,7 +10,7 @@ ghost use Rattle.bits.specs.Below.{listBelow};
 ghost use Rattle.records.specs.Answers.{counted};
 ghost use Rattle.polarity.specs.Vectors.{byteAt, Vector, coefficientVector, vectorBack};
 ghost use Rattle.polarity.specs.Calls.{coefficientsOutcome, coefficientsAfter, backAfter};
-ghost use Rattle.bits.specs.Packed.{added};
+ghost use Rattle.bits.specs.Packed.{plusLower};
 ghost use Rattle.polarity.specs.Passes.{Ready, addedBlock, parities, moved, exchanged};
 
 // To each byte of the upper half of the block of 2h bytes at `from`, the byte h before it is added, modulo 2.
@@ -30,7 +30,7 @@ fn add_block(v: &mut [u8], from: usize, h: usize)
 // To each byte whose index has variable k, the byte at the index without it is added, modulo 2. These are the upper halves of the blocks of 2^(k+1) bytes.
 fn add_without(v: &mut [u8], k: usize)
     requires { ⌜ (k < 64) × (2 ^ suc k ∣ length (now v)) ⌝ }
-    ensures { λ _. ⌜ now (v .exit) ≡ listBelow (length (now (v .entry))) (added k (byteAt (now (v .entry)))) ⌝ }
+    ensures { λ _. ⌜ now (v .exit) ≡ listBelow (length (now (v .entry))) (plusLower k (byteAt (now (v .entry)))) ⌝ }
 {
     let h: usize = 1 << k;
     let mut from: usize = 0;

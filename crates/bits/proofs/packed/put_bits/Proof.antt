@@ -1,12 +1,12 @@
--- `value::put_bits` meets its contract: the loop keeps `Putting`.
+-- `packed::put_bits` meets its contract: the loop keeps `Putting`.
 -- Assumes nothing.
 use Prim.Native.Nat.{_-_}
 use native.Mathlib.Omega.{arith}
 use lib.ListN.{length}
 use borrow.Author.Needs.{needs}
-use Rattle.cube.proofs.Slices.{Putting, putting-none, putting-more, putting-all}
-use Rattle.cube.proofs.value.put_bits.Statement.{statement}
-use Rattle.cube.proofs.value.put_bits.Tie as tie
+use Rattle.bits.proofs.packed.Packing.{Putting, putting-none, putting-more, putting-all}
+use Rattle.bits.proofs.packed.put_bits.Statement.{statement}
+use Rattle.bits.proofs.packed.put_bits.Tie as tie
 
 abbrev Inv-loop : tie.InvT-loop
 Inv-loop w part₀ j₀ part j = Putting w part₀ part j
