@@ -22,8 +22,6 @@ use Rattle.bits.proofs.packed.Packed.both.Kinds as packed-both-kinds
 use Rattle.bits.proofs.packed.Packed.both.Reads as packed-both-reads
 use Rattle.bits.proofs.packed.Packed.sum.Kinds as packed-sum-kinds
 use Rattle.bits.proofs.packed.Packed.sum.Reads as packed-sum-reads
-use Rattle.bits.proofs.packed.Packed.word.Kinds as packed-word-kinds
-use Rattle.bits.proofs.packed.Packed.word.Reads as packed-word-reads
 use Rattle.bits.proofs.packed.Packed.put.Kinds as packed-put-kinds
 use Rattle.bits.proofs.packed.Packed.put.Reads as packed-put-reads
 
@@ -64,6 +62,3 @@ packed-both-determined κs a z z′ ws ws′ p q = (same p q, refl)
 
 pub packed-sum-determined : Determined 0 packed-sum-kinds.ps packed-sum-kinds.r packed-sum-reads.Learnt
 packed-sum-determined κs a z z′ ws ws′ p q = (same p q, refl)
-
-pub packed-word-determined : Determined 0 packed-word-kinds.ps packed-word-kinds.r packed-word-reads.Learnt
-packed-word-determined κs a z z′ ws ws′ p q = (same p q, refl)

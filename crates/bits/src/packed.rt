@@ -5,7 +5,7 @@ ghost use Prim.Native.Nat.{min, _+_, _-_, _<_, _≤_};
 ghost use lib.ListN.{length, take, drop};
 ghost use Rattle.bits.specs.Bits.{bit};
 ghost use Rattle.bits.specs.Below.{sumBelow, listBelow};
-ghost use Rattle.bits.specs.Packed.{wordAt, bitAt, both, summed, fullOf, mixed, withoutBits, literalBits, wordFrom, packed, putBits, maskOf, loweredWord, raisedWord, lowered, raised};
+ghost use Rattle.bits.specs.Packed.{bitAt, both, summed, fullOf, mixed, withoutBits, literalBits, wordFrom, packed, putBits, maskOf, loweredWord, raisedWord, lowered, raised};
 
 // A word whose bits are all set.
 const ALL: u64 = 0xffffffffffffffff;
@@ -18,27 +18,21 @@ pub struct Packed {
     pub d: u64,
 }
 
-// The bits whose index is without variable k.
+// The bits of a word whose index is without variable k.
+const MASKS: [u64; 6] = [
+    0x5555555555555555,
+    0x3333333333333333,
+    0x0f0f0f0f0f0f0f0f,
+    0x00ff00ff00ff00ff,
+    0x0000ffff0000ffff,
+    0x00000000ffffffff,
+];
+
 fn mask(k: usize) -> u64
     requires { ⌜ k < 6 ⌝ }
     ensures { λ r. ⌜ r ≡ maskOf k ⌝ }
 {
-    if k == 0 {
-        return 0x5555555555555555;
-    }
-    if k == 1 {
-        return 0x3333333333333333;
-    }
-    if k == 2 {
-        return 0x0f0f0f0f0f0f0f0f;
-    }
-    if k == 3 {
-        return 0x00ff00ff00ff00ff;
-    }
-    if k == 4 {
-        return 0x0000ffff0000ffff;
-    }
-    0x00000000ffffffff
+    MASKS[k]
 }
 
 // How many of the 64 bytes from `from` on there are.
@@ -216,22 +210,6 @@ impl Packed {
             c: self.c ^ other.c,
             d: self.d ^ other.d,
         }
-    }
-
-    // Word i, the last for every i from 3 on.
-    pub fn word(self, i: usize) -> u64
-        ensures { λ r. ⌜ r ≡ wordAt self i ⌝ }
-    {
-        if i == 0 {
-            return self.a;
-        }
-        if i == 1 {
-            return self.b;
-        }
-        if i == 2 {
-            return self.c;
-        }
-        self.d
     }
 
     // The lowest bit of each of the first 256 bytes: of bytes that are 0 or 1, the bytes themselves.

@@ -19,9 +19,6 @@ use Rattle.bits.proofs.packed.Words.{bit-xor-bits}
 
 -- ---- the code's numbers
 
-pub mask-at : (k j m : ℕ) → k ≡ j → m ≡ maskOf j → m ≡ maskOf k
-mask-at k j m e f = f ∙ ap maskOf (sym e)
-
 module _ (k : ℕ) (small : k < 6) where
   half-is : (1 * 2 ^ k) % 2 ^ 64 ≡ 2 ^ k
   half-is = shl-one k 64 (omega arith)

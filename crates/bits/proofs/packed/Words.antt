@@ -32,12 +32,6 @@ word-bit w i j h =
     let f : (i * 64 + j) % 64 ≡ j = omega arith in
     ap₂ (λ (x y : ℕ). bit (wordAt w x) y) e f
 
-pub last-word : (w : Packed) (i : ℕ) → (i ≡ 0 → ⊥) → (i ≡ 1 → ⊥) → (i ≡ 2 → ⊥) → w .d ≡ wordAt w i
-last-word w zero a b c = absurd (a refl)
-last-word w (suc zero) a b c = absurd (b refl)
-last-word w (suc (suc zero)) a b c = absurd (c refl)
-last-word w (suc (suc (suc i))) a b c = refl
-
 -- ---- no bit, and every bit
 
 pub full-fits : (t : Bool) → fullOf t < 2 ^ 64
