@@ -15,7 +15,7 @@ mask-requires : tie.Need-mask-requires
 mask-requires c κs = search needs
 
 returns : tie.Need-returns
-returns c = search lower-is
+returns c = lower-is _ (search needs) _ _ (c .mask .ensures)
 
 pub lower-word-spec : {M : Type 1} → statement M
 lower-word-spec = tie.close (tie.spec shl-h shr-result mask-requires returns)

@@ -15,7 +15,7 @@ mask-requires : tie.Need-mask-requires
 mask-requires c κs = search needs
 
 returns : tie.Need-returns
-returns c = search raise-is
+returns c = raise-is _ (search needs) _ _ (c .mask .ensures)
 
 pub raise-word-spec : {M : Type 1} → statement M
 raise-word-spec = tie.close (tie.spec shl-h mask-requires shl-result returns)
