@@ -1,14 +1,14 @@
--- A product's truth as bits, one for each assignment of eight variables; and the value of a list as their sum.
+-- The truth vector: a product as bits, one for each assignment of eight variables, the value of a list as their sum, and the bytes that are written.
 -- Assumes nothing.
-use mathlib.Core.Path.{_≡_, refl, sym, ap, ap₂, _∙_, subst}
-use mathlib.Core.Bool.{Bool, true, false, _&&_, _||_}
+use mathlib.Core.Path.{_≡_, refl, sym, ap, ap₂, _∙_}
+use mathlib.Core.Bool.{Bool, true, false, _&&_}
 use mathlib.Core.List.{List, _++_}
 use Prim.Native.Nat.{ℕ, zero, suc, _+_, _-_, _/_, _%_, _^_, _≤_, _<_, min, zero-le}
 use native.Mathlib.Nat.{zero-add, add-zero, add-suc}
 use native.Mathlib.Omega.{arith}
 use lib.Bits.{bitXor}
 use lib.Dec.{eqb}
-use lib.ListN.{length, getD, take, drop}
+use lib.ListN.{length, getD, take, drop, set, length-set}
 use lib.Pow.{pow-mono}
 use borrow.Author.Tests.{eqb-true}
 use Rattle.bits.specs.Bits.{bit}
@@ -17,7 +17,7 @@ use Rattle.bits.specs.Sums.{oneIf, tally, All}
 use Rattle.bits.specs.Packed.{bitAt, both, summed, putBits, literalBits}
 use Rattle.bits.specs.declared.packed.Packed.{Packed}
 use Rattle.bits.proofs.Bools.{all-at₂, one-lt}
-use Rattle.bits.proofs.Below.{listBelow-cong}
+use Rattle.bits.proofs.Below.{listBelow-cong, filling-none, filling-more}
 use Rattle.bits.proofs.Sums.{tally-on, tally-end, tally-ext}
 use Rattle.bits.proofs.packed.Words.{bitAt-lt, full-bits, both-bit, summed-bit}
 use Rattle.bits.proofs.packed.Packing.{put-front}
@@ -137,3 +137,29 @@ vector-is n b out size es few good room w is part ep =
     (ep ∙ put-front w out size most room
     ∙ listBelow-cong size (bitAt w) (listValue n (cubesOf b)) (λ a h. is a (omega arith) ∙ value-more n (cubesOf b) a few good)
     ∙ ap (λ (k : ℕ). listBelow k (listValue n (cubesOf b))) es) es
+
+-- ---- assignment by assignment
+
+-- the values at the first a assignments have been written
+pub record Vectoring (n : ℕ) (b out out′ : List ℕ) (a : ℕ) : Type 0 where
+  pub size : length out′ ≡ length out
+  pub within : a ≤ 2 ^ n
+  pub is : out′ ≡ listBelow a (listValue n (cubesOf b)) ++ drop a out
+
+module _ (n : ℕ) (b out : List ℕ) where
+  pub vectoring-none : Vectoring n b out out 0
+  vectoring-none = record { size = refl; within = zero-le; is = filling-none (listValue n (cubesOf b)) out }
+
+  pub vectoring-more : (out′ : List ℕ) (a t : ℕ) → Vectoring n b out out′ a → a < 2 ^ n → 2 ^ n ≤ length out → t ≡ trues n (cubesOf b) a
+      → Vectoring n b out (set out′ a (t % 2)) (a + 1)
+  unfolding listValue
+  vectoring-more out′ a t r h room et = record {
+    size = length-set out′ a (t % 2) ∙ r .size;
+    within = omega arith;
+    is = ap₂ (λ (l : List ℕ) (x : ℕ). set l a (x % 2)) (r .is) et ∙ filling-more (listValue n (cubesOf b)) out a (omega arith);
+  }
+
+  pub vectoring-done : (out′ : List ℕ) (a : ℕ) → Vectoring n b out out′ a → 2 ^ n ≤ a → out′ ≡ truthVector n (cubesOf b) ++ drop (2 ^ n) out
+  vectoring-done out′ a r h =
+      let e : a ≡ 2 ^ n = omega (arith, r .within) in
+      r .is ∙ ap (λ (k : ℕ). listBelow k (listValue n (cubesOf b)) ++ drop k out) e

@@ -86,13 +86,31 @@ fn value_bits(list: &[u8]) -> Packed
     w
 }
 
-// The value at each of `size` assignments, to the front of a buffer.
+// The value at each of `size` assignments, to the front of a buffer, one by one.
+fn fill_each(n: usize, size: usize, list: &[u8], out: &mut [u8])
+    requires { ⌜ All (Good n) (cubesOf (now list)) ⌝ }
+    requires { ⌜ (size ≡ 2 ^ n) × (size ≤ 4) ⌝ }
+    requires { ⌜ size ≤ length (now out) ⌝ }
+    ensures { λ _. ⌜ now (out .exit) ≡ truthVector n (cubesOf (now (list .entry))) ++ drop (2 ^ n) (now (out .entry)) ⌝ }
+{
+    let mut a: usize = 0;
+    while a < size {
+        out[a] = (trues_at(n, list, a as u32) % 2) as u8;
+        a += 1;
+    }
+}
+
+// The value at each of `size` assignments, to the front of a buffer. A product at four assignments costs less than its bits at 256.
 fn fill_vector(n: usize, size: usize, list: &[u8], out: &mut [u8])
     requires { ⌜ All (Good n) (cubesOf (now list)) ⌝ }
     requires { ⌜ (size ≡ 2 ^ n) × (n ≤ 8) ⌝ }
     requires { ⌜ size ≤ length (now out) ⌝ }
     ensures { λ _. ⌜ now (out .exit) ≡ truthVector n (cubesOf (now (list .entry))) ++ drop (2 ^ n) (now (out .entry)) ⌝ }
 {
+    if size <= 4 {
+        fill_each(n, size, list, out);
+        return;
+    }
     value_bits(list).put(&mut out[..size]);
 }
 

@@ -1,8 +1,8 @@
 -- The bits at whose index a literal is true.
 -- Assumes nothing.
-use mathlib.Core.Path.{_≡_, refl, sym, ap, ap₂, _∙_, subst}
+use mathlib.Core.Path.{_≡_, refl, sym, ap, ap₂, _∙_}
 use mathlib.Core.Logic.{⊎-elim}
-use mathlib.Core.Bool.{Bool, cond, _||_, not}
+use mathlib.Core.Bool.{cond, _||_, not}
 use Prim.Native.Nat.{ℕ, zero, suc, _+_, _-_, _/_, _%_, _^_, _<_, _≤_, min}
 use native.Mathlib.Omega.{arith}
 use borrow.Author.Tests.{eqb-true, ne-eqb, lt-ltb, le-ltb}
@@ -12,9 +12,9 @@ use Rattle.bits.specs.Bits.{bit}
 use Rattle.bits.specs.Packed.{wordAt, bitAt, fullOf, mixed, withoutBits, literalBits, maskOf, eachWord}
 use Rattle.bits.specs.Sums.{oneIf}
 use Rattle.bits.specs.declared.packed.Packed.{Packed}
-use Rattle.bits.proofs.Bools.{below-or, one-lt, all-at₂, all-at₃}
+use Rattle.bits.proofs.Bools.{below-or, all-at₂, all-at₃}
 use Rattle.bits.proofs.Bits.{bit-lt, bit-and, bit-xor}
-use Rattle.bits.proofs.packed.Words.{full-bit, full-bits}
+use Rattle.bits.proofs.packed.Words.{full-bit}
 use Rattle.bits.proofs.packed.Passes.{each-word, mask-bit, low-bit, high-bit, high-variable}
 
 -- ---- the code's numbers

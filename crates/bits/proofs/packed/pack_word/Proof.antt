@@ -1,7 +1,6 @@
 -- `packed::pack_word` meets its contract: the loop keeps `PackingWord`.
 -- Assumes nothing.
 use Prim.Native.Nat.{_-_}
-use native.Mathlib.Omega.{arith}
 use borrow.Author.Needs.{needs}
 use Rattle.bits.proofs.packed.Packing.{PackingWord, packing-none, packing-more, packing-all}
 use Rattle.bits.proofs.packed.pack_word.Statement.{statement}

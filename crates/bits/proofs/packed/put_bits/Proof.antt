@@ -3,7 +3,6 @@
 use Prim.Native.Nat.{_-_}
 use native.Mathlib.Omega.{arith}
 use lib.ListN.{length}
-use borrow.Author.Needs.{needs}
 use Rattle.bits.proofs.packed.Packing.{Putting, putting-none, putting-more, putting-all}
 use Rattle.bits.proofs.packed.put_bits.Statement.{statement}
 use Rattle.bits.proofs.packed.put_bits.Tie as tie

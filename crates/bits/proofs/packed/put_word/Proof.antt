@@ -1,13 +1,9 @@
 -- `packed::put_word` meets its contract.
 -- Assumes nothing.
-use mathlib.Core.Path.{refl, ap, _∙_}
-use Prim.Native.Nat.{_+_, _-_}
+use mathlib.Core.Path.{refl}
 use native.Mathlib.Omega.{arith}
-use lib.ListN.{length, length-take, length-drop}
+use lib.ListN.{length-take, length-drop}
 use borrow.Author.Needs.{needs}
-use borrow.Rule.Slice.PartMut.{same-len-mid}
-use Rattle.bits.specs.Bits.{bit}
-use Rattle.bits.proofs.Below.{length-listBelow}
 use Rattle.bits.proofs.packed.Packing.{put-past, put-part}
 use Rattle.bits.proofs.packed.put_word.Statement.{statement}
 use Rattle.bits.proofs.packed.put_word.Tie as tie
