@@ -25,6 +25,18 @@ bitAt w t = bit (wordAt w (t / 64)) (t % 64)
 
 -- ---- bytes into bits, and back
 
+-- byte i of x
+abbrev pub byteOf : ℕ → ℕ → ℕ
+byteOf x i = x / 2 ^ (8 * i) % 256
+
+-- bytes as one number, the first lowest
+unfoldable pub numberOf : List ℕ → ℕ
+numberOf l = sumBelow (length l) (λ i. getD l i 0 * 2 ^ (8 * i))
+
+-- the first m bits of x, a byte each, as one number
+unfoldable pub spreadBits : ℕ → ℕ → ℕ
+spreadBits m x = sumBelow m (λ i. bit x i * 2 ^ (8 * i))
+
 -- the lowest bit of each of the 64 bytes from `from` on, 0 past the end
 unfoldable pub wordFrom : List ℕ → ℕ → ℕ
 wordFrom l from = sumBelow 64 (λ i. getD l (from + i) 0 % 2 * 2 ^ i)

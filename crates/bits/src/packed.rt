@@ -1,11 +1,11 @@
 // 256 bits in four words. Bit t is bit t % 64 of word t / 64.
 ghost use mathlib.Core.Path.{_≡_};
 ghost use mathlib.Core.List.{_++_};
-ghost use Prim.Native.Nat.{min, _+_, _-_, _<_, _≤_};
-ghost use lib.ListN.{length, take, drop};
+ghost use Prim.Native.Nat.{ℕ, min, _+_, _-_, _*_, _%_, _^_, _<_, _≤_};
+ghost use lib.ListN.{length, getD, take, drop};
 ghost use Rattle.bits.specs.Bits.{bit};
 ghost use Rattle.bits.specs.Below.{sumBelow, listBelow};
-ghost use Rattle.bits.specs.Packed.{bitAt, both, summed, fullOf, mixed, withoutBits, literalBits, wordFrom, packed, putBits, maskOf, loweredWord, raisedWord, lowered, raised};
+ghost use Rattle.bits.specs.Packed.{bitAt, both, summed, fullOf, mixed, withoutBits, literalBits, byteOf, numberOf, spreadBits, wordFrom, packed, putBits, maskOf, loweredWord, raisedWord, lowered, raised};
 
 // A word whose bits are all set.
 const ALL: u64 = 0xffffffffffffffff;
@@ -56,6 +56,40 @@ fn wide(x: u8) -> u64
     x as u64
 }
 
+// The bytes as one number, the first lowest. Of a part of eight the compiler makes one load.
+fn number(part: &[u8]) -> u64
+    requires { ⌜ length (now part) ≤ 8 ⌝ }
+    ensures { λ r. ⌜ r ≡ numberOf (now (part .entry)) ⌝ }
+{
+    let mut x: u64 = 0;
+    let mut j: usize = 0;
+    while j < part.len() {
+        x = x | (wide(part[j]) << (8 * j));
+        j += 1;
+    }
+    x
+}
+
+// The lowest bit of each of eight bytes.
+const LOWEST: u64 = 0x0101010101010101;
+
+// Eight bits that stand a byte each come together: by twos, by fours, then all.
+fn gather(x: u64) -> u64
+    ensures { λ r. ⌜ ((y : ℕ) → y < 256 → x ≡ spreadBits 8 y → r ≡ y) ⌝ }
+{
+    let twos = (x | (x >> 7)) & 0x0003000300030003;
+    let fours = (twos | (twos >> 14)) & 0x0000000f0000000f;
+    (fours | (fours >> 28)) & 0x00000000000000ff
+}
+
+// The lowest bit of each of eight bytes.
+fn pack_eight(part: &[u8]) -> u64
+    requires { ⌜ length (now part) ≡ 8 ⌝ }
+    ensures { λ r. ⌜ r ≡ sumBelow 8 (λ i. getD (now (part .entry)) i 0 % 2 * 2 ^ i) ⌝ }
+{
+    gather(number(part) & LOWEST)
+}
+
 // The lowest bit of each of the 64 bytes from `from` on; 0 past the end.
 fn pack_word(bytes: &[u8], from: usize) -> u64
     requires { ⌜ from ≤ 192 ⌝ }
@@ -64,6 +98,12 @@ fn pack_word(bytes: &[u8], from: usize) -> u64
     let size = bytes_from(bytes.len(), from);
     let mut w: u64 = 0;
     let mut j: usize = 0;
+    while j + 8 <= size {
+        let at = from + j;
+        let end = at + 8;
+        w = w | (pack_eight(&bytes[at..end]) << j);
+        j += 8;
+    }
     while j < size {
         w = w | (wide(bytes[from + j] % 2) << j);
         j += 1;
@@ -71,12 +111,57 @@ fn pack_word(bytes: &[u8], from: usize) -> u64
     w
 }
 
-// The bits of a word, a byte each. The part is exactly as long as what is written, so that the loop needs no test of the place.
+// Four bits, a byte each. A table, since the compiler takes a chain of shifts apart and then stores byte by byte.
+const SPREAD: [u32; 16] = [
+    0x00000000,
+    0x00000001,
+    0x00000100,
+    0x00000101,
+    0x00010000,
+    0x00010001,
+    0x00010100,
+    0x00010101,
+    0x01000000,
+    0x01000001,
+    0x01000100,
+    0x01000101,
+    0x01010000,
+    0x01010001,
+    0x01010100,
+    0x01010101,
+];
+
+fn spread(x: usize) -> u32
+    requires { ⌜ x < 16 ⌝ }
+    ensures { λ r. ⌜ r ≡ spreadBits 4 x ⌝ }
+{
+    SPREAD[x]
+}
+
+// The bytes of a number, the lowest first. To a part of four the compiler makes one store.
+fn put_number(x: u32, part: &mut [u8])
+    requires { ⌜ length (now part) ≤ 4 ⌝ }
+    ensures { λ _. ⌜ now (part .exit) ≡ listBelow (length (now (part .entry))) (byteOf x) ⌝ }
+{
+    let mut j: usize = 0;
+    while j < part.len() {
+        part[j] = ((x >> (8 * j)) % 256) as u8;
+        j += 1;
+    }
+}
+
+// The bits of a word, a byte each. The part is exactly as long as what is written, so that the loops need no test of the place.
 fn put_bits(w: u64, part: &mut [u8])
     requires { ⌜ length (now part) ≤ 64 ⌝ }
     ensures { λ _. ⌜ now (part .exit) ≡ listBelow (length (now (part .entry))) (bit w) ⌝ }
 {
     let mut j: usize = 0;
+    while j + 4 <= part.len() {
+        let end = j + 4;
+        let four = spread(((w >> j) % 16) as usize);
+        put_number(four, &mut part[j..end]);
+        j += 4;
+    }
     while j < part.len() {
         part[j] = ((w >> j) % 2) as u8;
         j += 1;
