@@ -111,31 +111,13 @@ fn pack_word(bytes: &[u8], from: usize) -> u64
     w
 }
 
-// Four bits, a byte each. A table, since the compiler takes a chain of shifts apart and then stores byte by byte.
-const SPREAD: [u32; 16] = [
-    0x00000000,
-    0x00000001,
-    0x00000100,
-    0x00000101,
-    0x00010000,
-    0x00010001,
-    0x00010100,
-    0x00010101,
-    0x01000000,
-    0x01000001,
-    0x01000100,
-    0x01000101,
-    0x01010000,
-    0x01010001,
-    0x01010100,
-    0x01010101,
-];
-
-fn spread(x: usize) -> u32
+// Four bits, a byte each: copies of x, seven bits apart, of which each byte keeps its lowest bit. It goes by the bits that are not set, since
+// of x itself the compiler takes the last byte from the product, before the mask, and then stores byte by byte.
+fn spread(x: u32) -> u32
     requires { ⌜ x < 16 ⌝ }
     ensures { λ r. ⌜ r ≡ spreadBits 4 x ⌝ }
 {
-    SPREAD[x]
+    (((15 - x) * 0x00204081) & 0x01010101) ^ 0x01010101
 }
 
 // The bytes of a number, the lowest first. To a part of four the compiler makes one store.
@@ -158,7 +140,7 @@ fn put_bits(w: u64, part: &mut [u8])
     let mut j: usize = 0;
     while j + 4 <= part.len() {
         let end = j + 4;
-        let four = spread(((w >> j) % 16) as usize);
+        let four = spread(((w >> j) % 16) as u32);
         put_number(four, &mut part[j..end]);
         j += 4;
     }

@@ -8,7 +8,7 @@ use native.Mathlib.Nat.{mod-lt, zero-lt-suc, zero-add, suc-add, one-mul, zero-mu
 use native.Mathlib.Numerals.{add-one}
 use native.Mathlib.Omega.{arith}
 use borrow.Rule.Slice.PartMut.{putMid, post-is}
-use lib.Bits.{bitAnd, bitOr, or-shifted-r}
+use lib.Bits.{bitAnd, bitOr}
 use lib.ListN.{length, getD, take, drop, set, length-set, length-append, length-take, length-drop, drop-of-length-le, List·getD-eq-default}
 use lib.Pow.{pow-add}
 use lib.Seq.{take-all, take-at, drop-at, drop-append-add, drop-drop, length-take-le, getD-take, getD-drop}
@@ -17,7 +17,7 @@ use Rattle.bits.specs.Below.{sumBelow, listBelow}
 use Rattle.bits.specs.Packed.{wordAt, bitAt, byteOf, numberOf, spreadBits, wordFrom, packed, putBits}
 use Rattle.bits.specs.declared.packed.Packed.{Packed}
 use Rattle.bits.proofs.Bools.{below-or}
-use Rattle.bits.proofs.Bits.{bit-high, with-same, with-other, shl-bit}
+use Rattle.bits.proofs.Bits.{bit-high, with-same, with-other}
 use Rattle.bits.proofs.Below.{sum-cong, sum-parts, sum-none, length-listBelow, listBelow-cong, filling-none, filling-more}
 use Rattle.bits.proofs.packed.Spreading.{or-above, sum-times, number-lt, and-lowest, spread-byte, four-bits}
 use Rattle.bits.proofs.packed.Words.{word-bit}
@@ -78,11 +78,12 @@ module _ (l : List ℕ) (from size : ℕ) where
     pub packing-more : j < size → (x : ℕ) → x ≡ getD l (from + j) 0 % 2 → PackingWord l from size (bitOr w ((x * 2 ^ j) % 2 ^ 64)) (j + 1)
     unfolding sumBelow
     packing-more h x ex =
-        let b : ℕ = lowest l from j in
         let lt : w < 2 ^ j = subst (λ (x : ℕ). x < 2 ^ j) (sym (P .is)) (digits-lt l from j) in
-        let put : bitOr w ((x * 2 ^ j) % 2 ^ 64) ≡ b * 2 ^ j + w =
-        ap (λ (y : ℕ). bitOr w ((y * 2 ^ j) % 2 ^ 64)) ex ∙ ap (bitOr w) (shl-bit j b 64 (digit-lt l from j) (omega arith)) ∙ or-shifted-r b j w lt in
-        record { upto = omega arith; is = put ∙ omega (arith, P .is) ∙ ap (digits l from) (sym (add-one j)) }
+        record {
+          upto = omega arith;
+          is = ap (λ (y : ℕ). bitOr w ((y * 2 ^ j) % 2 ^ 64)) ex ∙ or-above j 1 w (lowest l from j) lt (digit-lt l from j) (omega arith)
+              ∙ ap (λ (y : ℕ). y + lowest l from j * 2 ^ j) (P .is) ∙ ap (digits l from) (sym (add-one j));
+        }
 
     pub packing-all : size ≤ j → w ≡ wordFrom l from
     unfolding wordFrom

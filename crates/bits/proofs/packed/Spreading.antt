@@ -3,12 +3,12 @@
 use mathlib.Core.Path.{_≡_, refl, sym, ap, ap₂, _∙_, subst}
 use mathlib.Core.Bool.{Bool}
 use mathlib.Core.List.{List}
-use Prim.Native.Nat.{ℕ, zero, suc, _+_, _*_, _/_, _%_, _^_, _≤_, _<_, zero-le}
+use Prim.Native.Nat.{ℕ, zero, suc, _+_, _-_, _*_, _/_, _%_, _^_, _≤_, _<_, zero-le}
 use native.Mathlib.Nat.{add-comm, zero-mul, add-mul, mul-suc, mul-le-mul-right}
 use native.Mathlib.Numerals.{add-one}
 use native.Mathlib.Omega.{arith}
 use borrow.Author.Tests.{eqb-true}
-use lib.Bits.{bitAnd, bitOr, and-block, and-mask, or-shifted-r}
+use lib.Bits.{bitAnd, bitOr, bitXor, and-block, and-mask, or-shifted-r}
 use lib.Dec.{eqb, lit<}
 use lib.ListN.{length, getD}
 use lib.Pow.{pow-pos, pow-add, shl-exact, shr-shr}
@@ -95,7 +95,14 @@ pub gathered : (x y : ℕ) → y < 256 → x ≡ spreadBits 8 y → eights (four
 unfolding gathers spreadBits sumBelow
 gathered x y h e = ap (λ (z : ℕ). eights (fours (twos z))) e ∙ eqb-true _ _ (all-at 256 gathers refl y h)
 
--- ---- the bytes of spread bits
+-- ---- four bits spread, and their bytes
+
+copies : ℕ → Bool
+copies x = eqb (bitXor (bitAnd ((15 - x) * 0x0020_4081) 0x0101_0101) 0x0101_0101) (spreadBits 4 x)
+
+pub spread-four : (x : ℕ) → x < 16 → bitXor (bitAnd ((15 - x) * 0x0020_4081) 0x0101_0101) 0x0101_0101 ≡ spreadBits 4 x
+unfolding copies spreadBits sumBelow
+spread-four x h = eqb-true _ _ (all-at 16 copies refl x h)
 
 spreads : ℕ → ℕ → Bool
 spreads x i = eqb (byteOf (spreadBits 4 x) i) (bit x i)

@@ -34,6 +34,9 @@ add-end c = omega arith
 shr-spread : tie.Need-shr-spread Inv-loop μ-loop Inv-loop2 μ-loop2
 shr-spread c = omega arith
 
+cast-spread : tie.Need-cast-spread Inv-loop μ-loop Inv-loop2 μ-loop2
+cast-spread c = omega arith
+
 spread-requires : tie.Need-spread-requires Inv-loop μ-loop Inv-loop2 μ-loop2
 spread-requires c κs = omega arith
 
@@ -102,6 +105,7 @@ put-bits-spec =
     add-loop
     add-end
     shr-spread
+    cast-spread
     spread-requires
     sub-put-number
     part-put-number-start
