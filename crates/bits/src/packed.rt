@@ -18,21 +18,27 @@ pub struct Packed {
     pub d: u64,
 }
 
-// The bits of a word whose index is without variable k.
-const MASKS: [u64; 6] = [
-    0x5555555555555555,
-    0x3333333333333333,
-    0x0f0f0f0f0f0f0f0f,
-    0x00ff00ff00ff00ff,
-    0x0000ffff0000ffff,
-    0x00000000ffffffff,
-];
-
+// The bits of a word whose index is without variable k. By tests, since a table in a constant would be copied to the stack at each use.
 fn mask(k: usize) -> u64
     requires { ⌜ k < 6 ⌝ }
     ensures { λ r. ⌜ r ≡ maskOf k ⌝ }
 {
-    MASKS[k]
+    if k == 0 {
+        return 0x5555555555555555;
+    }
+    if k == 1 {
+        return 0x3333333333333333;
+    }
+    if k == 2 {
+        return 0x0f0f0f0f0f0f0f0f;
+    }
+    if k == 3 {
+        return 0x00ff00ff00ff00ff;
+    }
+    if k == 4 {
+        return 0x0000ffff0000ffff;
+    }
+    0x00000000ffffffff
 }
 
 // How many of the 64 bytes from `from` on there are.
