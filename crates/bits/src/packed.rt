@@ -1,9 +1,11 @@
 // 256 bits in four words. Bit t is bit t % 64 of word t / 64.
 ghost use mathlib.Core.Path.{_≡_};
-ghost use Prim.Native.Nat.{ℕ, min, _-_, _<_, _≤_};
-ghost use lib.ListN.{getD};
-ghost use Rattle.bits.specs.Packed.{wordAt, bitAt, both, summed, fullOf, mixed, withoutBits, literalBits, wordFrom, packed, maskOf, loweredWord, raisedWord, lowered, raised};
-ghost use Rattle.bits.specs.Below.{sumBelow};
+ghost use mathlib.Core.List.{_++_};
+ghost use Prim.Native.Nat.{min, _+_, _-_, _<_, _≤_};
+ghost use lib.ListN.{length, take, drop};
+ghost use Rattle.bits.specs.Bits.{bit};
+ghost use Rattle.bits.specs.Below.{sumBelow, listBelow};
+ghost use Rattle.bits.specs.Packed.{wordAt, bitAt, both, summed, fullOf, mixed, withoutBits, literalBits, wordFrom, packed, putBits, maskOf, loweredWord, raisedWord, lowered, raised};
 
 // A word whose bits are all set.
 const ALL: u64 = 0xffffffffffffffff;
@@ -39,7 +41,7 @@ fn mask(k: usize) -> u64
     0x00000000ffffffff
 }
 
-// How many of 64 bytes from `from` on there are.
+// How many of the 64 bytes from `from` on there are.
 fn bytes_from(size: usize, from: usize) -> usize
     ensures { λ r. ⌜ r ≡ min (size - from) 64 ⌝ }
 {
@@ -60,19 +62,44 @@ fn wide(x: u8) -> u64
     x as u64
 }
 
-// The 64 bytes from `from` on, a bit each; 0 past the end.
+// The lowest bit of each of the 64 bytes from `from` on; 0 past the end.
 fn pack_word(bytes: &[u8], from: usize) -> u64
-    requires { ⌜ (from ≤ 192) × ((t : ℕ) → getD (now bytes) t 0 < 2) ⌝ }
+    requires { ⌜ from ≤ 192 ⌝ }
     ensures { λ r. ⌜ r ≡ wordFrom (now (bytes .entry)) from ⌝ }
 {
     let size = bytes_from(bytes.len(), from);
     let mut w: u64 = 0;
     let mut j: usize = 0;
     while j < size {
-        w = w | (wide(bytes[from + j]) << j);
+        w = w | (wide(bytes[from + j] % 2) << j);
         j += 1;
     }
     w
+}
+
+// The bits of a word, a byte each. The part is exactly as long as what is written, so that the loop needs no test of the place.
+fn put_bits(w: u64, part: &mut [u8])
+    requires { ⌜ length (now part) ≤ 64 ⌝ }
+    ensures { λ _. ⌜ now (part .exit) ≡ listBelow (length (now (part .entry))) (bit w) ⌝ }
+{
+    let mut j: usize = 0;
+    while j < part.len() {
+        part[j] = ((w >> j) % 2) as u8;
+        j += 1;
+    }
+}
+
+// The bits of a word to the bytes from `from` on, as many as there are.
+fn put_word(w: u64, out: &mut [u8], from: usize)
+    requires { ⌜ from ≤ 192 ⌝ }
+    ensures { λ _. ⌜ now (out .exit) ≡ take from (now (out .entry)) ++ (listBelow (min (length (now (out .entry)) - from) 64) (bit w) ++ drop (from + 64) (now (out .entry))) ⌝ }
+{
+    let size = bytes_from(out.len(), from);
+    if size == 0 {
+        return;
+    }
+    let end = from + size;
+    put_bits(w, &mut out[from..end]);
 }
 
 // To each bit without variable k, the bit with it is added.
@@ -109,7 +136,6 @@ fn mix(m: u64, x: u64, y: u64) -> u64
 
 // The bits whose index is without variable k.
 fn without(k: usize) -> Packed
-    requires { ⌜ k < 8 ⌝ }
     ensures { λ r. ⌜ r ≡ withoutBits k ⌝ }
 {
     if k < 6 {
@@ -155,7 +181,6 @@ impl Packed {
 
     // The bits at whose index the literal with code x at variable k is true. It takes no branch on x.
     pub fn literal(k: usize, x: u8) -> Packed
-        requires { ⌜ k < 8 ⌝ }
         ensures { λ r. ⌜ r ≡ literalBits x k ⌝ }
     {
         let m = without(k);
@@ -193,15 +218,7 @@ impl Packed {
         }
     }
 
-    // Bit t.
-    pub fn bit(self, t: usize) -> u8
-        requires { ⌜ t < 256 ⌝ }
-        ensures { λ r. ⌜ r ≡ bitAt self t ⌝ }
-    {
-        ((self.word(t / 64) >> (t % 64)) % 2) as u8
-    }
-
-    // Word i.
+    // Word i, the last for every i from 3 on.
     pub fn word(self, i: usize) -> u64
         ensures { λ r. ⌜ r ≡ wordAt self i ⌝ }
     {
@@ -217,9 +234,8 @@ impl Packed {
         self.d
     }
 
-    // A bit for each byte of at most 256, each 0 or 1.
+    // The lowest bit of each of the first 256 bytes: of bytes that are 0 or 1, the bytes themselves.
     pub fn of(bytes: &[u8]) -> Packed
-        requires { ⌜ ((t : ℕ) → getD (now bytes) t 0 < 2) ⌝ }
         ensures { λ r. ⌜ r ≡ packed (now (bytes .entry)) ⌝ }
     {
         Packed {
@@ -230,9 +246,18 @@ impl Packed {
         }
     }
 
+    // The bits to the front of a buffer, a byte each, as many as there are places.
+    pub fn put(self, out: &mut [u8])
+        ensures { λ _. ⌜ now (out .exit) ≡ putBits self (now (out .entry)) ⌝ }
+    {
+        put_word(self.a, out, 0);
+        put_word(self.b, out, 64);
+        put_word(self.c, out, 128);
+        put_word(self.d, out, 192);
+    }
+
     // To each bit without variable k, the bit with it is added.
     pub fn lowered(self, k: usize) -> Packed
-        requires { ⌜ k < 8 ⌝ }
         ensures { λ r. ⌜ r ≡ lowered k self ⌝ }
     {
         if k < 6 {
@@ -261,7 +286,6 @@ impl Packed {
 
     // To each bit with variable k, the bit without it is added.
     pub fn raised(self, k: usize) -> Packed
-        requires { ⌜ k < 8 ⌝ }
         ensures { λ r. ⌜ r ≡ raised k self ⌝ }
     {
         if k < 6 {

@@ -4,6 +4,5 @@ pub mod Apart
 pub mod ListLaws
 pub mod CallLaws
 pub mod Slices
-pub mod Filling
 pub mod Determined
 pub mod Meaning

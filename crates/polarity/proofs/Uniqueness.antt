@@ -21,25 +21,10 @@ use Rattle.cube.specs.declared.Cube.{Cube}
 use Rattle.cube.specs.Cubes.{codeOf, code, Good}
 use Rattle.cube.specs.Lists.{listValue}
 use Rattle.cube.proofs.Codes.{code-absent, code-present, cube-ext, good-seen}
-use Rattle.polarity.specs.Forms.{coefficient, product, formFrom, formList}
-use Rattle.polarity.specs.Passes.{nonzero}
+use Rattle.polarity.specs.Forms.{coefficient, product, formFrom, formList, Ascending, variables, Form}
+use Rattle.polarity.specs.Words.{nonzero}
 use Rattle.polarity.proofs.Listing.{those-same, product-code, product-good, form-good}
 use Rattle.polarity.proofs.Theorems.{literal-of-polarity-missing, form-unique}
-
--- the numbers from k on, ascending
-abbrev pub Ascending : ℕ → List ℕ → Type 0
-Ascending k [] = Unit {0}
-Ascending k (x ∷ l) = (k ≤ x) × Ascending (suc x) l
-
--- a cube's set of variables
-abbrev pub variables : Cube → ℕ
-variables c = c .seen
-
--- a form under p: products of n variables without the literals that p forbids (001, definition 3), each set of variables once, ascending
-pub record Form (n p : ℕ) (l : List Cube) : Type 0 where
-  pub good : All (Good n) l
-  pub literals : All (λ c. (k : ℕ) → code c k ≢ bit p k) l
-  pub ascending : Ascending 0 (map variables l)
 
 -- ---- a product is its set of variables
 

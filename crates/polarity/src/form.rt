@@ -1,12 +1,12 @@
-// The list of a form from its coefficients, and the rank that every choice goes by.
+// The list of a form from its coefficients, its counts, and the rank that choices go by.
 use crate::Counts;
 use crate::vector;
+use bits::packed::Packed;
 use cube::Cube;
 use cube::list;
 use records::Counted;
 use records::Refusal;
 ghost use mathlib.Core.Path.{_≡_};
-ghost use Prim.Native.Nat.{_<_, _^_};
 ghost use lib.ListN.{length};
 ghost use Rattle.records.specs.Answers.{counted};
 ghost use Rattle.records.specs.Records.{written};
@@ -14,9 +14,9 @@ ghost use Rattle.cube.specs.Lists.{cubes};
 ghost use Rattle.polarity.specs.Forms.{product, formFrom, rankOf};
 ghost use Rattle.polarity.specs.Vectors.{byteAt, Vector};
 ghost use Rattle.polarity.specs.Calls.{formOutcome, formAfter};
-ghost use Rattle.polarity.specs.Passes.{countsFrom};
+ghost use Rattle.polarity.specs.Words.{countsIn};
 
-// What every choice goes by, of polarities and of candidates: the fewest products.
+// What every choice goes by, here of polarities and in `settling` of candidates: the fewest products.
 pub fn rank(counts: Counts) -> usize
     ensures { λ r. ⌜ r ≡ rankOf counts ⌝ }
 {
@@ -24,19 +24,12 @@ pub fn rank(counts: Counts) -> usize
 }
 
 // The products of the form with these coefficients, and whether the one without literals is among them.
-pub(crate) fn count_products(coefficients: &[u8]) -> Counts
-    requires { ⌜ 0 < length (now coefficients) ⌝ }
-    ensures { λ r. ⌜ r ≡ countsFrom (now (coefficients .entry)) ⌝ }
+pub(crate) fn counts_of(w: Packed) -> Counts
+    ensures { λ r. ⌜ r ≡ countsIn w ⌝ }
 {
-    let mut products: usize = 0;
-    let mut i: usize = 0;
-    while i < coefficients.len() {
-        products += (coefficients[i] != 0) as usize;
-        i += 1;
-    }
     Counts {
-        products,
-        constant: coefficients[0] != 0,
+        products: w.ones() as usize,
+        constant: w.a % 2 != 0,
     }
 }
 
@@ -77,7 +70,7 @@ pub fn write_form(n: usize, coefficients: &[u8], p: u64, out: &mut [u8]) -> Coun
             if m as u64 <= p {
                 return Counted::Refused(Refusal::new(15, 0));
             }
-            let count = count_products(coefficients).products;
+            let count = counts_of(Packed::of(coefficients)).products;
             if list::capacity(out.len()) < count {
                 return Counted::Refused(Refusal::new(5, 0));
             }

@@ -14,7 +14,7 @@ use lib.Dec.{eqb}
 use lib.ListN.{length, getD}
 use Rattle.bits.specs.Bits.{bit}
 use Rattle.bits.specs.Sums.{sum, oneIf, All}
-use Rattle.bits.proofs.Least.{Least}
+use Rattle.bits.specs.Below.{Least}
 use Rattle.cube.specs.declared.Cube.{Cube}
 use Rattle.cube.specs.Cubes.{code, put, Good, met, holds}
 use Rattle.cube.specs.Lists.{cubesOf, cubeCapacity, listValue, truthVector, vectorVariables}

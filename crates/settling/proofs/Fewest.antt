@@ -3,7 +3,7 @@
 use mathlib.Core.Path.{_≡_, refl, sym, _∙_, subst}
 use mathlib.Core.Bool.{Bool, true, false, cond}
 use mathlib.Core.List.{List}
-use Prim.Native.Nat.{ℕ, _^_, _≤_, _<_}
+use Prim.Native.Nat.{ℕ, _^_, _≤_, _<_, zero-le}
 use borrow.Author.Tests.{leb-true, le-leb}
 use lib.Bits.{bitXor, xor-lt}
 use lib.Dec.{leb, ltb}
@@ -67,4 +67,4 @@ module _ (n : ℕ) (given : List Cube) (few : n ≤ vectorVariables) where
   unfolding bestForm
   best-form-least p h =
       subst (λ (l : List Cube). size n (bestOf n given) (byteAt (truthVector n given)) ≤ length l) (form-of p h)
-      (best-has-fewest n (byteAt (truthVector n given)) .fewest p h)
+      (best-has-fewest n (byteAt (truthVector n given)) .fewest p zero-le h)

@@ -1,7 +1,7 @@
 -- `packed::lower_word` meets its contract.
 -- Assumes nothing.
 use borrow.Author.Needs.{needs}
-use Rattle.bits.proofs.Packing.{half-fits, lower-is}
+use Rattle.bits.proofs.packed.Passes.{half-fits, lower-is}
 use Rattle.bits.proofs.packed.lower_word.Statement.{statement}
 use Rattle.bits.proofs.packed.lower_word.Tie as tie
 

@@ -4,7 +4,7 @@ use mathlib.Core.Path.{refl}
 use Prim.Native.Nat.{ℕ}
 use native.Mathlib.Omega.{arith}
 use Rattle.bits.specs.Packed.{maskOf}
-use Rattle.bits.proofs.Packing.{mask-at}
+use Rattle.bits.proofs.packed.Passes.{mask-at}
 use Rattle.bits.proofs.packed.mask.Statement.{statement}
 use Rattle.bits.proofs.packed.mask.Tie as tie
 

@@ -3,7 +3,7 @@
 use Prim.Native.Nat.{_-_}
 use native.Mathlib.Omega.{arith}
 use borrow.Author.Needs.{needs}
-use Rattle.bits.proofs.Packing.{PackingWord, packing-none, packing-more, packing-all}
+use Rattle.bits.proofs.packed.Packing.{PackingWord, packing-none, packing-more, packing-all}
 use Rattle.bits.proofs.packed.pack_word.Statement.{statement}
 use Rattle.bits.proofs.packed.pack_word.Tie as tie
 use Rattle.bits.proofs.packed.pack_word.Reads as reads

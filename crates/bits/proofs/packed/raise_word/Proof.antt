@@ -1,7 +1,7 @@
 -- `packed::raise_word` meets its contract.
 -- Assumes nothing.
 use borrow.Author.Needs.{needs}
-use Rattle.bits.proofs.Packing.{half-fits, raise-is}
+use Rattle.bits.proofs.packed.Passes.{half-fits, raise-is}
 use Rattle.bits.proofs.packed.raise_word.Statement.{statement}
 use Rattle.bits.proofs.packed.raise_word.Tie as tie
 

@@ -1,6 +1,6 @@
 -- `Packed::word` meets its contract.
 -- Assumes nothing.
-use Rattle.bits.proofs.Packing.{last-word}
+use Rattle.bits.proofs.packed.Words.{last-word}
 use borrow.Author.Needs.{needs}
 use Rattle.bits.proofs.packed.Packed.word.Statement.{statement}
 use Rattle.bits.proofs.packed.Packed.word.Tie as tie
