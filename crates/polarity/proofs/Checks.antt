@@ -22,28 +22,19 @@ bits-of l a t = let h : isBit (byteAt l t) ≡ true = all-get-or (λ x. isBit x 
 
 -- what an accepted vector is, and its length
 module _ (n : ℕ) (l v : List ℕ) (e : checkVector n l ≡ accepted v) where
-  pub check-accepts : Vector n l
+  check-says : Vector n l × (v ≡ 2 ^ n ∷ [])
   unfolding checkVector
-  check-accepts =
+  check-says =
       let p = unless-accepted (leb n vectorVariables) 1 0 _ v e in
       let q = unless-accepted (eqb (length l) (2 ^ n)) 14 (2 ^ n) _ v (p .1) in
       let r = unless-at-accepted isBit 14 l _ v (q .1) in
-      record {
-        few = leb-true n vectorVariables (p .0);
-        long = eqb-true (length l) (2 ^ n) (q .0);
-        bits = bits-of l (r .0);
-      }
+      (record { few = leb-true n vectorVariables (p .0); long = eqb-true (length l) (2 ^ n) (q .0); bits = bits-of l (r .0) }, sym (accepted-values (r .1)))
 
-  check-values : v ≡ 2 ^ n ∷ []
-  unfolding checkVector
-  check-values =
-      let p = unless-accepted (leb n vectorVariables) 1 0 _ v e in
-      let q = unless-accepted (eqb (length l) (2 ^ n)) 14 (2 ^ n) _ v (p .1) in
-      let r = unless-at-accepted isBit 14 l _ v (q .1) in
-      sym (accepted-values (r .1))
+  pub check-accepts : Vector n l
+  check-accepts = check-says .0
 
 pub check-long : (n : ℕ) (l : List ℕ) (m : ℕ) → checkVector n l ≡ accepted (m ∷ []) → m ≡ 2 ^ n
-check-long n l m e = ap (λ (v : List ℕ). getD v 0 0) (check-values n l (m ∷ []) e)
+check-long n l m e = ap (λ (v : List ℕ). getD v 0 0) (check-says n l (m ∷ []) e .1)
 
 pub vector-most : (n : ℕ) (l : List ℕ) → Vector n l → 2 ^ n ≤ 256
 vector-most n l v = pow-mono (v .few)

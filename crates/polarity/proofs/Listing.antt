@@ -107,15 +107,22 @@ module _ (f : ℕ → Bool) (p m : ℕ) where
       at false e = rw e
 
 -- the counts of a form, from its coefficients
+pub form-length : (n p : ℕ) (c : ℕ → ℕ) → length (formFrom n p c) ≡ sumBelow (2 ^ n) (λ s. oneIf (nonzero (c s)))
+unfolding formFrom
+form-length n p c =
+    length-all (map (product p) (those (λ s. nonzero (c s)) (2 ^ n) 0))
+    ∙ tally-those (λ d. true) (product p) (λ s. nonzero (c s)) (2 ^ n) 0
+    ∙ sum-cong (2 ^ n) (λ t. cond (nonzero (c (0 + t))) 1 0) (λ s. oneIf (nonzero (c s))) (λ t b. ap (λ (x : ℕ). cond (nonzero (c x)) 1 0) (zero-add t) ∙ one (nonzero (c t)))
+  where
+    one : (b : Bool) → cond b 1 0 ≡ oneIf b
+    one true = refl
+    one false = refl
+
 module _ (n p : ℕ) (c : ℕ → ℕ) (bits : (s : ℕ) → c s < 2) where
-  form-length : length (formFrom n p c) ≡ sumBelow (2 ^ n) c
-  unfolding formFrom
-  form-length =
-      length-all (map (product p) (those (λ s. nonzero (c s)) (2 ^ n) 0))
-      ∙ tally-those (λ d. true) (product p) (λ s. nonzero (c s)) (2 ^ n) 0
-      ∙ sum-cong (2 ^ n) (λ t. cond (nonzero (c (0 + t))) 1 0) c (λ t b. ap (λ (x : ℕ). cond (nonzero (c x)) 1 0) (zero-add t) ∙ one (c t) (bits t))
+  form-products : length (formFrom n p c) ≡ sumBelow (2 ^ n) c
+  form-products = form-length n p c ∙ sum-cong (2 ^ n) (λ s. oneIf (nonzero (c s))) c (λ t b. one (c t) (bits t))
     where
-      one : (x : ℕ) → x < 2 → cond (nonzero x) 1 0 ≡ x
+      one : (x : ℕ) → x < 2 → oneIf (nonzero x) ≡ x
       one zero h = refl
       one (suc zero) h = refl
       one (suc (suc x)) h = absurd (omega arith)
@@ -127,7 +134,7 @@ module _ (n p : ℕ) (c : ℕ → ℕ) (bits : (s : ℕ) → c s < 2) where
 
   pub form-counts : countsOf (formFrom n p c) ≡ record { products = sumBelow (2 ^ n) c; constant = nonzero (c 0) }
   unfolding countsOf formFrom
-  form-counts = λ i. record { products = form-length i; constant = form-constant i }
+  form-counts = λ i. record { products = form-products i; constant = form-constant i }
 
 -- ---- the product of a set
 

@@ -103,6 +103,7 @@ module _ (n : ℕ) (f : ℕ → ℕ) where
   pub positive-form : ((t : ℕ) → f t < 2) → (a : ℕ) → a < 2 ^ n → f a ≡ parityWithin n (parityWithin n f) a
   positive-form bits a b = sym (parity-twice n f a b ∙ mod-eq-of-lt (bits a))
 
+  -- Promised: a coefficient of the positive form is the parity within its set.
   pub positive-coefficient : (s : ℕ) → coefficient n 0 f s ≡ parityWithin n f s
   positive-coefficient s = parity-cong n (λ t. f (bitXor t 0)) f s (λ t b. ap f (xor-zero-r t))
 

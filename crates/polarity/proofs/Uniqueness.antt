@@ -1,4 +1,4 @@
--- Under a polarity, a function has one form and no other: 001, property 2, for lists of cubes.
+-- Under a polarity, a function has one form and no other: 001, property 2, for any list that is a form (`Form`, specs/Forms.antt).
 -- Assumes nothing.
 use mathlib.Core.Path.{_≡_, refl, sym, ap, ap₂, _∙_, subst}
 use mathlib.Core.Logic.{_≢_}
@@ -125,7 +125,7 @@ variables-of : (p : ℕ) (l : List ℕ) → map variables (map (product p) l) �
 variables-of p [] = refl
 variables-of p (s ∷ l) = ap (λ (m : List ℕ). s ∷ m) (variables-of p l)
 
--- The form of a function is a form under its polarity ..
+-- Promised. The form of a function is a form under its polarity ..
 pub form-is-form : (n p : ℕ) (f : ℕ → ℕ) → Form n p (formList n p f)
 unfolding formFrom
 form-is-form n p f = record {
@@ -152,7 +152,7 @@ module _ (n p : ℕ) (l : List Cube) (F : Form n p l) where
       ∙ ap (map (product p)) (sym (those-cong (λ s. nonzero (oneIf (has s (map variables l)))) (λ s. has s (map variables l)) (λ s. nonzero-one (has s (map variables l))) (2 ^ n) 0
       ∙ those-has (2 ^ n) 0 (map variables l) (F .ascending) (below l (F .good))))
 
-  -- .. and every form under that polarity that has the function's values is that list.
+  -- .. and, promised as 001's property 2, every form under that polarity that has the function's values is that list.
   pub form-is-only : p < 2 ^ n → (f : ℕ → ℕ) → ((a : ℕ) → a < 2 ^ n → listValue n l a ≡ f a) → l ≡ formList n p f
   form-is-only h f same =
       form-from

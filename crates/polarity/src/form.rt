@@ -8,13 +8,15 @@ use records::Counted;
 use records::Refusal;
 ghost use mathlib.Core.Path.{_≡_};
 ghost use lib.ListN.{length};
+ghost use Rattle.bits.specs.Below.{sumBelow};
+ghost use Rattle.bits.specs.Sums.{oneIf};
 ghost use Rattle.records.specs.Answers.{counted};
 ghost use Rattle.records.specs.Records.{written};
 ghost use Rattle.cube.specs.Lists.{cubes};
 ghost use Rattle.polarity.specs.Forms.{product, formFrom, rankOf};
 ghost use Rattle.polarity.specs.Vectors.{byteAt, Vector};
 ghost use Rattle.polarity.specs.Calls.{formOutcome, formAfter};
-ghost use Rattle.polarity.specs.Words.{countsIn};
+ghost use Rattle.polarity.specs.Words.{nonzero, countsIn};
 
 // What every choice goes by, here of polarities and in `settling` of candidates: the fewest products.
 pub fn rank(counts: Counts) -> usize
@@ -31,6 +33,19 @@ pub(crate) fn counts_of(w: Packed) -> Counts
         products: w.ones() as usize,
         constant: w.a % 2 != 0,
     }
+}
+
+// How many of the coefficients have a product. Bytes that are only counted are not worth packing.
+fn count_products(coefficients: &[u8]) -> usize
+    ensures { λ r. ⌜ r ≡ sumBelow (length (now (coefficients .entry))) (λ s. oneIf (nonzero (byteAt (now (coefficients .entry)) s))) ⌝ }
+{
+    let mut products: usize = 0;
+    let mut i: usize = 0;
+    while i < coefficients.len() {
+        products += (coefficients[i] != 0) as usize;
+        i += 1;
+    }
+    products
 }
 
 // The product of the variable set s under p: each variable of s, complemented where p has it.
@@ -70,7 +85,7 @@ pub fn write_form(n: usize, coefficients: &[u8], p: u64, out: &mut [u8]) -> Coun
             if m as u64 <= p {
                 return Counted::Refused(Refusal::new(15, 0));
             }
-            let count = counts_of(Packed::of(coefficients)).products;
+            let count = count_products(coefficients);
             if list::capacity(out.len()) < count {
                 return Counted::Refused(Refusal::new(5, 0));
             }

@@ -1,4 +1,4 @@
--- Writing the products of a form, from its coefficients; and the call by its tests.
+-- The loops over coefficients: counting the products of a form, and writing them; and the call by its tests.
 -- Assumes nothing.
 use mathlib.Core.Path.{_≡_, refl, sym, ap, ap₂, _∙_, subst}
 use mathlib.Core.Bool.{true, not}
@@ -9,9 +9,9 @@ use native.Mathlib.Numerals.{add-one}
 use native.Mathlib.Omega.{arith}
 use lib.ListN.{length}
 use borrow.Author.Tests.{ne-eqb, le-leb, lt-leb, lt-ltb, le-ltb}
-use Rattle.bits.specs.Below.{those}
-use Rattle.bits.specs.Packed.{packed}
-use Rattle.bits.specs.declared.packed.Packed.{Packed}
+use Rattle.bits.specs.Below.{sumBelow, those}
+use Rattle.bits.specs.Sums.{oneIf}
+use Rattle.bits.proofs.Bools.{one-lt}
 use Rattle.records.specs.declared.Refusal.{Refusal}
 use Rattle.records.specs.Answers.{accepted, refused, refusal}
 use Rattle.records.specs.Records.{stored, written}
@@ -20,14 +20,37 @@ use Rattle.records.proofs.Holding.{length-stored}
 use Rattle.cube.specs.declared.Cube.{Cube}
 use Rattle.cube.specs.Lists.{cubes, narrow, cubeCapacity}
 use Rattle.cube.proofs.ListLaws.{good-narrow}
-use Rattle.polarity.specs.declared.Counts.{Counts}
-use Rattle.polarity.specs.Forms.{product, formFrom, countsOf}
+use Rattle.polarity.specs.Forms.{product, formFrom}
 use Rattle.polarity.specs.Vectors.{byteAt, Vector, checkVector}
 use Rattle.polarity.specs.Calls.{formOutcome}
-use Rattle.polarity.specs.Words.{nonzero, countsIn}
+use Rattle.polarity.specs.Words.{nonzero}
 use Rattle.polarity.proofs.Checks.{check-accepts, check-long}
-use Rattle.polarity.proofs.Listing.{those-next, those-skip, those-end, product-good}
-use Rattle.polarity.proofs.Shown.{shows-vector, shown-counts}
+use Rattle.polarity.proofs.Listing.{those-next, those-skip, those-end, product-good, form-length}
+
+-- ---- counting
+
+-- the products of the first s coefficients
+pub record Tallied (l : List ℕ) (products s : ℕ) : Type 0 where
+  pub within : s ≤ length l
+  pub few : products ≤ s
+  pub is : products ≡ sumBelow s (λ t. oneIf (nonzero (byteAt l t)))
+
+module _ (l : List ℕ) where
+  pub tallied-none : Tallied l 0 0
+  unfolding sumBelow
+  tallied-none = record { within = zero-le; few = zero-le; is = refl }
+
+  module _ (products s : ℕ) (T : Tallied l products s) where
+    pub tallied-more : s < length l → Tallied l (products + oneIf (nonzero (byteAt l s))) (s + 1)
+    unfolding sumBelow
+    tallied-more h = record {
+      within = omega arith;
+      few = omega (arith, T .few, one-lt (nonzero (byteAt l s)));
+      is = ap (λ (x : ℕ). x + oneIf (nonzero (byteAt l s))) (T .is) ∙ ap (λ (m : ℕ). sumBelow m (λ t. oneIf (nonzero (byteAt l t)))) (sym (add-one s));
+    }
+
+    pub tallied-all : length l ≤ s → products ≡ sumBelow (length l) (λ t. oneIf (nonzero (byteAt l t)))
+    tallied-all h = let e : s ≡ length l = omega (arith, T .within) in T .is ∙ ap (λ (m : ℕ). sumBelow m (λ t. oneIf (nonzero (byteAt l t)))) e
 
 -- ---- writing
 
@@ -92,23 +115,21 @@ module _ (n : ℕ) (l : List ℕ) (p room : ℕ) where
     unfolding formOutcome
     form-15 r er h = and-then _ _ _ e ∙ simp (le-ltb p (2 ^ n) (subst (λ (x : ℕ). x ≤ p) (check-long n l m e) h)) (ap refused (sym er))
 
-    module _ (low : p < m) (w : Packed) (ew : w ≡ packed l) (counts : Counts) (ec : counts ≡ countsIn w) where
+    module _ (low : p < m) (count : ℕ) (ec : count ≡ sumBelow (length l) (λ s. oneIf (nonzero (byteAt l s)))) where
       below : p < 2 ^ n
       below = subst (λ (x : ℕ). p < x) (check-long n l m e) low
 
-      count-is : counts .products ≡ length (formFrom n p (byteAt l))
-      unfolding countsOf
+      count-is : count ≡ length (formFrom n p (byteAt l))
       count-is =
-          let v : Vector n l = check-accepts n l (m ∷ []) e in
-          ap (λ (c : Counts). c .products) (ec ∙ shown-counts n p (v .few) (byteAt l) (v .bits) w (shows-vector n l v w ew))
+          ec ∙ ap (λ (k : ℕ). sumBelow k (λ s. oneIf (nonzero (byteAt l s)))) (check-accepts n l (m ∷ []) e .long) ∙ sym (form-length n p (byteAt l))
 
-      pub form-5 : (r : Refusal) (capacity : ℕ) → r ≡ refusal 5 0 → capacity ≡ cubeCapacity room → capacity < counts .products → formOutcome n l p room ≡ refused r
+      pub form-5 : (r : Refusal) (capacity : ℕ) → r ≡ refusal 5 0 → capacity ≡ cubeCapacity room → capacity < count → formOutcome n l p room ≡ refused r
       unfolding formOutcome
       form-5 r capacity er ea h =
           let short : cubeCapacity room < length (formFrom n p (byteAt l)) = omega (arith, ea, count-is) in
           and-then _ _ _ e ∙ simp (lt-ltb p (2 ^ n) below, lt-leb _ _ short) (ap refused (sym er))
 
-      pub form-0 : (capacity : ℕ) → capacity ≡ cubeCapacity room → counts .products ≤ capacity → formOutcome n l p room ≡ accepted (counts .products ∷ [])
+      pub form-0 : (capacity : ℕ) → capacity ≡ cubeCapacity room → count ≤ capacity → formOutcome n l p room ≡ accepted (count ∷ [])
       unfolding formOutcome
       form-0 capacity ea h =
           let fits : length (formFrom n p (byteAt l)) ≤ cubeCapacity room = omega (arith, ea, count-is) in

@@ -18,7 +18,7 @@ use Rattle.polarity.specs.Vectors.{byteAt, Vector, checkVector}
 use Rattle.polarity.specs.Calls.{coefficientsOutcome}
 use Rattle.polarity.specs.Words.{Shows, transformed}
 use Rattle.polarity.proofs.Checks.{check-accepts, check-long}
-use Rattle.polarity.proofs.Shown.{shows-put}
+use Rattle.polarity.proofs.transform.Turning.{shows-put}
 
 -- ---- 15 and 5, after the check of the vector
 

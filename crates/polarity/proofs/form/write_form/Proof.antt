@@ -38,11 +38,8 @@ returns : tie.Need-returns
 unfolding formAfter
 returns c = call-refused _ _ _ _ (form-15 _ _ _ _ _ (told (c .before .before .before)) _ (c .new .ensures) (c .before .if1 .taken))
 
-of-requires : tie.Need-of-requires
-of-requires c κs = search needs
-
-counts-of-requires : tie.Need-counts-of-requires
-counts-of-requires c κs = search needs
+count-products-requires : tie.Need-count-products-requires
+count-products-requires c κs = search needs
 
 capacity-requires : tie.Need-capacity-requires
 capacity-requires c κs = search needs
@@ -54,18 +51,17 @@ returns-2 : tie.Need-returns-2
 unfolding formAfter
 returns-2 c =
     let call = c .before .before .before in
-    let taken = call .before in
-    call-refused _ _ _ _ (form-5 _ _ _ _ _ (told (taken .before .before .before)) (taken .before .if1 .left) _ (taken .of .ensures) _ (call .counts-of .ensures)
+    call-refused _ _ _ _ (form-5 _ _ _ _ _ (told (call .before .before .before)) (call .before .if1 .left) _ (call .count-products .ensures)
     _ _ (c .new2 .ensures) (c .before .before .capacity .ensures) (c .before .if2 .taken))
 
 cast-put-form : tie.Need-cast-put-form
 cast-put-form c =
-    let low = c .before .before .before .before in
+    let low = c .before .before .before in
     let a = low .before .before in
     omega (arith, vector-most _ _ (ok a), check-long _ _ _ (told a), low .if1 .left)
 
 put-form-requires : tie.Need-put-form-requires
-put-form-requires c κs = ok (c .before .before .before .before .before .before .before)
+put-form-requires c κs = ok (c .before .before .before .before .before .before)
 
 returns-3 : tie.Need-returns-3
 unfolding formAfter
@@ -79,8 +75,7 @@ unfolding formAfter
 returns-4 c =
     let c₄ = c .before .before .before .before in
     let call = c₄ .before .before in
-    let taken = call .before in
-    call-accepted _ _ _ _ _ (form-0 _ _ _ _ _ (told (taken .before .before .before)) (taken .before .if1 .left) _ (taken .of .ensures) _ (call .counts-of .ensures)
+    call-accepted _ _ _ _ _ (form-0 _ _ _ _ _ (told (call .before .before .before)) (call .before .if1 .left) _ (call .count-products .ensures)
     _ (c₄ .before .capacity .ensures) (c₄ .if2 .left)) (c .before .before .put-form .ensures)
 
 pub write-form-spec : {M : Type 1} → statement M
@@ -92,8 +87,7 @@ write-form-spec =
     enum-known-m
     new-requires
     returns
-    of-requires
-    counts-of-requires
+    count-products-requires
     capacity-requires
     new-requires-2
     returns-2

@@ -3,7 +3,7 @@
 use Prim.Native.Nat.{_-_}
 use borrow.Author.Needs.{needs}
 use Rattle.bits.specs.Packed.{raised}
-use Rattle.polarity.proofs.Shown.{Passing, passing-none, passing-more, passing-all}
+use Rattle.polarity.proofs.transform.Turning.{Passing, passing-none, passing-more, passing-all}
 use Rattle.polarity.proofs.transform.raised_below.Statement.{statement}
 use Rattle.polarity.proofs.transform.raised_below.Tie as tie
 

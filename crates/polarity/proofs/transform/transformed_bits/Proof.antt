@@ -1,6 +1,6 @@
 -- `transform::transformed_bits` meets its contract.
 -- Assumes nothing.
-use Rattle.polarity.proofs.Shown.{transformed-there, transformed-back}
+use Rattle.polarity.proofs.transform.Turning.{transformed-there, transformed-back}
 use borrow.Author.Needs.{needs}
 use Rattle.polarity.proofs.transform.transformed_bits.Statement.{statement}
 use Rattle.polarity.proofs.transform.transformed_bits.Tie as tie

@@ -1,6 +1,6 @@
 -- `transform::turned_at` meets its contract.
 -- Assumes nothing.
-use Rattle.polarity.proofs.Shown.{turned-not, turned-is}
+use Rattle.polarity.proofs.transform.Turning.{turned-not, turned-is}
 use borrow.Author.Needs.{needs}
 use Rattle.polarity.proofs.transform.turned_at.Statement.{statement}
 use Rattle.polarity.proofs.transform.turned_at.Tie as tie
