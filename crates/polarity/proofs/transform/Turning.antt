@@ -93,8 +93,8 @@ module _ (n p : ℕ) (l : List ℕ) (v : Vector n l) (h : p < 2 ^ n) (w : Packed
 pub shows-put : (n : ℕ) → n ≤ 8 → (f : ℕ → ℕ) (w : Packed) → Shows n f w → (b : List ℕ) → length b ≡ 2 ^ n → putBits w b ≡ listBelow (2 ^ n) f
 unfolding putBits
 shows-put n few f w S b e =
-    let size : min 256 (length b) ≡ 2 ^ n = omega (arith, e, most n few) in
-    ap₂ (λ (x y : List ℕ). x ++ y) (ap (λ (m : ℕ). listBelow m (bitAt w)) size ∙ listBelow-cong (2 ^ n) (bitAt w) f (S .low)) (drop-of-length-le b {i = 256} (omega (arith, e, most n few)))
+    let places : min 256 (length b) ≡ 2 ^ n = omega (arith, e, most n few) in
+    ap₂ (λ (x y : List ℕ). x ++ y) (ap (λ (m : ℕ). listBelow m (bitAt w)) places ∙ listBelow-cong (2 ^ n) (bitAt w) f (S .low)) (drop-of-length-le b {i = 256} (omega (arith, e, most n few)))
     ∙ append-nil (listBelow (2 ^ n) f)
 
 -- ---- one pass as the code goes, and the loop of the passes
