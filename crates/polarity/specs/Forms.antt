@@ -57,9 +57,10 @@ Ascending k (x ∷ l) = (k ≤ x) × Ascending (suc x) l
 abbrev pub variables : Cube → ℕ
 variables c = c .seen
 
--- Any list that is a form under p, however it was made: cubes of n variables; "the literal whose code is the vector's entry does not appear" (001,
--- definition 3: "An OAE G is called a Fixed-polarity OAE with polarity vector V if x_i^{v_i} is not in l(G) for every i", here with products for
--- OR-AND terms); each set of variables once, "s ascending". 001, property 2, "The FOAE of f is unique if the polarity vector V .. is specified", is of these.
+-- Any list that is a form under p, however it was made. 001, definition 3: "An OAE G is called a Fixed-polarity OAE (FOAE) with polarity vector V if
+-- x_i^{v_i} ∉ l(G) for every i", and "FPRMs correspond to FOAEs with fan-in parameter r = 1", whose terms are products. So: good cubes, "the literal whose
+-- code is the vector's entry does not appear", and each set of variables at most once, "s ascending". 001, property 2, says of these: "The FOAE of f is
+-- unique if the polarity vector V and the fan-in parameter r is specified."
 pub record Form (n p : ℕ) (l : List Cube) : Type 0 where
   pub good : All (Good n) l
   pub literals : All (λ c. (k : ℕ) → code c k ≢ bit p k) l
