@@ -23,11 +23,11 @@ use Rattle.cube.specs.Lists.{mostVariables, mostRecords, recordWidth, cubesOf, 
 use Rattle.cube.specs.Calls.{checkList}
 use Rattle.cube.proofs.Codes.{parts-good}
 use Rattle.cube.proofs.ListLaws.{good-at}
-use Rattle.script.specs.Run.{ended, run}
+use Rattle.script.specs.Run.{ended, run, Refused}
 use Rattle.script.specs.Scripts.{stepRecords, stepWidth, mostSteps, fits, stepsOf}
 use Rattle.script.specs.Calls.{checkScript, runOf}
 use Rattle.script.proofs.Runs.{not-ended}
-use Rattle.script.proofs.Stopping.{Refused, run-refused, run-refused-place, run-refused-number}
+use Rattle.script.proofs.Stopping.{stopped-steps, stopped-place, stopped-number}
 use Rattle.settling.specs.declared.Settled.the-variants as settled-is
 use Rattle.settling.specs.declared.Settlement.{Settlement}
 use Rattle.settling.specs.Calls.{checkSettle, settled, Called}
@@ -149,10 +149,10 @@ module _ (n : ℕ) (list script work out : List ℕ) (work′ out′ : List ℕ)
         nothing-in-out = b .out-kept;
       }))
       (λ s. inr (record {
-        at-step = run-refused-place n (cubeCapacity (length work)) (stepsOf script) (cubesOf list) (r .number) (r .place) (s .found);
-        least = run-refused-number n (cubeCapacity (length work)) (stepsOf script) (cubesOf list) (r .number) (r .place) (s .found) .0;
-        most = run-refused-number n (cubeCapacity (length work)) (stepsOf script) (cubesOf list) (r .number) (r .place) (s .found) .1;
-        steps = run-refused n (cubeCapacity (length work)) (stepsOf script) (cubesOf list) (r .number) (r .place) (s .found);
+        at-step = stopped-place n (cubeCapacity (length work)) (stepsOf script) (cubesOf list) (r .number) (r .place) (s .found);
+        least = stopped-number n (cubeCapacity (length work)) (stepsOf script) (cubesOf list) (r .number) (r .place) (s .found) .0;
+        most = stopped-number n (cubeCapacity (length work)) (stepsOf script) (cubesOf list) (r .number) (r .place) (s .found) .1;
+        steps = stopped-steps n (cubeCapacity (length work)) (stepsOf script) (cubesOf list) (r .number) (r .place) (s .found);
         work-cleared = s .work-cleared;
         nothing-in-out = s .out-kept;
       }))

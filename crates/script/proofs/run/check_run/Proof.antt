@@ -2,7 +2,7 @@
 -- Assumes nothing.
 use mathlib.Core.Path.{sym, ap, _∙_}
 use Rattle.records.specs.Answers.{counted}
-use Rattle.script.proofs.RunLaws.{run-list-refused, run-short, run-script}
+use Rattle.script.proofs.Outcomes.{run-list-refused, run-short, run-script}
 use borrow.Author.Needs.{needs}
 use Rattle.script.proofs.run.check_run.Statement.{statement}
 use Rattle.script.proofs.run.check_run.Tie as tie

@@ -2,7 +2,7 @@
 -- Assumes nothing.
 use native.Mathlib.Omega.{arith}
 use Rattle.orders.proofs.OrderLaws.{inverse-lt}
-use Rattle.script.proofs.Undoing.{undo-none, undo-done}
+use Rattle.script.proofs.run.Undoing.{undo-none, undo-done}
 use borrow.Author.Needs.{needs}
 use Rattle.script.proofs.run.undo_at.Statement.{statement}
 use Rattle.script.proofs.run.undo_at.Tie as tie
