@@ -49,7 +49,6 @@ taken-back-linear n (L v b) h w lin = exchanged-linear n v b (h .0) (h .1) w lin
 pub record Kept (n : ℕ) (x : Step) (l m : List Cube) : Type 0 where
   pub good : All (Good n) m
   pub sums : (w : Cube → Bool) → Linear n w → sum (λ c. w (takenBack x c)) m ≡ sum w l
-  pub count : length m + isJoin x + 2 * isDrop x ≡ length l + isSplit x
 
 pub step-count : (n cap : ℕ) (x : Step) (l m : List Cube) → step n cap x l ≡ next m → length m + isJoin x + 2 * isDrop x ≡ length l + isSplit x
 unfolding step applied Placed
@@ -72,23 +71,22 @@ module _ (n cap : ℕ) (l m : List Cube) (a : All (Good n) l) where
   unfolding step
   step-kept (drop i j) h e =
       let t = sound-made (Good n) (Linear n) one l m cap i j _ (drop-sound n (length l) cap i j (cubeAt l i) (cubeAt l j) (good-at n l a i) (good-at n l a j)) a e in
-      record { good = t .0; sums = t .1; count = step-count n cap (drop i j) l m e }
+      record { good = t .0; sums = t .1 }
   step-kept (join i j) h e =
       let t = sound-made (Good n) (Linear n) one l m cap i j _ (join-sound n (length l) cap i j (cubeAt l i) (cubeAt l j) (good-at n l a i) (good-at n l a j)) a e in
-      record { good = t .0; sums = t .1; count = step-count n cap (join i j) l m e }
+      record { good = t .0; sums = t .1 }
   step-kept (split v i) h e =
       let t = sound-made (Good n) (Linear n) one l m cap i 0 _ (split-sound n (length l) cap i 0 (cubeAt l i) (cubeAt l 0) v (good-at n l a i) h) a e in
-      record { good = t .0; sums = t .1; count = step-count n cap (split v i) l m e }
+      record { good = t .0; sums = t .1 }
   step-kept (turn v i j) h e =
       let t = sound-made (Good n) (Linear n) one l m cap i j _ (turn-sound n (length l) cap i j (cubeAt l i) (cubeAt l j) (good-at n l a i) (good-at n l a j) v) a e in
-      record { good = t .0; sums = t .1; count = step-count n cap (turn v i j) l m e }
+      record { good = t .0; sums = t .1 }
   step-kept (L v b) h e = record {
     good = subst (All (Good n)) (next-same e) (all-map (Good n) (Good n) (exchanged v b) (exchanged-good n v b (h .0) (h .1)) l a);
     sums = λ w lin.
         ap (sum (λ c. w (exchanged v b c))) (sym (next-same e))
         ∙ sym (sum-map w (exchanged v b) (map (exchanged v b) l))
         ∙ ap (sum w) (exchanged-list-twice n v b (h .0) (h .1) l a);
-    count = step-count n cap (L v b) l m e;
   }
 
 -- ---- values
