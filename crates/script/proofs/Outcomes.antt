@@ -60,7 +60,7 @@ module _ (n : ℕ) (list script : List ℕ) (size : ℕ) where
         script-is = script-accepts n script (p .values) (c .1);
       }
 
--- ---- the outcome
+-- ---- the outcome, for crates above: Three and Eight wait for it
 
 pub passed : (o : Outcome) (v : List ℕ) → o ≡ accepted v → Passed o
 passed o v e = record { values = v; is = e }
@@ -101,7 +101,7 @@ module _ (n : ℕ) (list script : List ℕ) (size : ℕ) where
       go (accepted v) (stopped number step) eo et e =
           inr (record { checks = passed _ v eo; ran = et ∙ ap (λ (q : Refusal). stopped (q .number) (q .place)) (refused-same e) })
 
--- the other way: what the call answers and leaves
+-- the other way, from the checks and the run: what the call answers and leaves
 module _ (n : ℕ) (list script work : List ℕ) where
   pub run-refuses : (r : Refusal) → checkRun n list script (length work) ≡ refused r
       → (refused r ≡ runOutcome n list script (length work)) × (work ≡ runAfter n list script work)

@@ -73,21 +73,13 @@ unfolding pend
 pend-orders [] os a = a
 pend-orders (x ∷ xs) os a = pend-orders xs (pendStep os x) (pend-step-orders os x a)
 
-pub pend-length : (xs : List Step) (os : List ℕ) → length (pend os xs) ≡ length os
-unfolding pend
-pend-length [] os = refl
-pend-length (x ∷ xs) os = pend-length xs (pendStep os x) ∙ pend-step-length os x
-
 none-orders : (k : ℕ) → All IsOrder (replicate k noOrder)
 none-orders zero = tt
 none-orders (suc k) = (omega arith, none-orders k)
 
--- from none pending: every order is one of the six, and there is one for each of the sixteen variables
+-- from none pending: every order is one of the six
 pub pending-orders : (xs : List Step) → All (λ o. o < orderCount) (pend nonePending xs)
 pending-orders xs = pend-orders xs nonePending (none-orders mostVariables)
-
-pub pending-length : (xs : List Step) → length (pend nonePending xs) ≡ mostVariables
-pending-length xs = pend-length xs nonePending
 
 -- ---- the pending orders taken back, variable by variable
 

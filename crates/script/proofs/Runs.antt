@@ -1,12 +1,12 @@
 -- A run of any kind of steps on any kind of record that ends: its list is fine, and every fair weight has the sum it had. One induction over the script, for
--- all fair weights. Cubes and shared records are its two instances.
+-- all fair weights. Value uses it for cubes, which are fine where they are good, and for linear weights.
 -- Assumes nothing.
 use mathlib.Core.Path.{_≡_, refl, sym, ap, _∙_, subst}
 use mathlib.Core.Bool.{Bool}
 use mathlib.Core.List.{List, [], _∷_, map}
 use Prim.Native.Nat.{ℕ, suc, max}
 use native.Mathlib.Omega.{arith}
-use lib.ListN.{length, length-map}
+use lib.ListN.{length}
 use Rattle.bits.specs.Sums.{sum, All}
 use Rattle.bits.proofs.Sums.{sum-map, all-map, map-same, map-map}
 use Rattle.steps.specs.Moves.{After, stop, next}

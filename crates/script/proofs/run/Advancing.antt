@@ -1,6 +1,7 @@
 -- One step of a run: what is pending after it, and where the run stands.
 -- Assumes nothing.
 use mathlib.Core.Path.{_≡_, refl, sym, ap, _∙_}
+use mathlib.Core.Bool.{true, false, true≢false}
 use mathlib.Core.List.{List}
 use Prim.Native.Nat.{ℕ, zero, suc, _≤_, _<_, max}
 use native.Mathlib.Omega.{arith}
@@ -73,3 +74,19 @@ module _ (n cap k : ℕ) (x : Step) (p : Progress) (b b₁ : List ℕ) (s : Step
           let many : count ≡ length l = cc in
           let greatest : peak ≡ max (p .peak) (length l) = ep ∙ ap (max (p .peak)) many in
           ((λ j. standing (many j) (greatest j) (eo j)), eb)
+
+-- ---- and the other way: the step by where the run stands after it
+
+pub record Went (e : After Cube) (q : Progress) : Type 0 where
+  pub list : List Cube
+  pub is : e ≡ next list
+  pub many : q .count ≡ length list
+
+module _ (k : ℕ) (x : Step) (p q : Progress) where
+  pub went : (e : After Cube) → q ≡ advanced k x p e → q .done ≡ true → Went e q
+  went (stop r) e f = absurd (true≢false (sym f ∙ ap (λ (t : Progress). t .done) e))
+  went (next l) e f = record { list = l; is = refl; many = ap (λ (t : Progress). t .count) e }
+
+  pub halts : (e : After Cube) → q ≡ advanced k x p e → q .done ≡ false → e ≡ stop (q .number)
+  halts (stop r) e f = ap stop (sym (ap (λ (t : Progress). t .number) e))
+  halts (next l) e f = absurd (true≢false (sym (ap (λ (t : Progress). t .done) e) ∙ f))

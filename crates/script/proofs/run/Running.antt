@@ -30,6 +30,7 @@ use Rattle.script.specs.Scripts.{stepRecords, stepWidth, fits, stepsOf}
 use Rattle.script.specs.Calls.{ranWork}
 use Rattle.script.specs.Progress.{standing, advanced, workAdvanced, progressOf, Stepping}
 use Rattle.script.proofs.Codec.{fits-parts, meaning-fits}
+use Rattle.script.proofs.run.Advancing.{went, halts}
 
 -- ---- the step at a place of a script
 
@@ -112,35 +113,30 @@ module _ (n cap first : ℕ) (script work : List ℕ) where
 
       -- a step that is refused
       pub running-stop : q .done ≡ false → Stepping n cap first (stepsOf script) work b′ q
-      running-stop f = go (step n cap (meaning x) (records cubes (p .count) b)) refl eq eb
-        where
-          go : (e : After Cube) → step n cap (meaning x) (records cubes (p .count) b) ≡ e → q ≡ advanced k (meaning x) p e → b′ ≡ workAdvanced b e
-              → Stepping n cap first (stepsOf script) work b′ q
-          go (stop number) is eq eb = record {
-            answer = eq ∙ sym (ap (λ (t : Ran Cube). progressOf t (pend nonePending (stepsOf script))) (onto (stop number) is));
-            buffer = eb ∙ ap zeros (r .long) ∙ sym (ap (ranWork (length work)) (onto (stop number) is));
+      running-stop f =
+          let is = halts k (meaning x) p q (step n cap (meaning x) (records cubes (p .count) b)) eq f in
+          let stops = onto (stop (q .number)) is in
+          record {
+            answer = eq ∙ ap (advanced k (meaning x) p) is ∙ sym (ap (λ (t : Ran Cube). progressOf t (pend nonePending (stepsOf script))) stops);
+            buffer = eb ∙ ap (workAdvanced b) is ∙ ap zeros (r .long) ∙ sym (ap (ranWork (length work)) stops);
             ready = λ t. absurd (true≢false (sym t ∙ f));
           }
-          go (next m) is eq eb = absurd (true≢false (sym (ap (λ (t : Progress). t .done) eq) ∙ f))
 
       -- one that is done
       pub running-more : q .done ≡ true → Running n cap first script work (k + 1) b′ q
-      running-more f = go (step n cap (meaning x) (records cubes (p .count) b)) refl eq eb
-        where
-          go : (e : After Cube) → step n cap (meaning x) (records cubes (p .count) b) ≡ e → q ≡ advanced k (meaning x) p e → b′ ≡ workAdvanced b e
-              → Running n cap first script work (k + 1) b′ q
-          go (stop number) is eq eb = absurd (true≢false (sym f ∙ ap (λ (t : Progress). t .done) eq))
-          go (next m) is eq eb =
-              let left : b′ ≡ workStepped b (step n cap (meaning x) (records cubes (p .count) b)) = eb ∙ sym (ap (workStepped b) is) in
-              let known : Known n x = step-known n script k x ex h fit in
-              subst (Running n cap first script work (k + 1) b′) (sym eq) (record {
-                ready = ready-onward n (p .count) cap b b′ (meaning x) m (r .ready) is left (known .fits);
-                long = step-long n (p .count) cap b b′ (meaning x) m (r .ready) is left ∙ r .long;
-                within = omega arith;
-                stands = refl;
-                so-far =
-                    onto (next m) is ∙ ap (λ (s : ℕ). stepsFrom (step n cap) s (max (p .peak) (length m)) (drop (k + 1) (stepsOf script)) m) (sym (add-one k))
-                    ∙ ap (stepsFrom (step n cap) (k + 1) (max (p .peak) (length m)) (drop (k + 1) (stepsOf script)))
-                    (sym (step-records n (p .count) cap b b′ (meaning x) m (r .ready) is left));
-                orders = orders-on;
-              })
+      running-more f =
+          let w = went k (meaning x) p q (step n cap (meaning x) (records cubes (p .count) b)) eq f in
+          let m : List Cube = w .list in
+          let left : b′ ≡ workStepped b (step n cap (meaning x) (records cubes (p .count) b)) = eb ∙ ap (workAdvanced b) (w .is) ∙ sym (ap (workStepped b) (w .is)) in
+          let known : Known n x = step-known n script k x ex h fit in
+          subst (Running n cap first script work (k + 1) b′) (sym (eq ∙ ap (advanced k (meaning x) p) (w .is))) (record {
+            ready = ready-onward n (p .count) cap b b′ (meaning x) m (r .ready) (w .is) left (known .fits);
+            long = step-long n (p .count) cap b b′ (meaning x) m (r .ready) (w .is) left ∙ r .long;
+            within = omega arith;
+            stands = refl;
+            so-far =
+                onto (next m) (w .is) ∙ ap (λ (s : ℕ). stepsFrom (step n cap) s (max (p .peak) (length m)) (drop (k + 1) (stepsOf script)) m) (sym (add-one k))
+                ∙ ap (stepsFrom (step n cap) (k + 1) (max (p .peak) (length m)) (drop (k + 1) (stepsOf script)))
+                (sym (step-records n (p .count) cap b b′ (meaning x) m (r .ready) (w .is) left));
+            orders = orders-on;
+          })
