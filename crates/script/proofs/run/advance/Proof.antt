@@ -29,8 +29,9 @@ same-length c = search needs
 returns : tie.Need-returns
 returns c =
     let c₅ = c .before .before .before .before .before in
-    let done = c₅ .before .before .before .before .do-step .ensures in
-    advance-refused _ _ _ _ _ _ _ _ (done .0) (done .1) _ (c₅ .number .given .1) _ (c .before .before .clear .ensures)
+    let c₉ = c₅ .before .before .before .before in
+    let done = c₉ .do-step .ensures in
+    advance-refused _ _ _ _ (c₉ .before .before .before .args .at) _ _ _ (done .0) (done .1) _ (c₅ .number .given .1) _ (c .before .before .clear .ensures)
 
 same-length-2 : tie.Need-same-length-2
 same-length-2 c = search needs
@@ -38,8 +39,9 @@ same-length-2 c = search needs
 returns-2 : tie.Need-returns-2
 returns-2 c =
     let c₄ = c .before .before .before .before in
-    let done = c₄ .before .before .before .before .do-step .ensures in
-    advance-done _ _ _ _ _ _ _ _ (done .0) (done .1) _ (c₄ .count .given .1) _ (c .before .before .larger .ensures) _ (c .pended .ensures)
+    let c₈ = c₄ .before .before .before .before in
+    let done = c₈ .do-step .ensures in
+    advance-done _ _ _ _ (c₈ .before .before .before .args .at) _ _ _ (done .0) (done .1) _ (c₄ .count .given .1) _ (c .before .before .larger .ensures) _ (c .pended .ensures)
 
 pub advance-spec : {M : Type 1} → statement M
 advance-spec =
