@@ -16,18 +16,17 @@ use Rattle.steps.specs.Calls.{Ready}
 
 module _ (n : ℕ) (list work : List ℕ) (ok : Accepted mostVariables n list) (small : (i : ℕ) → getD list i 0 < 256) (fits : length list ≤ length work)
     (w : List ℕ) (e : w ≡ filledBy work list) where
-  count : ℕ
+  abbrev count : ℕ
   count = length list / recordWidth
 
   holds : Holds cubes w (records cubes count list)
-  unfolding count
   holds =
       let bytes : flat (cubes .enc) (records cubes count list) ≡ list = cubes-bytes count list (omega (arith, ok .whole)) small in
       subst (λ (t : List ℕ). Holds cubes t (records cubes count list)) (sym (e ∙ filled-by work list fits))
       (filled-holds cubes lawful (length work) (records cubes count list) list bytes fits)
 
   pub filled-records : records cubes (length list / recordWidth) w ≡ cubesOf list
-  unfolding count listOf
+  unfolding listOf
   filled-records =
       ap (λ (k : ℕ). records cubes k w) (sym (length-records cubes count list)) ∙ holds-records cubes lawful w (records cubes count list) holds
 
@@ -36,7 +35,6 @@ module _ (n : ℕ) (list work : List ℕ) (ok : Accepted mostVariables n list) (
 
   -- with room for so many
   pub filled-ready : (cap : ℕ) → recordWidth * cap ≤ length work → Ready n (length list / recordWidth) cap w
-  unfolding count
   filled-ready cap room = record {
     held = subst (λ (k : ℕ). Held cubes k w) (length-records cubes count list) (holds-held cubes lawful w (records cubes count list) holds);
     good = subst (All (Good n)) (sym filled-records) (ok .good);

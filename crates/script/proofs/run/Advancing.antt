@@ -3,7 +3,7 @@
 use mathlib.Core.Path.{_≡_, refl, sym, ap, _∙_}
 use mathlib.Core.Bool.{true, false, true≢false}
 use mathlib.Core.List.{List}
-use Prim.Native.Nat.{ℕ, zero, suc, _≤_, _<_, max}
+use Prim.Native.Nat.{ℕ, zero, suc, _-_, _≤_, _<_, max}
 use native.Mathlib.Omega.{arith}
 use lib.ListN.{length, getD, set}
 use lib.Seq.{set-out}
@@ -17,6 +17,7 @@ use Rattle.steps.specs.declared.Stepped.the-variants as stepped-is
 use Rattle.steps.specs.Moves.{After, stop, next}
 use Rattle.steps.specs.Steps.{Step, meaning, meaningBy, step}
 use Rattle.steps.specs.Calls.{stepped, workStepped}
+use Rattle.steps.proofs.Making.{means}
 use Rattle.script.specs.declared.Progress.{Progress}
 use Rattle.script.specs.Pending.{pendStep}
 use Rattle.script.specs.Progress.{standing, halted, advanced, workAdvanced}
@@ -37,16 +38,7 @@ module _ (os : List ℕ) (x : StepRecord) where
       go (suc (suc (suc (suc (suc op))))) h = absurd (omega arith)
 
   pub pend-L : 5 ≤ x .op → set os (x .v) (follow (getD os (x .v) noOrder) (letterOrder (x .literal))) ≡ pendStep os (meaning x)
-  unfolding meaning
-  pend-L h = go (x .op) h
-    where
-      go : (op : ℕ) → 5 ≤ op → set os (x .v) (follow (getD os (x .v) noOrder) (letterOrder (x .literal))) ≡ pendStep os (meaningBy op x)
-      go zero h = absurd (omega arith)
-      go (suc zero) h = absurd (omega arith)
-      go (suc (suc zero)) h = absurd (omega arith)
-      go (suc (suc (suc zero))) h = absurd (omega arith)
-      go (suc (suc (suc (suc zero)))) h = absurd (omega arith)
-      go (suc (suc (suc (suc (suc op))))) h = refl
+  pend-L h = let e : x .op ≡ suc (suc (suc (suc (suc (x .op - 5))))) = omega arith in ap (pendStep os) (sym (means x (suc (suc (suc (suc (suc (x .op - 5)))))) e))
 
   pub pend-out : 5 ≤ x .op → length os ≤ x .v → os ≡ pendStep os (meaning x)
   pend-out h l = sym (set-out os (x .v) (follow (getD os (x .v) noOrder) (letterOrder (x .literal))) l) ∙ pend-L h

@@ -16,7 +16,7 @@ use Rattle.cube.specs.Cubes.{Good}
 use Rattle.cube.specs.Lists.{cubes, cubesOf, cubeCapacity, recordWidth, mostRecords, mostVariables}
 use Rattle.cube.proofs.ListLaws.{lawful, all-good-more}
 use Rattle.orders.specs.Orders.{orderCount}
-use Rattle.steps.specs.Steps.{Step, Fits, step}
+use Rattle.steps.specs.Steps.{Step, step}
 use Rattle.steps.specs.Calls.{Ready}
 use Rattle.script.specs.declared.Finished.{Finished}
 use Rattle.script.specs.declared.Finished.the-variants as finished-is
@@ -36,7 +36,7 @@ module _ (n : ℕ) (list script work : List ℕ) (p : Passed (checkRun n list sc
   ok : Runnable n list script (length work)
   ok = runnable n list script (length work) p
 
-  count : ℕ
+  abbrev count : ℕ
   count = length list / recordWidth
 
   run-room : length list ≤ length work
@@ -44,7 +44,6 @@ module _ (n : ℕ) (list script work : List ℕ) (p : Passed (checkRun n list sc
 
   module _ (w₁ : List ℕ) (e₁ : w₁ ≡ filledBy work list) where
     same : records cubes count w₁ ≡ cubesOf list
-    unfolding count
     same = filled-records n list work (ok .list-is) small run-room w₁ e₁
 
     long : length w₁ ≡ length work
@@ -54,28 +53,24 @@ module _ (n : ℕ) (list script work : List ℕ) (p : Passed (checkRun n list sc
     run-ready = filled-ready n list work (ok .list-is) small run-room w₁ e₁ cap (omega (arith, capacity-fits cubes mostRecords (length work)))
 
     module _ (w₂ : List ℕ) (r : Progress) (s : Stepping n cap (length list / recordWidth) (stepsOf script) w₁ w₂ r) where
-      xs : List Step
+      abbrev xs : List Step
       xs = stepsOf script
 
-      whole : Ran Cube
+      abbrev whole : Ran Cube
       whole = stepsFrom (step n cap) 0 (length (cubesOf list)) xs (cubesOf list)
 
       -- the steps done on the list itself
       from-list : stepsFrom (step n cap) 0 count xs (records cubes count w₁) ≡ whole
-      unfolding whole count
-      from-list =
-          ap₂ (λ (k : ℕ) (l : List Cube). stepsFrom (step n cap) 0 k xs l) (sym (length-list cubes list)) same
+      from-list = ap₂ (λ (k : ℕ) (l : List Cube). stepsFrom (step n cap) 0 k xs l) (sym (length-list cubes list)) same
 
       run-is : runOf n list script (length work) ≡ finish xs whole
-      unfolding runOf run whole xs
+      unfolding runOf run
       run-is = ap (λ (k : ℕ). run n k (stepsOf script) (cubesOf list)) (sym ec)
 
       answer-is : r ≡ progressOf whole (pend nonePending xs)
-      unfolding count xs
       answer-is = s .answer ∙ ap (λ (t : Ran Cube). progressOf t (pend nonePending xs)) from-list
 
       buffer-is : w₂ ≡ ranWork (length work) whole
-      unfolding count xs
       buffer-is = s .buffer ∙ ap₂ ranWork long from-list
 
       -- refused at a step
@@ -111,40 +106,31 @@ module _ (n : ℕ) (list script work : List ℕ) (p : Passed (checkRun n list sc
         t : Last whole
         t = last whole answer-is f
 
-        l : List Cube
+        abbrev l : List Cube
         l = t .list-last
 
         pub run-undo-held : Held cubes (r .count) w₂
         run-undo-held = s .ready f .held
 
         pub run-undo-good : All (Good mostVariables) (records cubes (r .count) w₂)
-        run-undo-good =
-            all-good-more n mostVariables (records cubes (r .count) w₂) (s .ready f .few) (s .ready f .good)
+        run-undo-good = all-good-more n mostVariables (records cubes (r .count) w₂) (s .ready f .few) (s .ready f .good)
 
         pub run-undo-orders : All (λ o. o < orderCount) (r .pending)
         run-undo-orders = subst (All (λ o. o < orderCount)) (sym (t .orders)) (pending-orders xs)
 
         list-is-last : records cubes (r .count) w₂ ≡ l
-        unfolding l
         list-is-last =
-            let image-is : w₂ ≡ image cubes (length work) (t .list-last) = buffer-is ∙ ap (ranWork (length work)) (t .is) in
-            let fits-in : cubes .width * length (t .list-last) ≤ length work =
-            omega (arith, held-fits cubes lawful (r .count) w₂ run-undo-held, t .many, k₂, long) in
-            let holds : Holds cubes w₂ (t .list-last) =
-            subst (λ (y : List ℕ). Holds cubes y (t .list-last)) (sym image-is) (image-holds cubes lawful (length work) (t .list-last) fits-in) in
-            ap (λ (k : ℕ). records cubes k w₂) (t .many) ∙ holds-records cubes lawful w₂ (t .list-last) holds
-
-        step-fit-here : All (Fits n) xs
-        unfolding xs
-        step-fit-here = script-fits n script (ok .script-is .fit)
+            let image-is : w₂ ≡ image cubes (length work) l = buffer-is ∙ ap (ranWork (length work)) (t .is) in
+            let fits-in : cubes .width * length l ≤ length work = omega (arith, held-fits cubes lawful (r .count) w₂ run-undo-held, t .many, k₂, long) in
+            ap (λ (k : ℕ). records cubes k w₂) (t .many)
+            ∙ holds-records cubes lawful w₂ l (subst (λ (y : List ℕ). Holds cubes y l) (sym image-is) (image-holds cubes lawful (length work) l fits-in))
 
         pub run-done : (w₃ : List ℕ) → w₃ ≡ image cubes (length w₂) (map (restored n (r .pending)) (records cubes (r .count) w₂))
             → Answered n list script work w₃ (finished-is.Done (r .count) (r .peak))
-        unfolding l t
         run-done w₃ e₃ =
             let undone : map (restored n (r .pending)) (records cubes (r .count) w₂) ≡ undo xs l =
             ap (λ (os : List ℕ). map (restored n os) (records cubes (r .count) w₂)) (t .orders)
-            ∙ sym (undo-pending n (ok .list-is .few) xs step-fit-here (records cubes (r .count) w₂) (s .ready f .good))
+            ∙ sym (undo-pending n (ok .list-is .few) xs (script-fits n script (ok .script-is .fit)) (records cubes (r .count) w₂) (s .ready f .good))
             ∙ ap (undo xs) list-is-last in
             let many-undone : r .count ≡ length (undo xs l) =
             sym (length-records cubes (r .count) w₂) ∙ sym (length-map (records cubes (r .count) w₂) (restored n (r .pending))) ∙ ap length undone in
