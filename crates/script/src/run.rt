@@ -27,7 +27,7 @@ ghost use Rattle.script.specs.Progress.{advanced, workAdvanced, Stepping
 ghost use Rattle.script.specs.Calls.{checkRun, runOutcome, runAfter, finished};
 
 // No order is pending at any variable.
-const NONE_PENDING: [u8; MOST_VARIABLES] = [0; MOST_VARIABLES];
+pub const NONE_PENDING: [u8; MOST_VARIABLES] = [0; MOST_VARIABLES];
 
 // What is pending after one more step: the order of an L step follows that of its variable.
 pub fn pended(pending: [u8; MOST_VARIABLES], x: StepRecord) -> [u8; MOST_VARIABLES]
