@@ -15,6 +15,7 @@ use Rattle.records.proofs.Holding.{Lawful, length-records, getD-records, list-a
 use Rattle.cube.specs.declared.Cube.{Cube}
 use Rattle.cube.specs.Cubes.{one}
 use Rattle.cube.specs.Lists.{cubes, cubesOf, narrow, recordWidth}
+use Rattle.cube.proofs.ListLaws.{lawful}
 use Rattle.steps.specs.declared.Change.{Change}
 use Rattle.steps.specs.declared.Change.the-variants as change-is
 use Rattle.steps.specs.declared.Stepped.the-variants as stepped-is
@@ -193,8 +194,8 @@ module _ {A : Type 0} (C : Codec A) (K : Lawful C) (k i j : ℕ) (b : List ℕ) 
       (length-drop-at (C .none) (records C k b) i j ∙ ap (λ (n : ℕ). n - 2) (length-records C k b))
 
   module _ (Fit : A → Type 0) (fit : A → A) (fits : (x : A) → Fit x → fit x ≡ x) (p : Placed k (length b / C .width) i j m) (w : Writes Fit m) where
-    pub join-held : (x : A) → m ≡ joins x → Held C k b → (b₁ : List ℕ) → b₁ ≡ stored C b i (fit x) → Held C k b₁
-    join-held x e h b₁ e₁ = stored-held C K k i b b₁ (fit x) h (join-in k (length b / C .width) i j m p x e .first) e₁
+    pub held-join : (x : A) → m ≡ joins x → Held C k b → (b₁ : List ℕ) → b₁ ≡ stored C b i (fit x) → Held C k b₁
+    held-join x e h b₁ e₁ = stored-held C K k i b b₁ (fit x) h (join-in k (length b / C .width) i j m p x e .first) e₁
 
     pub made-join : (x : A) → m ≡ joins x → Held C k b → (b₁ b₂ : List ℕ) → b₁ ≡ stored C b i (fit x)
         → b₂ ≡ image C (length b₁) (removeAt (C .none) (records C k b₁) j) → DoneBy C b b₂ (applied (C .none) i j (records C k b) m) (stepped-is.Count (k - 1))
@@ -263,3 +264,19 @@ module _ (change : Change) where
   pub turn-move : (c d : Cube) → change ≡ change-is.Turn c d → moveOf change ≡ turns c d
   unfolding moveOf
   turn-move c d e = ap moveOf e
+
+-- a join of cubes
+module _ (k i j : ℕ) (b : List ℕ) (change : Change) (p : Placed k (length b / recordWidth) i j (moveOf change)) (w : Writes Narrow (moveOf change))
+    (c : Cube) (e : change ≡ change-is.Join c) where
+  pub join-below : j < k
+  join-below = join-in k (length b / recordWidth) i j (moveOf change) p c (join-move change c e) .second
+
+  pub join-one : 1 ≤ k
+  join-one = omega (arith, join-below)
+
+  pub join-held : Held cubes k b → (b₁ : List ℕ) → b₁ ≡ stored cubes b i (narrow c) → Held cubes k b₁
+  join-held = held-join cubes lawful k i j b (moveOf change) Narrow narrow narrow-fits p w c (join-move change c e)
+
+  pub perform-join : Held cubes k b → (b₁ b₂ : List ℕ) → b₁ ≡ stored cubes b i (narrow c) → b₂ ≡ image cubes (length b₁) (removeAt one (records cubes k b₁) j)
+      → DoneBy cubes b b₂ (applied one i j (records cubes k b) (moveOf change)) (stepped-is.Count (k - 1))
+  perform-join = made-join cubes lawful k i j b (moveOf change) Narrow narrow narrow-fits p w c (join-move change c e)

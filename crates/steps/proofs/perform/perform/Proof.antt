@@ -8,7 +8,7 @@ use borrow.Author.Needs.{needs}
 use Rattle.cube.specs.Lists.{cubes, narrow, recordWidth}
 use Rattle.cube.proofs.ListLaws.{lawful}
 use Rattle.steps.specs.Changes.{Narrow}
-use Rattle.steps.proofs.Performing.{removed-held, drop-in, join-in, split-in, made-refuse, made-drop, join-held, made-join, made-split, made-turn, narrow-fits, refuse-move, drop-move, join-move, split-move, turn-move}
+use Rattle.steps.proofs.Performing.{removed-held, drop-in, split-in, made-refuse, made-drop, made-split, made-turn, narrow-fits, refuse-move, drop-move, split-move, turn-move, join-below, join-one, join-held, perform-join}
 use Rattle.steps.proofs.perform.perform.Statement.{statement}
 use Rattle.steps.proofs.perform.perform.Tie as tie
 
@@ -60,19 +60,10 @@ put-cube-requires : tie.Need-put-cube-requires
 put-cube-requires c κs = search needs
 
 remove-requires-3 : tie.Need-remove-requires-3
-remove-requires-3 c κs =
-    let told = c .before .before .before .before .before .before in
-    let pre = told .before .before .before .pre in
-    let is = join-move _ _ (told .change2 .given .1) in (
-      join-held cubes lawful _ _ _ _ _ Narrow narrow narrow-fits (pre .1 .0) (pre .1 .1) _ is (pre .0) _ (c .before .before .before .put-cube .ensures),
-      join-in _ _ _ _ _ (pre .1 .0) _ is .second,
-    )
+remove-requires-3 c κs = (search join-held, search join-below)
 
 sub-t26 : tie.Need-sub-t26
-sub-t26 c =
-    let told = c .before .before .before .before .before .before .before .before .before in
-    let two = join-in _ _ _ _ _ (told .before .before .before .pre .1 .0) _ (join-move _ _ (told .change2 .given .1)) in
-    omega (arith, two .first)
+sub-t26 c = search join-one
 
 enum-known-change-3 : tie.Need-enum-known-change-3
 enum-known-change-3 c = search needs
@@ -117,12 +108,7 @@ same-length-2 : tie.Need-same-length-2
 same-length-2 c = search needs
 
 returns-3 : tie.Need-returns-3
-returns-3 c =
-    let c₆ = c .before .before .before .before .before .before in
-    let told = c₆ .before .before .before in
-    let pre = told .before .before .before .pre in
-    made-join cubes lawful _ _ _ _ _ Narrow narrow narrow-fits (pre .1 .0) (pre .1 .1) _ (join-move _ _ (told .change2 .given .1)) (pre .0) _ _
-    (c₆ .put-cube .ensures) (c .before .before .remove3 .ensures)
+returns-3 c = search perform-join
 
 same-length-3 : tie.Need-same-length-3
 same-length-3 c = search needs
