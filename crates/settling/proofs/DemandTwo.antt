@@ -21,11 +21,10 @@ use Rattle.cube.specs.Lists.{cubesOf, cubeCapacity, listValue, truthVector, vec
 use Rattle.cube.proofs.Meaning as meaning
 use Rattle.steps.specs.Moves.{next}
 use Rattle.steps.specs.Steps.{Step, drop, join, split, turn, L, step, exchanged, isSplit, isJoin, isDrop}
-use Rattle.steps.proofs.Inversion.{Dropped, Joined, Split, Turned}
+use Rattle.steps.specs.Effects.{DropDone, JoinDone, SplitDone, TurnDone}
+use Rattle.steps.specs.Rules.{complemented, plain, absent, Same, DropRule, JoinRule, SplitRule, TurnRule, Transformed}
 use Rattle.steps.proofs.Inversion as inversion
-use Rattle.steps.proofs.Rules.{complemented, plain, absent, Same, DropRule, JoinRule, SplitRule, TurnRule}
 use Rattle.steps.proofs.Rules as rules
-use Rattle.steps.proofs.Transformation.{Transformed}
 use Rattle.steps.proofs.Transformation as transformation
 use Rattle.script.specs.Run.{ended, undo, run}
 use Rattle.script.specs.Counts.{howMany, lists, greatest}
@@ -102,16 +101,16 @@ module _ (n : ℕ) (t : Cube) (g : Good n t) where
 
 -- What a step that is done does to the list: its places and cubes are as document 01's table needs them, and the next list is the one it names.
 module _ (n cap i j : ℕ) (l m : List Cube) where
-  pub drop-done : step n cap (drop i j) l ≡ next m → Dropped n i j l m
+  pub drop-done : step n cap (drop i j) l ≡ next m → DropDone n i j l m
   drop-done = inversion.drop-accepted n cap i j l m
 
-  pub join-done : step n cap (join i j) l ≡ next m → Joined n i j l m
+  pub join-done : step n cap (join i j) l ≡ next m → JoinDone n i j l m
   join-done = inversion.join-accepted n cap i j l m
 
-  pub turn-done : (v : ℕ) → step n cap (turn v i j) l ≡ next m → Turned n v i j l m
+  pub turn-done : (v : ℕ) → step n cap (turn v i j) l ≡ next m → TurnDone n v i j l m
   turn-done v = inversion.turn-accepted n cap v i j l m
 
-  pub split-done : (v : ℕ) → step n cap (split v i) l ≡ next m → Split cap v i l m
+  pub split-done : (v : ℕ) → step n cap (split v i) l ≡ next m → SplitDone cap v i l m
   split-done v = inversion.split-accepted n cap v i l m
 
 -- ---- "each L-transformation"

@@ -15,6 +15,7 @@ use Rattle.cube.specs.Lists.{trues, listValue}
 use Rattle.cube.proofs.ListLaws.{good-at}
 use Rattle.steps.specs.Moves.{Move, drops, joins, splits, turns, next, applied}
 use Rattle.steps.specs.Steps.{Step, drop, join, split, turn, L, Fits, cubeAt, thirdAt, exchanged, step, isSplit, isJoin, isDrop}
+use Rattle.steps.specs.Effects.{IsRewrite}
 use Rattle.steps.specs.Changes.{Placed}
 use Rattle.steps.proofs.Linear.{Linear, holds-linear, exchanged-good, exchanged-linear, exchanged-list-twice}
 use Rattle.steps.proofs.Balanced.{next-same, applied-count, sound-made}
@@ -102,14 +103,7 @@ pub sum-of-value : (n : ℕ) (l m : List Cube) (a : ℕ) → listValue n m a ≡
 unfolding listValue trues
 sum-of-value n l m a e = one-injective _ _ (sym (tally-sum (λ c. holds n c a) m) ∙ e ∙ tally-sum (λ c. holds n c a) l)
 
--- drop, join, split and turn: the steps that keep the function
-abbrev pub IsRewrite : Step → Type 0
-IsRewrite (drop i j) = Unit {0}
-IsRewrite (join i j) = Unit {0}
-IsRewrite (split v i) = Unit {0}
-IsRewrite (turn v i j) = Unit {0}
-IsRewrite (L v b) = ⊥
-
+-- a rewrite keeps the function
 pub rewrite-value : (n cap : ℕ) (x : Step) → IsRewrite x → Fits n x → (l m : List Cube) → All (Good n) l → step n cap x l ≡ next m
     → (a : ℕ) → listValue n m a ≡ listValue n l a
 rewrite-value n cap x r h l m g e a = value-of-sum n l m a (go x r (step-kept n cap l m g x h e .sums (λ c. holds n c a) (holds-linear n a)))

@@ -20,7 +20,8 @@ use Rattle.steps.specs.declared.Change.{Change}
 use Rattle.steps.specs.declared.Change.the-variants as change-is
 use Rattle.steps.specs.declared.Stepped.the-variants as stepped-is
 use Rattle.steps.specs.Moves.{After, next, applied, dropAt, joinAt, splitAt, turnAt}
-use Rattle.steps.specs.Changes.{moveOf, TwoPlaces, OnePlace, Placed, Writes, Narrow, Done}
+use Rattle.steps.specs.Effects.{TwoPlaces}
+use Rattle.steps.specs.Changes.{moveOf, OnePlace, Placed, Writes, Narrow, Done}
 use Rattle.steps.proofs.Places.{length-drop-at, length-join-at, length-split-at, length-turn-at}
 
 -- ---- a place looked at

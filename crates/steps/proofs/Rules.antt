@@ -18,51 +18,14 @@ use Rattle.cube.proofs.Apart.{Two, two-swap}
 use Rattle.orders.specs.Codes.{third, lower, higher}
 use Rattle.steps.specs.Moves.{drops, joins, splits, turns}
 use Rattle.steps.specs.Steps.{thirdAt, dropped, dropMove, joined, joinMove, splitMove, turned, turnMove}
-use Rattle.steps.specs.Changes.{TwoPlaces}
+use Rattle.steps.specs.Effects.{TwoPlaces}
+use Rattle.steps.specs.Rules.{complemented, plain, absent, DropRule, JoinRule, SplitRule, TurnRule}
 use Rattle.steps.proofs.Linear.{holds-linear}
 use Rattle.steps.proofs.Balanced.{Balanced}
 use Rattle.steps.proofs.Inversion.{two-passed, turned-made}
 use Rattle.steps.proofs.Decisions.{join-sound, split-sound, turn-sound}
 use Rattle.steps.proofs.Kept.{value-of-sum}
 use Rattle.steps.proofs.ApartFrom.{apart-of-none, apart-of-one, apart-of-two}
-
--- ---- words of 000
-
--- the codes of x̄, of x, and of neither
-abbrev pub complemented : ℕ
-complemented = 0
-
-abbrev pub plain : ℕ
-plain = 1
-
-abbrev pub absent : ℕ
-absent = 2
-
--- "f ≡ g will mean that f and g may be different expressions, but representing the same function"
-abbrev pub Same : ℕ → List Cube → List Cube → Type 0
-Same n f g = (a : ℕ) → listValue n f a ≡ listValue n g a
-
--- ---- a rule: what the step decides of its left side, wherever its cubes stand; and both sides are the same function
-
--- a ⊕ b → 0
-pub record DropRule (n : ℕ) (a b : Cube) : Type 0 where
-  pub decided : (count i j : ℕ) → TwoPlaces count i j → dropMove n count i j a b ≡ drops
-  pub same : Same n (a ∷ b ∷ []) []
-
--- a ⊕ b → x
-pub record JoinRule (n : ℕ) (a b x : Cube) : Type 0 where
-  pub decided : (count i j : ℕ) → TwoPlaces count i j → joinMove n count i j a b ≡ joins x
-  pub same : Same n (a ∷ b ∷ []) (x ∷ [])
-
--- a → x ⊕ y, at v
-pub record SplitRule (n v : ℕ) (a x y : Cube) : Type 0 where
-  pub decided : (count cap i : ℕ) → i < count → count < cap → splitMove count cap v i a ≡ splits x y
-  pub same : Same n (a ∷ []) (x ∷ y ∷ [])
-
--- a ⊕ b → x ⊕ y, at v
-pub record TurnRule (n v : ℕ) (a b x y : Cube) : Type 0 where
-  pub decided : (count i j : ℕ) → TwoPlaces count i j → turnMove n count v i j a b ≡ turns x y
-  pub same : Same n (a ∷ b ∷ []) (x ∷ y ∷ [])
 
 -- places 0 and 1 of two
 first-two : TwoPlaces 2 0 1

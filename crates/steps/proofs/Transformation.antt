@@ -19,16 +19,9 @@ use Rattle.cube.proofs.Codes.{code-lt, code-same, code-other, put-self}
 use Rattle.orders.specs.Codes.{exchange}
 use Rattle.orders.proofs.CodeLaws.{exchange-lt}
 use Rattle.steps.specs.Steps.{exchanged}
+use Rattle.steps.specs.Rules.{Same, Transformed}
 use Rattle.steps.proofs.Linear.{all-one, moved, moved-comm, exchanged-list-twice}
 use Rattle.steps.proofs.Kept.{value-of-sum, sum-of-value}
-use Rattle.steps.proofs.Rules.{absent, Same}
-
--- definition 4.1: "obtained by deleting the literal r from any term containing it and adding it to every term containing neither r nor r̄"; r is the literal
--- of the variable v with code b
-pub record Transformed (v b : ℕ) (c d : Cube) : Type 0 where
-  pub deletes : code c v ≡ b → d ≡ put c v absent
-  pub adds : code c v ≡ absent → d ≡ put c v b
-  pub leaves : code c v ≢ b → code c v ≢ absent → d ≡ c
 
 module _ (n v b : ℕ) (hv : v < n) (hb : b < 2) where
   pub definition-4-1 : (c : Cube) → Good n c → Transformed v b c (exchanged v b c)

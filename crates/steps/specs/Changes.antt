@@ -1,4 +1,4 @@
--- What the functions of this crate promise one another: a change as a move, the places of a move, and what is done to the work buffer.
+-- Inside: what the functions of this crate promise one another. A change as a move, the places of a move, and what is done to the work buffer.
 -- Assumes nothing.
 use mathlib.Core.Path.{_≡_}
 use mathlib.Core.Bool.{cond, _&&_}
@@ -18,6 +18,7 @@ use Rattle.steps.specs.declared.StepRecord.{StepRecord}
 use Rattle.steps.specs.declared.Stepped.{Stepped}
 use Rattle.steps.specs.Moves.{Move, refuse, drops, joins, splits, turns, After, applied}
 use Rattle.steps.specs.Steps.{cubeAt, meaning, decision, step}
+use Rattle.steps.specs.Effects.{TwoPlaces}
 use Rattle.steps.specs.Calls.{stepped, workStepped}
 
 -- the move that a change is
@@ -31,12 +32,6 @@ moveOf (change-is.Turn c d) = turns c d
 -- the number that two places are refused by, 10 or 11, or 0
 unfoldable pub placesNumber : ℕ → ℕ → ℕ → ℕ
 placesNumber count i j = cond (ltb i count && ltb j count) (cond (eqb i j) 11 0) 10
-
--- two places of so many records, and not the same
-pub record TwoPlaces (count i j : ℕ) : Type 0 where
-  pub first : i < count
-  pub second : j < count
-  pub unlike : i ≡ j → ⊥
 
 -- a place of so many records, and room for one record more
 pub record OnePlace (count room i : ℕ) : Type 0 where
