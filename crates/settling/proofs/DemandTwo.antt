@@ -69,11 +69,11 @@ module _ (n : ℕ) (t : Cube) (g : Good n t) where
   module _ (x : ℕ) (hx : x < n) where
     -- (S1) x ⊕ x̄ → 1
     pub rule-S1 : JoinRule n (put t x plain) (put t x complemented) (put t x absent)
-    rule-S1 = rules.rule-S1 n t g x hx
+    rule-S1 = rules.rule-S1 n t g x hx plain (omega arith)
 
     -- (S2) x ⊕ 1 → x̄
     pub rule-S2 : JoinRule n (put t x plain) (put t x absent) (put t x complemented)
-    rule-S2 = rules.rule-S2 n t g x hx
+    rule-S2 = rules.rule-S2 n t g x hx plain (omega arith)
 
     -- (1S) 1 → x ⊕ x̄
     pub rule-1S : SplitRule n x (put t x absent) (put t x complemented) (put t x plain)
@@ -81,23 +81,23 @@ module _ (n : ℕ) (t : Cube) (g : Good n t) where
 
     -- (2S) x̄ → x ⊕ 1
     pub rule-2S : SplitRule n x (put t x complemented) (put t x plain) (put t x absent)
-    rule-2S = rules.rule-2S n t g x hx
+    rule-2S = rules.rule-2S n t g x hx plain (omega arith)
 
     module _ (y : ℕ) (hy : y < n) (xy : x ≢ y) where
       -- (S3) xy ⊕ ȳ → 1 ⊕ x̄y
       pub rule-S3 : TurnRule n x (put (put t x plain) y plain) (put (put t x absent) y complemented)
           (put (put t x complemented) y plain) (put (put t x absent) y absent)
-      rule-S3 = rules.rule-S3 n t g x hx y hy xy
+      rule-S3 = rules.rule-S3 n t g x hx plain (omega arith) y hy xy plain (omega arith)
 
       -- (S4) xy ⊕ x̄ȳ → x̄ ⊕ y
       pub rule-S4 : TurnRule n x (put (put t x plain) y plain) (put (put t x complemented) y complemented)
           (put (put t x absent) y plain) (put (put t x complemented) y absent)
-      rule-S4 = rules.rule-S4 n t g x hx y hy xy
+      rule-S4 = rules.rule-S4 n t g x hx plain (omega arith) y hy xy plain (omega arith)
 
       -- (S5) xy ⊕ x̄ȳ → x ⊕ ȳ
       pub rule-S5 : TurnRule n y (put (put t x plain) y plain) (put (put t x complemented) y complemented)
           (put (put t x plain) y absent) (put (put t x absent) y complemented)
-      rule-S5 = rules.rule-S5 n t g x hx y hy xy
+      rule-S5 = rules.rule-S5 n t g x hx plain (omega arith) y hy xy plain (omega arith)
 
 -- What a step that is done does to the list: its places and cubes are as document 01's table needs them, and the next list is the one it names.
 module _ (n cap i j : ℕ) (l m : List Cube) where

@@ -7,6 +7,7 @@ use Prim.Native.Nat.{ℕ, _-_, _<_}
 use Rattle.cube.specs.declared.Cube.{Cube}
 use Rattle.cube.specs.Cubes.{code, put}
 use Rattle.cube.specs.Lists.{listValue}
+use Rattle.orders.specs.Codes.{third}
 use Rattle.steps.specs.Moves.{drops, joins, splits, turns}
 use Rattle.steps.specs.Steps.{dropMove, joinMove, splitMove, turnMove}
 use Rattle.steps.specs.Effects.{TwoPlaces}
@@ -24,6 +25,13 @@ absent = 2
 -- "bar to denote negation": the other literal of a variable
 abbrev pub bar : ℕ → ℕ
 bar r = 1 - r
+
+-- "The third of two different codes is the remaining one of 0, 1, 2" (document 01): z is that of x and y
+pub record IsThird (x y z : ℕ) : Type 0 where
+  pub first : x < 3
+  pub second : y < 3
+  pub unlike : y ≢ x
+  pub is : third x y ≡ z
 
 -- "f ≡ g will mean that f and g may be different expressions, but representing the same function"
 abbrev pub Same : ℕ → List Cube → List Cube → Type 0
