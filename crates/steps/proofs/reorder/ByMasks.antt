@@ -40,24 +40,24 @@ pick-code f (suc (suc zero)) h = refl
 pick-code f (suc (suc (suc k))) h = absurd (omega arith)
 
 -- a bit p, changed by the sum of itself and a, the other bit q and b, and c
-abbrev turn : ℕ → ℕ → ℕ → ℕ → ℕ → ℕ
-turn p q a b c = differ (differ (differ p (min p a)) (min q b)) c
+abbrev newBit : ℕ → ℕ → ℕ → ℕ → ℕ → ℕ
+newBit p q a b c = differ (differ (differ p (min p a)) (min q b)) c
 
 -- the seen bit s and the value bit w of a code become those that its image has, computed over all bits
-turn-test : ℕ → ℕ → ℕ → ℕ → ℕ → Bool
-turn-test s w x y z =
+bits-test : ℕ → ℕ → ℕ → ℕ → ℕ → Bool
+bits-test s w x y z =
     cond (leb w s)
-    (eqb (turn s w (differ (differ 1 x) z) (differ x y) z) (pick (codeOf s w) x y z)
-    && eqb (turn w s (differ (differ 1 x) y) (differ x z) z) (pick (codeOf s w) x y z))
+    (eqb (newBit s w (differ (differ 1 x) z) (differ x y) z) (pick (codeOf s w) x y z)
+    && eqb (newBit w s (differ (differ 1 x) y) (differ x z) z) (pick (codeOf s w) x y z))
     true
 
 module _ (s w x y z : ℕ) (hs : s < 2) (l : w ≤ s) (hx : x < 2) (hy : y < 2) (hz : z < 2) where
-  tested : (turn s w (differ (differ 1 x) z) (differ x y) z ≡ pick (codeOf s w) x y z) × (turn w s (differ (differ 1 x) y) (differ x z) z ≡ pick (codeOf s w) x y z)
-  unfolding pick turn-test
+  tested : (newBit s w (differ (differ 1 x) z) (differ x y) z ≡ pick (codeOf s w) x y z) × (newBit w s (differ (differ 1 x) y) (differ x z) z ≡ pick (codeOf s w) x y z)
+  unfolding pick bits-test
   tested =
-      let t : turn-test s w x y z ≡ true =
-      all-at₃ 2 2 2 (turn-test s w)
-      (all-at₂ 2 2 (λ s w. allBelow 2 (λ x. allBelow 2 (λ y. allBelow 2 (turn-test s w x y)))) refl s w hs (omega arith)) x y z hx hy hz in
+      let t : bits-test s w x y z ≡ true =
+      all-at₃ 2 2 2 (bits-test s w)
+      (all-at₂ 2 2 (λ s w. allBelow 2 (λ x. allBelow 2 (λ y. allBelow 2 (bits-test s w x y)))) refl s w hs (omega arith)) x y z hx hy hz in
       let both = both-true _ _ (rw (le-leb w s l) at t) in
       (eqb-true _ _ (both .0), eqb-true _ _ (both .1))
 
@@ -75,7 +75,7 @@ changed-through h and xor x a y b c =
     ∙ ap (λ (t : ℕ). bitXor t (h c))
     (xor (bitXor x (bitAnd x a)) (bitAnd y b) ∙ ap₂ bitXor (xor x (bitAnd x a) ∙ ap (bitXor (h x)) (and x a)) (and y b))
 
-changed-bit : (x a y b c k : ℕ) → bit (changed x a y b c) k ≡ turn (bit x k) (bit y k) (bit a k) (bit b k) (bit c k)
+changed-bit : (x a y b c k : ℕ) → bit (changed x a y b c) k ≡ newBit (bit x k) (bit y k) (bit a k) (bit b k) (bit c k)
 changed-bit x a y b c k =
     bit-xor (bitXor (bitXor x (bitAnd x a)) (bitAnd y b)) c k
     ∙ ap (λ (t : ℕ). differ t (bit c k))
@@ -102,17 +102,17 @@ module _ (v : ℕ) where
       (λ k d. bit-xor (flag a) (flag b) k ∙ ap₂ differ (flag-other a k ha d) (flag-other b k hb d) ∙ sym (bit-high 0 0 k (lit< tt) zero-le))
 
   -- masks of bit v alone change that bit alone
-  changed-flags : (x y a b c : ℕ) → a < 2 → b < 2 → c < 2 → changed x (flag a) y (flag b) (flag c) ≡ withBit x v (turn (bit x v) (bit y v) a b c)
+  changed-flags : (x y a b c : ℕ) → a < 2 → b < 2 → c < 2 → changed x (flag a) y (flag b) (flag c) ≡ withBit x v (newBit (bit x v) (bit y v) a b c)
   changed-flags x y a b c ha hb hc =
       is-with x v (bit z v) z (bit-lt z v) refl
       (λ k d.
       changed-bit x (flag a) y (flag b) (flag c) k
-      ∙ (λ t. turn (bit x k) (bit y k) (flag-other a k ha d t) (flag-other b k hb d t) (flag-other c k hc d t))
+      ∙ (λ t. newBit (bit x k) (bit y k) (flag-other a k ha d t) (flag-other b k hb d t) (flag-other c k hc d t))
       ∙ (λ t. differ (differ (differ (bit x k) (min-zero (bit x k) t)) (min-zero (bit y k) t)) 0)
       ∙ differ-zero (differ (differ (bit x k) 0) 0) ∙ differ-zero (differ (bit x k) 0) ∙ differ-zero (bit x k))
       ∙ ap (withBit x v)
       (changed-bit x (flag a) y (flag b) (flag c) v
-      ∙ (λ t. turn (bit x v) (bit y v) (flag-same a ha t) (flag-same b hb t) (flag-same c hc t)))
+      ∙ (λ t. newBit (bit x v) (bit y v) (flag-same a ha t) (flag-same b hb t) (flag-same c hc t)))
     where
       z : ℕ
       z = changed x (flag a) y (flag b) (flag c)
@@ -158,7 +158,7 @@ module _ (v : ℕ) (l : v < mostVariables) where
 
     half-changed : (p q s w own other always : ℕ) → h p ≡ s → h q ≡ w
         → h own ≡ bitXor (bitXor (2 ^ v) (i 0)) (i k) % wordSize → h other ≡ bitXor (i 0) (i j) % wordSize → h always ≡ i 2 % wordSize
-        → h (changed p own q other always) ≡ withBit s v (turn (bit s v) (bit w v) (differ (differ 1 (f 0)) (f k)) (differ (f 0) (f j)) (f 2))
+        → h (changed p own q other always) ≡ withBit s v (newBit (bit s v) (bit w v) (differ (differ 1 (f 0)) (f k)) (differ (f 0) (f j)) (f 2))
     half-changed p q s w own other always ep eq eo et ea =
         let eo₁ : h own ≡ flag v (differ (differ 1 (f 0)) (f k)) = eo ∙ half-flag _ _ own-lt (same-flags _ _ _ _ (f-lt 0) (f-lt k) (flags 0) (flags k)) in
         let et₁ : h other ≡ flag v (differ (f 0) (f j)) = et ∙ half-flag _ _ other-lt (differ-flags _ _ _ _ (f-lt 0) (f-lt j) (flags 0) (flags j)) in
