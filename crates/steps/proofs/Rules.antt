@@ -3,7 +3,7 @@
 use mathlib.Core.Path.{_≡_, refl, sym, ap, ap₂, _∙_, subst}
 use mathlib.Core.Logic.{_≢_, _⊎_, inl, inr}
 use mathlib.Core.List.{List, [], _∷_}
-use Prim.Native.Nat.{ℕ, zero, suc, _<_}
+use Prim.Native.Nat.{ℕ, zero, suc, _<_, zero-le}
 use native.Mathlib.Decide.{decLt}
 use native.Mathlib.Omega.{arith}
 use borrow.Author.Tests.{lt-ltb}
@@ -20,7 +20,7 @@ use Rattle.steps.specs.Effects.{TwoPlaces, IsRewrite}
 use Rattle.steps.specs.Rules.{complemented, plain, absent, bar, IsThird, Same, DropRule, JoinRule, SplitRule, TurnRule}
 use Rattle.steps.proofs.Inversion.{two-passed, turned-made}
 use Rattle.steps.proofs.Kept.{rewrite-value}
-use Rattle.steps.proofs.ApartFrom.{apart-of-none, apart-of-one, apart-of-two}
+use Rattle.steps.proofs.ApartFrom.{apart-of}
 
 -- ---- the steps' rules, over any product and any codes: each keeps the function, because the step does on the list of its left side
 
@@ -41,7 +41,7 @@ module _ (n : ℕ) (t : Cube) (g : Good n t) where
   }
     where
       decided : (count i j : ℕ) → TwoPlaces count i j → dropMove n count i j t t ≡ drops
-      decided count i j p = two-passed count i j (dropped (apart n t t)) p ∙ ap dropped (apart-of-none n t t (λ k h. refl))
+      decided count i j p = two-passed count i j (dropped (apart n t t)) p ∙ ap dropped (apart-of n t t [] (tt {0}) (tt {0}) (λ k h f. refl))
 
   module _ (v : ℕ) (hv : v < n) where
     -- xt ⊕ yt → zt, where z is the third of x and y
@@ -68,7 +68,7 @@ module _ (n : ℕ) (t : Cube) (g : Good n t) where
         decided : (count i j : ℕ) → TwoPlaces count i j → joinMove n count i j a b ≡ joins (put t v z)
         decided count i j p =
             two-passed count i j (joined a b (apart n a b)) p
-            ∙ ap (joined a b) (apart-of-one n a b v hv (λ e. h .unlike (sym at-y ∙ e ∙ at-x)) (λ k hk f. code-other t v x k f ∙ sym (code-other t v y k f)))
+            ∙ ap (joined a b) (apart-of n a b (v ∷ []) (zero-le, hv, tt {0}) ((λ e. h .unlike (sym at-y ∙ e ∙ at-x)), tt {0}) (λ k hk f. code-other t v x k (f .0) ∙ sym (code-other t v y k (f .0))))
             ∙ ap joins (put-put t v x (third (code a v) (code b v)) ∙ ap (put t v) (ap₂ third at-x at-y ∙ h .is))
 
     -- xt → yt ⊕ zt, where y and z are the lower and the higher of the codes that are not x
@@ -133,8 +133,8 @@ module _ (n : ℕ) (t : Cube) (g : Good n t) where
 
         differ : (apart n a b ≡ v ∷ u ∷ []) ⊎ (apart n a b ≡ u ∷ v ∷ [])
         differ = elim (decLt v u) [
-          | yes l ↦ inl (apart-of-two n a b v u l hu unlike-v unlike-u (λ i hi p q. elsewhere i p q))
-          | no l ↦ inr (apart-of-two n a b u v (omega arith) hv unlike-u unlike-v (λ i hi p q. elsewhere i q p))
+          | yes l ↦ inl (apart-of n a b (v ∷ u ∷ []) (zero-le, hv, (l, hu, tt {0})) (unlike-v, (unlike-u, tt {0})) (λ i hi f. elsewhere i (f .0) (f .1 .0)))
+          | no l ↦ inr (apart-of n a b (u ∷ v ∷ []) (zero-le, hu, (omega arith, hv, tt {0})) (unlike-u, (unlike-v, tt {0})) (λ i hi f. elsewhere i (f .1 .0) (f .0)))
         ]
 
         decided : (count i j : ℕ) → TwoPlaces count i j → turnMove n count v i j a b ≡ turns (both z y) (both x′ w)
