@@ -115,23 +115,19 @@ step n cap (L v b) l = next (map (exchanged v b) l)
 
 -- ---- the kind of a step: 1 for a split, a join, a drop
 
-abbrev pub isSplit : Step → ℕ
-isSplit (drop i j) = 0
-isSplit (join i j) = 0
-isSplit (split v i) = 1
-isSplit (turn v i j) = 0
-isSplit (L v b) = 0
-
-abbrev pub isJoin : Step → ℕ
-isJoin (drop i j) = 0
-isJoin (join i j) = 1
-isJoin (split v i) = 0
-isJoin (turn v i j) = 0
-isJoin (L v b) = 0
+-- a number for each kind: drop, join, split, turn, L
+abbrev pub byKind : ℕ → ℕ → ℕ → ℕ → ℕ → Step → ℕ
+byKind a b c d e (drop i j) = a
+byKind a b c d e (join i j) = b
+byKind a b c d e (split v i) = c
+byKind a b c d e (turn v i j) = d
+byKind a b c d e (L v x) = e
 
 abbrev pub isDrop : Step → ℕ
-isDrop (drop i j) = 1
-isDrop (join i j) = 0
-isDrop (split v i) = 0
-isDrop (turn v i j) = 0
-isDrop (L v b) = 0
+isDrop x = byKind 1 0 0 0 0 x
+
+abbrev pub isJoin : Step → ℕ
+isJoin x = byKind 0 1 0 0 0 x
+
+abbrev pub isSplit : Step → ℕ
+isSplit x = byKind 0 0 1 0 0 x
