@@ -25,7 +25,7 @@ use Rattle.orders.specs.Codes.{third, thirdOf, lower, higher}
 use Rattle.orders.proofs.CodeLaws.{third-of-codes}
 use Rattle.steps.specs.declared.Change.the-variants as change-is
 use Rattle.steps.specs.Moves.{Move, refuse, drops, joins, splits, turns}
-use Rattle.steps.specs.Steps.{thirdAt, twoPlaces, dropped, dropMove, joined, joinMove, splitMove, turned, turnMove}
+use Rattle.steps.specs.Steps.{thirdAt, atTwoPlaces, dropped, dropMove, joined, joinMove, splitMove, turned, turnMove}
 use Rattle.steps.specs.Changes.{moveOf, placesNumber}
 use Rattle.steps.proofs.Places.{two-tests}
 
@@ -58,13 +58,13 @@ module _ (count i j : ℕ) where
   places-fine hi hj ne = simp (lt-ltb i count hi, lt-ltb j count hj, ne-eqb i j ne)
 
   module _ {A : Type 0} (p : ℕ) (e : p ≡ placesNumber count i j) (m : Move A) where
-    pub number-refused : (p ≡ 0 → ⊥) → refuse p ≡ twoPlaces count i j m
+    pub number-refused : (p ≡ 0 → ⊥) → refuse p ≡ atTwoPlaces count i j m
     unfolding placesNumber
     number-refused ne =
         two-tests count i j (λ t u. p ≡ cond t (cond u 11 0) 10 → refuse p ≡ cond t (cond u (refuse 11) m) (refuse 10))
         (λ u h q. ap refuse q) (λ h f q. ap refuse q) (λ two q. absurd (ne q)) e
 
-    pub number-passed : p ≡ 0 → m ≡ twoPlaces count i j m
+    pub number-passed : p ≡ 0 → m ≡ atTwoPlaces count i j m
     unfolding placesNumber
     number-passed z =
         two-tests count i j (λ t u. _≡_ {A = ℕ} 0 (cond t (cond u 11 0) 10) → m ≡ cond t (cond u (refuse 11) m) (refuse 10))
@@ -154,7 +154,7 @@ module _ (n count i j p : ℕ) (a b : Cube) (e : p ≡ placesNumber count i j) w
   turn-places v ne = number-refused count i j p e (turned a b v (apart n a b)) ne
 
   module _ (z : p ≡ 0) (g : Good n a) (h : Good n b) (s : ℕ) (es : s ≡ differing a b) where
-    passed : {m r : Move Cube} → r ≡ m → r ≡ twoPlaces count i j m
+    passed : {m r : Move Cube} → r ≡ m → r ≡ atTwoPlaces count i j m
     passed {m} {r} f = f ∙ number-passed count i j p e m z
 
     many : (l : List ℕ) → apart n a b ≡ l → length l ≡ ones s

@@ -17,7 +17,7 @@ use Rattle.cube.proofs.Apart.{apart-none, Two, apart-two, two-swap}
 use Rattle.cube.proofs.ListLaws.{good-at}
 use Rattle.orders.specs.Codes.{lower, higher}
 use Rattle.steps.specs.Moves.{Move, refuse, drops, joins, splits, turns, stop, next, applied, dropAt, joinAt, splitAt, turnAt}
-use Rattle.steps.specs.Steps.{Step, drop, join, split, turn, L, cubeAt, thirdAt, twoPlaces, dropped, dropMove, joined, joinMove, splitMove, turned, turnMove, exchanged, step}
+use Rattle.steps.specs.Steps.{Step, drop, join, split, turn, L, cubeAt, thirdAt, atTwoPlaces, dropped, dropMove, joined, joinMove, splitMove, turned, turnMove, exchanged, step}
 use Rattle.steps.specs.Effects.{TwoPlaces, DropDone, JoinDone, SplitDone, TurnDone, TwoRefused, outside, same, unfit, SplitRefused, full}
 use Rattle.steps.specs.Changes.{OnePlace}
 use Rattle.steps.proofs.Places.{two-tests, one-tests}
@@ -36,11 +36,11 @@ head-same e = cc
 
 module _ (count i j : ℕ) where
   -- two places pass their tests
-  pub two-passed : {A : Type 0} (x : Move A) → TwoPlaces count i j → twoPlaces count i j x ≡ x
+  pub two-passed : {A : Type 0} (x : Move A) → TwoPlaces count i j → atTwoPlaces count i j x ≡ x
   two-passed x p = simp (lt-ltb i count (p .first), lt-ltb j count (p .second), ne-eqb i j (p .unlike))
 
   pub two-by : {A : Type 0} (P : Move A → Type 0) (Unfit : Type 0) (x : Move A)
-      → ((r : ℕ) → TwoRefused count i j Unfit r → P (refuse r)) → (TwoPlaces count i j → P x) → P (twoPlaces count i j x)
+      → ((r : ℕ) → TwoRefused count i j Unfit r → P (refuse r)) → (TwoPlaces count i j → P x) → P (atTwoPlaces count i j x)
   two-by P U x stops goes =
       two-tests count i j (λ s t. P (cond s (cond t (refuse 11) x) (refuse 10))) (λ u h. stops 10 (outside h)) (λ h e. stops 11 (same h e)) goes
 

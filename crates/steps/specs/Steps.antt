@@ -50,8 +50,8 @@ thirdAt c d v = put c v (third (code c v) (code d v))
 -- ---- decisions: from the count, the places and the cubes as they stand
 
 -- 10: "a used i or j not below the present count"; 11: "i equals j in a step with two cubes"
-abbrev pub twoPlaces : {A : Type 0} → ℕ → ℕ → ℕ → Move A → Move A
-twoPlaces count i j m = cond (ltb i count && ltb j count) (cond (eqb i j) (refuse 11) m) (refuse 10)
+abbrev pub atTwoPlaces : {A : Type 0} → ℕ → ℕ → ℕ → Move A → Move A
+atTwoPlaces count i j m = cond (ltb i count && ltb j count) (cond (eqb i j) (refuse 11) m) (refuse 10)
 
 -- drop needs "equal cubes": by the variables in which they differ
 abbrev pub dropped : List ℕ → Move Cube
@@ -59,7 +59,7 @@ dropped [] = drops
 dropped (v ∷ vs) = refuse 12
 
 unfoldable pub dropMove : ℕ → ℕ → ℕ → ℕ → Cube → Cube → Move Cube
-dropMove n count i j a b = twoPlaces count i j (dropped (apart n a b))
+dropMove n count i j a b = atTwoPlaces count i j (dropped (apart n a b))
 
 -- join needs cubes that "differ in exactly one variable": "i gets the third there"
 abbrev pub joined : Cube → Cube → List ℕ → Move Cube
@@ -68,7 +68,7 @@ joined a b (v ∷ []) = joins (thirdAt a b v)
 joined a b (v ∷ u ∷ vs) = refuse 12
 
 unfoldable pub joinMove : ℕ → ℕ → ℕ → ℕ → Cube → Cube → Move Cube
-joinMove n count i j a b = twoPlaces count i j (joined a b (apart n a b))
+joinMove n count i j a b = atTwoPlaces count i j (joined a b (apart n a b))
 
 -- split: 10, then 13: "split with the count at capacity"
 unfoldable pub splitMove : ℕ → ℕ → ℕ → ℕ → Cube → Move Cube
@@ -84,7 +84,7 @@ turned a b v (p ∷ q ∷ []) =
 turned a b v (p ∷ q ∷ r ∷ vs) = refuse 12
 
 unfoldable pub turnMove : ℕ → ℕ → ℕ → ℕ → ℕ → Cube → Cube → Move Cube
-turnMove n count v i j a b = twoPlaces count i j (turned a b v (apart n a b))
+turnMove n count v i j a b = atTwoPlaces count i j (turned a b v (apart n a b))
 
 -- what is decided of a step, from the count and the cubes at its places; an L step decides nothing
 unfoldable pub decision : ℕ → ℕ → ℕ → Step → Cube → Cube → Move Cube
