@@ -18,7 +18,7 @@ use Rattle.records.proofs.WordLaws.{word-back, word-low, word-high}
 use Rattle.records.proofs.Images.{length-flat, image-get, flat-listBelow}
 use Rattle.records.proofs.Holding.{Lawful, holds-records}
 use Rattle.steps.specs.declared.StepRecord.{StepRecord}
-use Rattle.steps.specs.Steps.{Step, drop, join, split, turn, L, Fits, meaning}
+use Rattle.steps.specs.Steps.{Step, drop, join, split, turn, L, Allowed, meaning}
 use Rattle.script.specs.Scripts.{stepWidth, stepRecords, known, usesV, usesI, usesJ, usesLiteral, field, fits, recordOf, stepsOf}
 
 -- ---- steps and their records
@@ -64,7 +64,7 @@ same-record r s a b c d e f = λ k. record { op = a k; v = b k; i = c k; j = d k
 -- a record that is not refused is the record of its step, and its step fits
 record Meant (n : ℕ) (r : StepRecord) : Type 0 where
   same : recordOf (meaning r) ≡ r
-  fit : Fits n (meaning r)
+  fit : Allowed n (meaning r)
 
 known-le : (op : ℕ) → known op ≡ true → op ≤ 5
 known-le op e = leb-true op 5 (both-true (leb 1 op) (leb op 5) e .1)
@@ -99,11 +99,11 @@ module _ (n : ℕ) (r : StepRecord) (e : fits n r ≡ true) where
   record-meaning = parted .same
 
   -- and its step fits
-  pub meaning-fits : Fits n (meaning r)
+  pub meaning-fits : Allowed n (meaning r)
   meaning-fits = parted .fit
 
 -- the record of a step that fits is not refused
-pub fits-record : (n : ℕ) (s : Step) → Fits n s → fits n (recordOf s) ≡ true
+pub fits-record : (n : ℕ) (s : Step) → Allowed n s → fits n (recordOf s) ≡ true
 unfolding recordOf fits
 fits-record n (drop i j) h = refl
 fits-record n (join i j) h = refl
@@ -195,6 +195,6 @@ script-written n b bytes e a =
     ap (flat (stepRecords .enc)) (map-back (λ r. fits n r ≡ true) meaning recordOf (record-meaning n) (listOf stepRecords b) a) ∙ bytes-of-records b bytes e
 
 -- the steps of a script that is not refused fit
-pub script-fits : (n : ℕ) (b : List ℕ) → All (λ r. fits n r ≡ true) (listOf stepRecords b) → All (Fits n) (stepsOf b)
+pub script-fits : (n : ℕ) (b : List ℕ) → All (λ r. fits n r ≡ true) (listOf stepRecords b) → All (Allowed n) (stepsOf b)
 unfolding stepsOf
-script-fits n b a = all-map (λ r. fits n r ≡ true) (Fits n) meaning (meaning-fits n) (listOf stepRecords b) a
+script-fits n b a = all-map (λ r. fits n r ≡ true) (Allowed n) meaning (meaning-fits n) (listOf stepRecords b) a

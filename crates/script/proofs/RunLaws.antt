@@ -23,7 +23,7 @@ use Rattle.cube.specs.Calls.{checkList}
 use Rattle.cube.proofs.ListLaws.{lawful, Accepted, check-accepts, cubes-bytes, all-good-more}
 use Rattle.orders.specs.Orders.{orderCount, noOrder, follow, letterOrder}
 use Rattle.steps.specs.declared.StepRecord.{StepRecord}
-use Rattle.steps.specs.Steps.{Step, meaning, meaningBy, Fits, step}
+use Rattle.steps.specs.Steps.{Step, meaning, meaningBy, Allowed, step}
 use Rattle.steps.specs.Calls.{Ready}
 use Rattle.script.specs.declared.Finished.{Finished}
 use Rattle.script.specs.declared.Finished.the-variants as finished-is
@@ -232,7 +232,7 @@ module _ (n : ℕ) (list script work : List ℕ) (p : Passed (checkRun n list sc
             subst (λ (y : List ℕ). Holds cubes y (t .list-last)) (sym image-is) (image-holds cubes lawful (length work) (t .list-last) fits-in) in
             ap (λ (k : ℕ). records cubes k w₂) (t .many) ∙ holds-records cubes lawful w₂ (t .list-last) holds
 
-        step-fit-here : All (Fits n) xs
+        step-fit-here : All (Allowed n) xs
         unfolding xs
         step-fit-here = script-fits n script (ok .script-is .fit)
 

@@ -12,7 +12,7 @@ use Rattle.cube.specs.declared.Cube.{Cube}
 use Rattle.cube.specs.Cubes.{Good, holds}
 use Rattle.cube.specs.Lists.{listValue}
 use Rattle.steps.specs.Moves.{After, stop, next}
-use Rattle.steps.specs.Steps.{Step, Fits, step}
+use Rattle.steps.specs.Steps.{Step, Allowed, step}
 use Rattle.steps.proofs.Linear.{Linear, holds-linear}
 use Rattle.steps.proofs.Kept.{takenBack, taken-back-good, taken-back-linear, step-kept, value-of-sum}
 use Rattle.script.specs.Run.{ended, stepsFrom, unstep, run}
@@ -39,7 +39,7 @@ run-finished n cap xs l m peak e = finished-by (step n cap) unstep xs l m peak e
 
 -- ---- good lists stay good, and every linear weight keeps its sum, up to the undoing
 
-pub steps-keeping : (n cap : ℕ) → Keeping (step n cap) unstep takenBack (Good n) (Linear n) (Fits n)
+pub steps-keeping : (n cap : ℕ) → Keeping (step n cap) unstep takenBack (Good n) (Linear n) (Allowed n)
 steps-keeping n cap = record {
   undone = unstep-map;
   good = taken-back-good n;
@@ -50,17 +50,17 @@ steps-keeping n cap = record {
 abbrev pub Ends : (n : ℕ) (xs : List Step) (l m : List Cube) → Type 0
 Ends n xs l m = KeptBy (undone xs) (Good n) (Linear n) l m
 
-pub steps-end : (n cap s peak : ℕ) (xs : List Step) (l m : List Cube) (p : ℕ) → All (Fits n) xs → All (Good n) l
+pub steps-end : (n cap s peak : ℕ) (xs : List Step) (l m : List Cube) (p : ℕ) → All (Allowed n) xs → All (Good n) l
     → stepsFrom (step n cap) s peak xs l ≡ ended m p → Ends n xs l m
-steps-end n cap s peak xs l m p h a e = steps-end-by (step n cap) unstep takenBack (Good n) (Linear n) (Fits n) (steps-keeping n cap) s peak xs l m p h a e
+steps-end n cap s peak xs l m p h a e = steps-end-by (step n cap) unstep takenBack (Good n) (Linear n) (Allowed n) (steps-keeping n cap) s peak xs l m p h a e
 
 -- ---- a whole run
 
-module _ (n cap : ℕ) (xs : List Step) (fits : All (Fits n) xs) (l : List Cube) (good : All (Good n) l) (m : List Cube) (peak : ℕ)
+module _ (n cap : ℕ) (xs : List Step) (fits : All (Allowed n) xs) (l : List Cube) (good : All (Good n) l) (m : List Cube) (peak : ℕ)
     (ran : run n cap xs l ≡ ended m peak) where
   whole : KeptBy (λ c. c) (Good n) (Linear n) l m
   unfolding run
-  whole = run-by-kept (step n cap) unstep takenBack (Good n) (Linear n) (Fits n) (steps-keeping n cap) xs l m peak fits good ran
+  whole = run-by-kept (step n cap) unstep takenBack (Good n) (Linear n) (Allowed n) (steps-keeping n cap) xs l m peak fits good ran
 
   -- the list after the undoing is good
   pub run-good : All (Good n) m

@@ -22,7 +22,7 @@ use Rattle.cube.specs.declared.Cube.{Cube}
 use Rattle.cube.specs.Lists.{mostVariables, cubes, cubesOf, cubeCapacity}
 use Rattle.cube.specs.Calls.{checkList}
 use Rattle.cube.proofs.ListLaws.{Accepted, check-accepts}
-use Rattle.steps.specs.Steps.{Fits, meaning}
+use Rattle.steps.specs.Steps.{Allowed, meaning}
 use Rattle.script.specs.Run.{Ran, stopped, ended}
 use Rattle.script.specs.Scripts.{stepRecords, fits, stepsOf}
 use Rattle.script.specs.Calls.{checkScript, runOf}
@@ -50,7 +50,7 @@ pub record Passing (n : ℕ) (list script : List ℕ) (work out : ℕ) : Type 0 
   pub work-room : length (cubesOf list) ≤ cubeCapacity work
   pub out-room : length (cubesOf list) ≤ cubeCapacity out
   pub script-is : AcceptedScript n script
-  pub fit : All (Fits n) (stepsOf script)
+  pub fit : All (Allowed n) (stepsOf script)
 
 pub passing : (n : ℕ) (list script : List ℕ) (work out : ℕ) (v : List ℕ) → checkSettle n list script work out ≡ accepted v → Passing n list script work out
 unfolding checkSettle stepsOf
@@ -64,7 +64,7 @@ passing n list script work out v e =
       work-room = leb-true _ _ (c .0);
       out-room = leb-true _ _ (d .0);
       script-is = s;
-      fit = all-map (λ r. fits n r ≡ true) (Fits n) meaning (meaning-fits n) (listOf stepRecords script) (s .fit);
+      fit = all-map (λ r. fits n r ≡ true) (Allowed n) meaning (meaning-fits n) (listOf stepRecords script) (s .fit);
     }
 
 -- ---- an accepted call

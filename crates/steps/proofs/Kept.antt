@@ -14,7 +14,7 @@ use Rattle.cube.specs.Cubes.{one, Good, holds}
 use Rattle.cube.specs.Lists.{trues, listValue}
 use Rattle.cube.proofs.ListLaws.{good-at}
 use Rattle.steps.specs.Moves.{Move, drops, joins, splits, turns, next, applied}
-use Rattle.steps.specs.Steps.{Step, drop, join, split, turn, L, Fits, cubeAt, thirdAt, exchanged, step, isSplit, isJoin, isDrop}
+use Rattle.steps.specs.Steps.{Step, drop, join, split, turn, L, Allowed, cubeAt, thirdAt, exchanged, step, isSplit, isJoin, isDrop}
 use Rattle.steps.specs.Effects.{IsRewrite}
 use Rattle.steps.specs.Changes.{Placed}
 use Rattle.steps.proofs.Linear.{Linear, holds-linear, exchanged-good, exchanged-linear, exchanged-list-twice}
@@ -31,14 +31,14 @@ takenBack (split v i) c = c
 takenBack (turn v i j) c = c
 takenBack (L v b) c = exchanged v b c
 
-pub taken-back-good : (n : ℕ) (x : Step) → Fits n x → (c : Cube) → Good n c → Good n (takenBack x c)
+pub taken-back-good : (n : ℕ) (x : Step) → Allowed n x → (c : Cube) → Good n c → Good n (takenBack x c)
 taken-back-good n (drop i j) h c g = g
 taken-back-good n (join i j) h c g = g
 taken-back-good n (split v i) h c g = g
 taken-back-good n (turn v i j) h c g = g
 taken-back-good n (L v b) h c g = exchanged-good n v b (h .0) (h .1) c g
 
-pub taken-back-linear : (n : ℕ) (x : Step) → Fits n x → (w : Cube → Bool) → Linear n w → Linear n (λ c. w (takenBack x c))
+pub taken-back-linear : (n : ℕ) (x : Step) → Allowed n x → (w : Cube → Bool) → Linear n w → Linear n (λ c. w (takenBack x c))
 taken-back-linear n (drop i j) h w lin = lin
 taken-back-linear n (join i j) h w lin = lin
 taken-back-linear n (split v i) h w lin = lin
@@ -69,7 +69,7 @@ step-count n cap (turn v i j) l m e =
 step-count n cap (L v b) l m e = omega (arith, ap length (next-same e), length-map l (exchanged v b))
 
 module _ (n cap : ℕ) (l m : List Cube) (a : All (Good n) l) where
-  pub step-kept : (x : Step) → Fits n x → step n cap x l ≡ next m → Kept n x l m
+  pub step-kept : (x : Step) → Allowed n x → step n cap x l ≡ next m → Kept n x l m
   unfolding step
   step-kept (drop i j) h e =
       let t = sound-made (Good n) (Linear n) one l m cap i j _ (drop-sound n (length l) cap i j (cubeAt l i) (cubeAt l j) (good-at n l a i) (good-at n l a j)) a e in
@@ -104,7 +104,7 @@ unfolding listValue trues
 sum-of-value n l m a e = one-injective _ _ (sym (tally-sum (λ c. holds n c a) m) ∙ e ∙ tally-sum (λ c. holds n c a) l)
 
 -- a rewrite keeps the function
-pub rewrite-value : (n cap : ℕ) (x : Step) → IsRewrite x → Fits n x → (l m : List Cube) → All (Good n) l → step n cap x l ≡ next m
+pub rewrite-value : (n cap : ℕ) (x : Step) → IsRewrite x → Allowed n x → (l m : List Cube) → All (Good n) l → step n cap x l ≡ next m
     → (a : ℕ) → listValue n m a ≡ listValue n l a
 rewrite-value n cap x r h l m g e a = value-of-sum n l m a (go x r (step-kept n cap l m g x h e .sums (λ c. holds n c a) (holds-linear n a)))
   where

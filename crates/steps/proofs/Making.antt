@@ -11,7 +11,7 @@ use Rattle.cube.specs.Lists.{mostVariables}
 use Rattle.steps.specs.declared.Change.{Change}
 use Rattle.steps.specs.declared.StepRecord.{StepRecord}
 use Rattle.steps.specs.Moves.{Move, applied}
-use Rattle.steps.specs.Steps.{Step, Fits, meaning, meaningBy, cubeAt, dropMove, joinMove, splitMove, turnMove, step, decision}
+use Rattle.steps.specs.Steps.{Step, Allowed, meaning, meaningBy, cubeAt, dropMove, joinMove, splitMove, turnMove, step, decision}
 use Rattle.steps.specs.Calls.{Known}
 use Rattle.steps.specs.Changes.{moveOf, Placed, Writes, Decided}
 use Rattle.steps.proofs.Inversion.{split-by}
@@ -24,8 +24,8 @@ module _ (x : StepRecord) where
   unfolding meaning
   means op e = ap (λ (k : ℕ). meaningBy k x) e
 
-  pub means-fits : (n op : ℕ) → x .op ≡ op → Known n x → Fits n (meaningBy op x)
-  means-fits n op e k = subst (Fits n) (means op e) (k .fits)
+  pub means-fits : (n op : ℕ) → x .op ≡ op → Known n x → Allowed n (meaningBy op x)
+  means-fits n op e k = subst (Allowed n) (means op e) (k .fits)
 
   -- a used variable is one of the masks' variables
   pub split-below : (n : ℕ) → Known n x → n ≤ mostVariables → x .op ≡ 3 → x .v < 32

@@ -15,7 +15,7 @@ use Rattle.cube.proofs.Codes.{code-same, code-other, put-put, put-comm, put-goo
 use Rattle.orders.specs.Codes.{third, lower, higher}
 use Rattle.orders.proofs.CodeLaws.{third-comm}
 use Rattle.steps.specs.Moves.{joins, splits, turns, drops, dropAt, joinAt, splitAt, turnAt, next, applied}
-use Rattle.steps.specs.Steps.{Step, drop, join, split, turn, Fits, dropped, dropMove, joined, joinMove, splitMove, turned, turnMove, step}
+use Rattle.steps.specs.Steps.{Step, drop, join, split, turn, Allowed, dropped, dropMove, joined, joinMove, splitMove, turned, turnMove, step}
 use Rattle.steps.specs.Effects.{TwoPlaces, IsRewrite}
 use Rattle.steps.specs.Rules.{complemented, plain, absent, bar, IsThird, Same, DropRule, JoinRule, SplitRule, TurnRule}
 use Rattle.steps.proofs.Inversion.{two-passed, turned-made}
@@ -24,7 +24,7 @@ use Rattle.steps.proofs.ApartFrom.{apart-of}
 
 -- ---- the steps' rules, over any product and any codes: each keeps the function, because the step does on the list of its left side
 
-sides : (n : ℕ) (x : Step) → IsRewrite x → Fits n x → (l m : List Cube) → All (Good n) l → step n 2 x l ≡ next m → Same n l m
+sides : (n : ℕ) (x : Step) → IsRewrite x → Allowed n x → (l m : List Cube) → All (Good n) l → step n 2 x l ≡ next m → Same n l m
 sides n x r h l m g e t = sym (rewrite-value n 2 x r h l m g e t)
 
 -- places 0 and 1 of two

@@ -22,7 +22,7 @@ use Rattle.steps.specs.declared.StepRecord.{StepRecord}
 use Rattle.steps.specs.declared.Stepped.{Stepped}
 use Rattle.steps.specs.declared.Stepped.the-variants as stepped-is
 use Rattle.steps.specs.Moves.{Move, refuse, drops, joins, splits, turns, After, next, applied}
-use Rattle.steps.specs.Steps.{Step, drop, join, split, turn, L, Fits, meaning, exchanged, reordered, step}
+use Rattle.steps.specs.Steps.{Step, drop, join, split, turn, L, Allowed, meaning, exchanged, reordered, step}
 use Rattle.steps.specs.Calls.{Ready, Known, workStepped}
 use Rattle.steps.specs.Changes.{moveOf, Placed, Writes, Narrow, Decided, Done}
 use Rattle.steps.proofs.Inversion.{split-accepted}
@@ -134,7 +134,7 @@ module _ (n count cap : ℕ) (b b′ : List ℕ) (x : Step) (m : List Cube) (rea
   step-long = ap length step-image ∙ length-image (cubes .enc) recordWidth (lawful .len) (length b) m step-room
 
   -- and it is ready for the next step
-  pub ready-onward : Fits n x → Ready n (length m) cap b′
+  pub ready-onward : Allowed n x → Ready n (length m) cap b′
   ready-onward fits = record {
     held = holds-held cubes lawful b′ m step-holds;
     good = subst (All (Good n)) (sym step-records) (step-kept n cap (records cubes count b) m (ready .good) x fits e .good);

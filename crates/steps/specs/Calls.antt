@@ -12,7 +12,7 @@ use Rattle.steps.specs.declared.StepRecord.{StepRecord}
 use Rattle.steps.specs.declared.Stepped.{Stepped}
 use Rattle.steps.specs.declared.Stepped.the-variants as stepped-is
 use Rattle.steps.specs.Moves.{After, stop, next}
-use Rattle.steps.specs.Steps.{Fits, meaning}
+use Rattle.steps.specs.Steps.{Allowed, meaning}
 
 -- the work buffer holds `count` good cubes over n variables, zeros after them, and has room for cap
 pub record Ready (n count cap : ℕ) (work : List ℕ) : Type 0 where
@@ -25,7 +25,7 @@ pub record Ready (n count cap : ℕ) (work : List ℕ) : Type 0 where
 pub record Known (n : ℕ) (x : StepRecord) : Type 0 where
   pub least : 1 ≤ x .op
   pub most : x .op ≤ 5
-  pub fits : Fits n (meaning x)
+  pub fits : Allowed n (meaning x)
 
 -- the answer of a step
 abbrev pub stepped : After Cube → Stepped

@@ -20,12 +20,12 @@ pub data Step : Type 0 where
   L : ℕ → ℕ → Step
 
 -- what refusal 9 leaves: "a used v" below n, "a used literal" at most 1
-abbrev pub Fits : ℕ → Step → Type 0
-Fits n (drop i j) = Unit {0}
-Fits n (join i j) = Unit {0}
-Fits n (split v i) = v < n
-Fits n (turn v i j) = v < n
-Fits n (L v b) = (v < n) × (b < 2)
+abbrev pub Allowed : ℕ → Step → Type 0
+Allowed n (drop i j) = Unit {0}
+Allowed n (join i j) = Unit {0}
+Allowed n (split v i) = v < n
+Allowed n (turn v i j) = v < n
+Allowed n (L v b) = (v < n) × (b < 2)
 
 -- the step of a record, by its operation: 1 drop, 2 join, 3 split, 4 turn, 5 L
 abbrev pub meaningBy : ℕ → StepRecord → Step
