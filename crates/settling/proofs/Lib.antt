@@ -5,9 +5,3 @@ pub mod SettleLaws
 pub mod Settling
 pub mod Determined
 pub mod Fewest
-pub mod Calling
-pub mod DemandOne
-pub mod WritesNothing
-pub mod DemandTwo
-pub mod DemandThree
-pub mod Examples

@@ -25,13 +25,13 @@ use Rattle.script.specs.Scripts.{stepsOf, stepWidth, mostSteps}
 use Rattle.script.specs.Calls.{runOf}
 use Rattle.script.proofs.Runs.{ended-list}
 use Rattle.script.proofs.Value.{run-value, run-good}
 use Rattle.settling.specs.declared.Settled.the-variants as settled-is
 use Rattle.settling.specs.declared.Settlement.{Settlement}
 use Rattle.settling.specs.Candidates.{bestOf, bestForm, burnedList}
 use Rattle.settling.proofs.SettleLaws.{burned-le-given, burned-le-result}
 use Rattle.settling.proofs.Fewest.{burned-form, burned-one, best-form-value, best-form-least}
 use Rattle.settling.specs.Calls.{settled, Called}
-use Rattle.settling.proofs.Calling.{Accepting, called-accepted}
+use Rattle.promises.proofs.Calling.{Accepting, called-accepted}
 
 -- the list we burn: the first records of the output buffer, as many as settle answers
 abbrev pub burnedIn : Settlement → List ℕ → List Cube

@@ -35,12 +35,12 @@ use Rattle.script.proofs.Counting as counting
 use Rattle.polarity.specs.Forms.{parityWithin, formFrom, formList, size, bestPolarity}
 use Rattle.polarity.specs.Vectors.{byteAt, Vector, coefficientVector, vectorBack}
 use Rattle.polarity.proofs.Theorems as theorems
 use Rattle.settling.specs.declared.Fixed.the-variants as fixed-is
 use Rattle.settling.specs.declared.Settled.the-variants as settled-is
 use Rattle.settling.specs.declared.Settlement.{Settlement}
 use Rattle.settling.specs.Candidates.{bestForm, fixedOf}
 use Rattle.settling.specs.Calls.{settled, Called}
-use Rattle.settling.proofs.Calling.{Accepting, called-accepted}
+use Rattle.promises.proofs.Calling.{Accepting, called-accepted}
 
 -- ---- "The value of a list"
 

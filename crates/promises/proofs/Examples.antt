@@ -13,8 +13,8 @@ use Rattle.steps.specs.Moves.{joinAt, turnAt, applied}
 use Rattle.steps.specs.Steps.{joinMove, turnMove, exchanged, step}
 use Rattle.script.specs.Run.{stepsFrom, undoBy, run}
 use Rattle.polarity.specs.Forms.{parityWithin, formFrom, countsOf, bestPolarity}
 use Rattle.settling.specs.Candidates.{bestForm, burnedList}
-use Rattle.settling.specs.Marked.{table, cubeFrom, sameNumbers, sameCubes, right, allRight}
+use Rattle.promises.specs.Marked.{table, cubeFrom, sameNumbers, sameCubes, right, allRight}
 
 pub marked : allRight table ≡ true
 unfolding allRight right table cubeFrom sameNumbers sameCubes withBit those sumBelow listBelow leastBelow tally removeAt code put holds apart trues listValue third joinAt turnAt applied joinMove turnMove exchanged step stepsFrom undoBy run parityWithin formFrom countsOf bestPolarity bestForm burnedList

@@ -28,10 +28,10 @@ use Rattle.script.specs.Scripts.{stepRecords, stepWidth, mostSteps, fits, steps
 use Rattle.script.specs.Calls.{checkScript, runOf}
 use Rattle.script.proofs.Runs.{not-ended}
 use Rattle.script.proofs.Stopping.{Refused, run-refused, run-refused-place, run-refused-number}
 use Rattle.settling.specs.declared.Settled.the-variants as settled-is
 use Rattle.settling.specs.declared.Settlement.{Settlement}
 use Rattle.settling.specs.Calls.{checkSettle, settled, Called}
-use Rattle.settling.proofs.Calling.{Passing, called-refused, called-accepted}
+use Rattle.promises.proofs.Calling.{Passing, called-refused, called-accepted}
 
 -- ---- the refusals before the first step, by number and place
 
