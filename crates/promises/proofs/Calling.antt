@@ -1,23 +1,18 @@
--- A call of `settle`: every outcome that its contract allows is a `Called`, and what an accepted and a refused one say. The demands speak of it.
+-- What an accepted call of settle says of its input, its counts and its buffers.
 -- Assumes nothing.
 use mathlib.Core.Path.{_≡_, refl, sym, ap, ap₂, _∙_}
-use mathlib.Core.Logic.{_⊎_, inl, inr}
 use mathlib.Core.Bool.{true}
 use mathlib.Core.List.{List, [], _∷_, _++_}
 use Prim.Native.Nat.{ℕ, _≤_}
 use native.Mathlib.Omega.{arith}
-use contract.Lifetimes.{Lfts}
-use denote.Triple.Clauses.{Lasts, atExit}
-use borrow.Fn.Kinds.{Dens, resT, endedOf}
 use borrow.Author.Tests.{leb-true}
 use lib.Dec.{leb}
 use lib.ListN.{length}
 use Rattle.bits.specs.Sums.{All}
 use Rattle.bits.proofs.Sums.{all-map}
-use Rattle.records.specs.declared.Refusal.{Refusal}
 use Rattle.records.specs.Records.{listOf, image, zeros}
-use Rattle.records.specs.Answers.{Outcome, accepted, refused, refusal, andThen}
-use Rattle.records.proofs.Answering.{not-both, refused-same, both-accepted, unless-accepted}
+use Rattle.records.specs.Answers.{Outcome, accepted}
+use Rattle.records.proofs.Answering.{not-both, both-accepted, unless-accepted}
 use Rattle.cube.specs.declared.Cube.{Cube}
 use Rattle.cube.specs.Lists.{mostVariables, cubes, cubesOf, cubeCapacity}
 use Rattle.cube.specs.Calls.{checkList}
@@ -33,15 +28,8 @@ use Rattle.settling.specs.declared.Fixed.the-variants as fixed-is
 use Rattle.settling.specs.declared.Settled.the-variants as settled-is
 use Rattle.settling.specs.declared.Settlement.{Settlement}
 use Rattle.settling.specs.Candidates.{burnedList, fixedOf}
-use Rattle.settling.specs.Calls.{checkSettle, fixedValues, ranSettled, settleOutcome, settleWorkBy, settleWork, settleOutBy, settleOut, settled, Called}
-use Rattle.settling.proofs.settle.settle.Kinds as kinds
-use Rattle.settling.proofs.settle.settle.Reads as reads
-
--- whatever the contract of `settle` allows is that: a are the arguments, z the answer, ws the last contents of the buffers
-pub settle-called : (κs : Lfts 4) (a : Dens κs kinds.ps) (z : resT kinds.r κs .Denot) (ws : Lasts (endedOf 4 kinds.ps kinds.r) κs a)
-    → reads.Learnt κs a z (atExit (endedOf 4 kinds.ps kinds.r) κs a ws)
-    → Called (a .0) (a .1 .0 .now) (a .1 .1 .0 .now) (a .1 .1 .1 .0 .now) (a .1 .1 .1 .1 .0 .now) (settled z) (ws .1 .1 .1 .0) (ws .1 .1 .1 .1 .0)
-settle-called κs a z ws p = record { answer = p .0; work-is = p .1 .0; out-is = p .1 .1 }
+use Rattle.settling.specs.Calls.{checkSettle, fixedValues, ranSettled, settleOutcome, settleWorkBy, settleWork, settleOutBy, settleOut, settled}
+use Rattle.promises.specs.Calls.{settle, answers, leaves, Called}
 
 -- ---- what passed before the first step
 
@@ -90,9 +78,16 @@ same-last (fixed-is.Polarity p j) fixed-is.Absent b c e = let z : _≡_ {A = ℕ
 same-last fixed-is.Absent (fixed-is.Polarity q k) b c e = let z : _≡_ {A = ℕ} 0 1 = cc in absurd (omega arith)
 same-last fixed-is.Absent fixed-is.Absent b c e = (refl, cc)
 
+-- the two buffers
+first-left : {a b x y : List ℕ} → _≡_ {A = List (List ℕ)} (a ∷ b ∷ []) (x ∷ y ∷ []) → a ≡ x
+first-left e = cc
+
+second-left : {a b x y : List ℕ} → _≡_ {A = List (List ℕ)} (a ∷ b ∷ []) (x ∷ y ∷ []) → b ≡ y
+second-left e = cc
+
 module _ (n : ℕ) (list script work out : List ℕ) (work′ out′ : List ℕ) where
-  pub called-accepted : (s : Settlement) → Called n list script work out (settled (settled-is.Burned s)) work′ out′ → Accepting n list script work out s work′ out′
-  unfolding settleOutcome settleWork settleOut
+  pub called-accepted : (s : Settlement) → Called (settle n list script work out) (settled (settled-is.Burned s)) (work′ ∷ out′ ∷ []) → Accepting n list script work out s work′ out′
+  unfolding answers leaves settleOutcome settleWork settleOut
   called-accepted s c =
       let b = both-accepted (checkSettle n list script (length work) (length out)) (ranSettled n (cubesOf list) (runOf n list script (length work))) _ (sym (c .answer)) in
       go (runOf n list script (length work)) refl (b .values) (b .first) (b .second)
@@ -116,47 +111,6 @@ module _ (n : ℕ) (list script work out : List ℕ) (work′ out′ : List ℕ)
             script-is = script-is;
             fixed-is = last .0;
             burned-is = last .1;
-            work-is = c .work-is ∙ ap (λ (o : Outcome). settleWorkBy o work) e;
-            out-is = c .out-is ∙ ap₂ (λ (o : Outcome) (r : Ran Cube). settleOutBy o n (cubesOf list) r out) e f;
+            work-is = first-left (c .left) ∙ ap (λ (o : Outcome). settleWorkBy o work) e;
+            out-is = second-left (c .left) ∙ ap₂ (λ (o : Outcome) (r : Ran Cube). settleOutBy o n (cubesOf list) r out) e f;
           }
-
--- ---- a refused call
-
--- found before the first step: nothing is written
-pub record Before (n : ℕ) (list script work out : List ℕ) (r : Refusal) (work′ out′ : List ℕ) : Type 0 where
-  pub found : checkSettle n list script (length work) (length out) ≡ refused r
-  pub work-kept : work′ ≡ work
-  pub out-kept : out′ ≡ out
-
--- found at a step: work is cleared, and no list is handed out
-pub record AtStep (n : ℕ) (list script work out : List ℕ) (r : Refusal) (work′ out′ : List ℕ) : Type 0 where
-  pub passed : Passing n list script (length work) (length out)
-  pub found : runOf n list script (length work) ≡ stopped (r .number) (r .place)
-  pub work-cleared : work′ ≡ zeros (length work)
-  pub out-kept : out′ ≡ out
-
-module _ (n : ℕ) (list script work out : List ℕ) (work′ out′ : List ℕ) where
-  pub called-refused : (r : Refusal) → Called n list script work out (refused r) work′ out′
-      → Before n list script work out r work′ out′ ⊎ AtStep n list script work out r work′ out′
-  unfolding settleOutcome settleWork settleOut
-  called-refused r c =
-      first (checkSettle n list script (length work) (length out)) refl (runOf n list script (length work)) refl (sym (c .answer))
-    where
-      first : (o : Outcome) → checkSettle n list script (length work) (length out) ≡ o → (ran : Ran Cube) → runOf n list script (length work) ≡ ran
-          → andThen o (ranSettled n (cubesOf list) ran) ≡ refused r
-          → Before n list script work out r work′ out′ ⊎ AtStep n list script work out r work′ out′
-      first (refused q) e ran f h =
-          inl (record {
-            found = e ∙ h;
-            work-kept = c .work-is ∙ ap (λ (o : Outcome). settleWorkBy o work) e;
-            out-kept = c .out-is ∙ ap (λ (o : Outcome). settleOutBy o n (cubesOf list) (runOf n list script (length work)) out) e;
-          })
-      first (accepted v) e (ended result peak) f h = absurd (not-both h)
-      first (accepted v) e (stopped number step) f h =
-          let is : refusal number step ≡ r = refused-same h in
-          inr (record {
-            passed = passing n list script (length work) (length out) v e;
-            found = f ∙ ap (λ (q : Refusal). stopped (q .number) (q .place)) is;
-            work-cleared = c .work-is ∙ ap (λ (o : Outcome). settleWorkBy o work) e;
-            out-kept = c .out-is ∙ ap₂ (λ (o : Outcome) (r : Ran Cube). settleOutBy o n (cubesOf list) r out) e f;
-          })

@@ -1,179 +1,124 @@
 -- Demand 1. Every call ends and answers, on all lists, scripts and buffers. Bad input is refused by a number and a place. A refusal found before the
 -- script starts writes nothing; one found at a step clears the work area and hands out no list.
--- That every call of `settle` ends and answers is what its proof says, for it has no `requires`; `Called` is any outcome that its contract allows.
+-- That every call ends and answers is what its proof says, for it has no `requires`; `Called` is any outcome that its contract allows (Contracts.antt).
 -- Assumes nothing.
-use mathlib.Core.Path.{_≡_, refl, sym, _∙_, subst}
-use mathlib.Core.Logic.{_⊎_, inl, inr, ⊎-elim}
-use mathlib.Core.Bool.{Bool, true, false, true≢false}
-use mathlib.Core.List.{List}
-use Prim.Native.Nat.{ℕ, _/_, _%_, _≤_, _<_}
-use native.Mathlib.Omega.{arith}
-use borrow.Author.Tests.{leb-false, eqb-false}
-use lib.Dec.{leb, eqb}
-use lib.ListN.{length, getD}
-use Rattle.bits.specs.Sums.{firstBad}
-use Rattle.bits.proofs.Sums.{all-get, first-le, first-fails, first-lowest}
+use mathlib.Core.Path.{_≡_, refl, sym, ap, _∙_, subst}
+use mathlib.Core.Logic.{_⊎_, inl, inr}
+use mathlib.Core.List.{List, [], _∷_}
+use Prim.Native.Nat.{ℕ}
+use lib.ListN.{length}
 use Rattle.records.specs.declared.Refusal.{Refusal}
-use Rattle.records.specs.Records.{listOf, zeros}
-use Rattle.records.specs.Answers.{Outcome, accepted, refused, refusal, unless, unlessAt, andThen}
+use Rattle.records.specs.Records.{zeros}
+use Rattle.records.specs.Answers.{Outcome, accepted, refused, refusal}
 use Rattle.records.proofs.Answering.{not-both, refused-same}
 use Rattle.cube.specs.declared.Cube.{Cube}
-use Rattle.cube.specs.Cubes.{good, one}
-use Rattle.cube.specs.Lists.{mostVariables, mostRecords, recordWidth, cubesOf, cubeCapacity}
-use Rattle.cube.specs.Calls.{checkList}
-use Rattle.cube.proofs.Codes.{parts-good}
-use Rattle.cube.proofs.ListLaws.{good-at}
-use Rattle.script.specs.Run.{ended, run}
-use Rattle.script.specs.Scripts.{stepRecords, stepWidth, mostSteps, fits, stepsOf}
-use Rattle.script.specs.Calls.{checkScript, runOf}
-use Rattle.script.proofs.Runs.{not-ended}
-use Rattle.script.proofs.Stopping.{Refused, run-refused, run-refused-place, run-refused-number}
-use Rattle.settling.specs.declared.Settled.the-variants as settled-is
-use Rattle.settling.specs.declared.Settlement.{Settlement}
-use Rattle.settling.specs.Calls.{checkSettle, settled, Called}
-use Rattle.promises.proofs.Calling.{Passing, called-refused, called-accepted}
+use Rattle.cube.specs.Lists.{cubesOf, cubeCapacity}
+use Rattle.script.specs.Run.{Ran, stopped, ended}
+use Rattle.script.specs.Scripts.{stepsOf}
+use Rattle.script.specs.Calls.{runOf, ranOutcome, ranWork}
+use Rattle.script.proofs.Stopping.{run-refused, run-refused-place, run-refused-number}
+use Rattle.settling.specs.Calls.{ranSettled, ranBurned}
+use Rattle.promises.specs.Calls.{Call, check, value, truthVector, coefficients, vectorBack, writeForm, bestPolarity, run, settle, answers, lent, leaves, Called}
+use Rattle.promises.specs.Refusals.{NoneWrong, FirstWrong, reasons, RefusedBefore, Stopped, RefusedAtStep, in-run, in-settle}
+use Rattle.promises.specs.Accepted.{goesOn, goesOnLeaving, ScriptEnds}
+use Rattle.promises.proofs.Chains.{first-only, not-none}
+use Rattle.promises.proofs.Judging.{Outcomes, judged}
+use Rattle.promises.proofs.Judging as judging
 
--- ---- the refusals before the first step, by number and place
+-- ---- the steps
 
--- "the lowest record that breaks the rule": the test fails at this place, and at none below it
-pub record Lowest {A : Type 0} (test : A → Bool) (d : A) (l : List A) (place : ℕ) : Type 0 where
-  pub inside : place < length l
-  pub fails : test (getD l place d) ≡ false
-  pub passed : (i : ℕ) → i < place → test (getD l i d) ≡ true
+stops : (n : ℕ) (list script work : List ℕ) (r : Refusal) → runOf n list script (length work) ≡ stopped (r .number) (r .place) → Stopped n list script work r
+unfolding runOf
+stops n list script work r e = record {
+  at-step = run-refused-place n (cubeCapacity (length work)) (stepsOf script) (cubesOf list) (r .number) (r .place) e;
+  least = run-refused-number n (cubeCapacity (length work)) (stepsOf script) (cubesOf list) (r .number) (r .place) e .0;
+  most = run-refused-number n (cubeCapacity (length work)) (stepsOf script) (cubesOf list) (r .number) (r .place) e .1;
+  steps = run-refused n (cubeCapacity (length work)) (stepsOf script) (cubesOf list) (r .number) (r .place) e;
+}
 
--- what is wrong with the input of settle, for each number and place of document 01's table; work and out are the lengths of the buffers
-pub data Wrong (n : ℕ) (list script : List ℕ) (work out : ℕ) : ℕ → ℕ → Type 0 where
-  many-variables : mostVariables < n → Wrong n list script work out 1 0
-  broken-list : (length list % recordWidth ≡ 0 → ⊥) → Wrong n list script work out 2 0
-  long-list : mostRecords < length list / recordWidth → Wrong n list script work out 3 0
-  bad-record : (place : ℕ) → Lowest (good n) one (cubesOf list) place → Wrong n list script work out 4 place
-  short-work : cubeCapacity work < length (cubesOf list) → Wrong n list script work out 5 0
-  short-out : cubeCapacity out < length (cubesOf list) → Wrong n list script work out 5 0
-  broken-script : (length script % stepWidth ≡ 0 → ⊥) → Wrong n list script work out 7 0
-  long-script : mostSteps < length script / stepWidth → Wrong n list script work out 8 0
-  bad-step : (place : ℕ) → Lowest (fits n) (stepRecords .none) (listOf stepRecords script) place → Wrong n list script work out 9 place
+-- a call that went on and was refused has a script, and was refused at a step of it
+at-step : (c : Call) (r : Refusal) (buffers : List (List ℕ)) → NoneWrong (reasons c) → goesOn c ≡ refused r → buffers ≡ goesOnLeaving c → RefusedAtStep r buffers c
+unfolding goesOn goesOnLeaving
+at-step (check n list) r buffers none e f = absurd (not-both e)
+at-step (value n list a) r buffers none e f = absurd (not-both e)
+at-step (truthVector n list out) r buffers none e f = absurd (not-both e)
+at-step (coefficients n vector p out) r buffers none e f = absurd (not-both e)
+at-step (vectorBack n vector p out) r buffers none e f = absurd (not-both e)
+at-step (writeForm n vector p out) r buffers none e f = absurd (not-both e)
+at-step (bestPolarity n vector) r buffers none e f = absurd (not-both e)
+at-step (run n list script work) r buffers none e f = go (runOf n list script (length work)) refl e f
+  where
+    go : (ran : Ran Cube) → runOf n list script (length work) ≡ ran → ranOutcome ran ≡ refused r → buffers ≡ ranWork (length work) ran ∷ []
+        → RefusedAtStep r buffers (run n list script work)
+    go (ended l peak) is e f = absurd (not-both e)
+    go (stopped number step) is e f =
+        in-run n list script work none (stops n list script work r (is ∙ ap (λ (q : Refusal). stopped (q .number) (q .place)) (refused-same e))) f
+at-step (settle n list script work out) r buffers none e f = go (runOf n list script (length work)) refl e f
+  where
+    go : (ran : Ran Cube) → runOf n list script (length work) ≡ ran → ranSettled n (cubesOf list) ran ≡ refused r
+        → buffers ≡ zeros (length work) ∷ ranBurned n (cubesOf list) ran out ∷ []
+        → RefusedAtStep r buffers (settle n list script work out)
+    go (ended l peak) is e f = absurd (not-both e)
+    go (stopped number step) is e f =
+        in-settle n list script work out none (stops n list script work r (is ∙ ap (λ (q : Refusal). stopped (q .number) (q .place)) (refused-same e))) f
 
--- a refused chain of tests: one of them failed
-failed : (P : Refusal → Type 0) (t : Bool) (number place : ℕ) (o : Outcome) (r : Refusal)
-    → (t ≡ false → P (refusal number place)) → (o ≡ refused r → P r) → unless t number place o ≡ refused r → P r
-failed P true number place o r f g e = g e
-failed P false number place o r f g e = subst P (refused-same e) (f refl)
-
-failed-and : (P : Refusal → Type 0) (o rest : Outcome) (r : Refusal) → (o ≡ refused r → P r) → (rest ≡ refused r → P r) → andThen o rest ≡ refused r → P r
-failed-and P (accepted v) rest r f g e = g e
-failed-and P (refused q) rest r f g e = f e
-
-failed-at : {A : Type 0} (P : Refusal → Type 0) (test : A → Bool) (d : A) (number : ℕ) (l : List A) (o : Outcome) (r : Refusal)
-    → ((place : ℕ) → Lowest test d l place → P (refusal number place)) → (o ≡ refused r → P r) → unlessAt test number l o ≡ refused r → P r
-failed-at P test d number l o r f g e =
-    failed P (eqb (firstBad test l) (length l)) number (firstBad test l) o r
-    (λ t.
-    let ne : firstBad test l ≡ length l → ⊥ = eqb-false (firstBad test l) (length l) t in
-    let inside : firstBad test l < length l = omega (arith, first-le test l, ne) in
-    f (firstBad test l) (record { inside = inside; fails = first-fails test d l inside; passed = first-lowest test d l }))
-    g e
-
-module _ (n : ℕ) (list script : List ℕ) (work out : ℕ) (r : Refusal) where
-  abbrev P : Refusal → Type 0
-  P q = Wrong n list script work out (q .number) (q .place)
-
-  wrong-list : checkList mostVariables n list ≡ refused r → Wrong n list script work out (r .number) (r .place)
-  unfolding checkList
-  wrong-list e =
-      failed P (leb n mostVariables) 1 0 _ r (λ t. many-variables (leb-false n mostVariables t))
-      (failed P (eqb (length list % recordWidth) 0) 2 0 _ r (λ t. broken-list (eqb-false (length list % recordWidth) 0 t))
-      (failed P (leb (length list / recordWidth) mostRecords) 3 0 _ r (λ t. long-list (leb-false (length list / recordWidth) mostRecords t))
-      (failed-at P (good n) one 4 (cubesOf list) _ r (λ place low. bad-record place low) (λ q. absurd (not-both q)))))
-      e
-
-  wrong-script : checkScript n script ≡ refused r → Wrong n list script work out (r .number) (r .place)
-  unfolding checkScript
-  wrong-script e =
-      failed P (eqb (length script % stepWidth) 0) 7 0 _ r (λ t. broken-script (eqb-false (length script % stepWidth) 0 t))
-      (failed P (leb (length script / stepWidth) mostSteps) 8 0 _ r (λ t. long-script (leb-false (length script / stepWidth) mostSteps t))
-      (failed-at P (fits n) (stepRecords .none) 9 (listOf stepRecords script) _ r (λ place low. bad-step place low) (λ q. absurd (not-both q))))
-      e
-
-  -- A refusal before the first step is one of these, by its number and its place.
-  pub early-refusal : checkSettle n list script work out ≡ refused r → Wrong n list script work out (r .number) (r .place)
-  unfolding checkSettle
-  early-refusal e =
-      failed-and P (checkList mostVariables n list) _ r wrong-list
-      (failed P (leb (length (cubesOf list)) (cubeCapacity work)) 5 0 _ r (λ t. short-work (leb-false (length (cubesOf list)) (cubeCapacity work) t))
-      (failed P (leb (length (cubesOf list)) (cubeCapacity out)) 5 0 _ r (λ t. short-out (leb-false (length (cubesOf list)) (cubeCapacity out) t))
-      wrong-script))
-      e
-
--- what was accepted has none of these
-not-wrong : {n : ℕ} {list script : List ℕ} {work out number place : ℕ} → Passing n list script work out → Wrong n list script work out number place → ⊥
-not-wrong p (many-variables h) = omega (arith, p .list-is .few)
-not-wrong p (broken-list h) = h (p .list-is .whole)
-not-wrong p (long-list h) = omega (arith, p .list-is .short)
-not-wrong {n} {list} p (bad-record place low) =
-    true≢false (sym (parts-good n _ (good-at n (cubesOf list) (p .list-is .good) place)) ∙ low .fails)
-not-wrong p (short-work h) = omega (arith, p .work-room)
-not-wrong p (short-out h) = omega (arith, p .out-room)
-not-wrong p (broken-script h) = h (p .script-is .whole)
-not-wrong p (long-script h) = omega (arith, p .script-is .short)
-not-wrong {n} {list} {script} p (bad-step place low) =
-    true≢false (sym (all-get (λ r. fits n r ≡ true) (listOf stepRecords script) place (stepRecords .none) (p .script-is .fit) (low .inside)) ∙ low .fails)
+-- where nothing is wrong and the script, if there is one, ends, the call is accepted
+accepts : (c : Call) → ScriptEnds c → (v : List ℕ) × (goesOn c ≡ accepted v)
+unfolding goesOn ScriptEnds
+accepts (check n list) s = (_, refl)
+accepts (value n list a) s = (_, refl)
+accepts (truthVector n list out) s = (_, refl)
+accepts (coefficients n vector p out) s = (_, refl)
+accepts (vectorBack n vector p out) s = (_, refl)
+accepts (writeForm n vector p out) s = (_, refl)
+accepts (bestPolarity n vector) s = (_, refl)
+accepts (run n list script work) s = (_, ap ranOutcome (s .is))
+accepts (settle n list script work out) s = (_, ap (ranSettled n (cubesOf list)) (s .is))
 
 -- ---- the demand
 
--- found before the first step, it says what is wrong, and writes nothing
-pub record RefusedBefore (n : ℕ) (list script work out : List ℕ) (r : Refusal) (work′ out′ : List ℕ) : Type 0 where
-  pub wrong : Wrong n list script (length work) (length out) (r .number) (r .place)
-  pub nothing-in-work : work′ ≡ work
-  pub nothing-in-out : out′ ≡ out
+-- There is an outcome, for every call.
+pub answered : (c : Call) → Called c (answers c) (leaves c)
+answered c = record { answer = refl; left = refl }
 
--- found at a step: the place is that step, the steps before it were done, this one is refused by 10, 11, 12 or 13;
--- every byte of the work buffer is zero, and the output is untouched
-pub record RefusedAtStep (n : ℕ) (list script work out : List ℕ) (r : Refusal) (work′ out′ : List ℕ) : Type 0 where
-  pub at-step : r .place < length (stepsOf script)
-  pub least : 10 ≤ r .number
-  pub most : r .number ≤ 13
-  pub steps : Refused n (cubeCapacity (length work)) 0 (length (cubesOf list)) (stepsOf script) (cubesOf list) (r .number) (r .place)
-  pub work-cleared : work′ ≡ zeros (length work)
-  pub nothing-in-out : out′ ≡ out
+module _ (c : Call) (o : Outcome) (buffers : List (List ℕ)) (called : Called c o buffers) where
+  -- Bad input is refused: by the number and the place of the first in order that is wrong; and nothing is written.
+  pub wrong-refused : (number place : ℕ) → FirstWrong (reasons c) number place → (o ≡ refused (refusal number place)) × (buffers ≡ lent c)
+  wrong-refused number place f = go (judged c)
+    where
+      go : Outcomes c → (o ≡ refused (refusal number place)) × (buffers ≡ lent c)
+      go (judging.wrong r g e k) =
+          let same = first-only (reasons c) (r .number) number (r .place) place g f in
+          (called .answer ∙ e ∙ (λ i. refused (refusal (same .0 i) (same .1 i))), called .left ∙ k)
+      go (judging.right none e k) = absurd (not-none (reasons c) number place f none)
 
-module _ (n : ℕ) (list script work out : List ℕ) (work′ out′ : List ℕ) where
-  -- A refused call is one or the other.
-  pub refused-call : (r : Refusal) → Called n list script work out (refused r) work′ out′
-      → RefusedBefore n list script work out r work′ out′ ⊎ RefusedAtStep n list script work out r work′ out′
-  unfolding runOf
-  refused-call r c =
-      ⊎-elim
-      (λ b. inl (record {
-        wrong = early-refusal n list script (length work) (length out) r (b .found);
-        nothing-in-work = b .work-kept;
-        nothing-in-out = b .out-kept;
-      }))
-      (λ s. inr (record {
-        at-step = run-refused-place n (cubeCapacity (length work)) (stepsOf script) (cubesOf list) (r .number) (r .place) (s .found);
-        least = run-refused-number n (cubeCapacity (length work)) (stepsOf script) (cubesOf list) (r .number) (r .place) (s .found) .0;
-        most = run-refused-number n (cubeCapacity (length work)) (stepsOf script) (cubesOf list) (r .number) (r .place) (s .found) .1;
-        steps = run-refused n (cubeCapacity (length work)) (stepsOf script) (cubesOf list) (r .number) (r .place) (s .found);
-        work-cleared = s .work-cleared;
-        nothing-in-out = s .out-kept;
-      }))
-      (called-refused n list script work out work′ out′ r c)
+  -- Nothing else is: what is refused was wrong, and the first in order, and nothing was written; or a step of the script was, where nothing
+  -- before the steps was wrong, and then every byte of the work buffer is zero, and no list is handed out.
+  pub refused-call : (r : Refusal) → o ≡ refused r → RefusedBefore r buffers c ⊎ RefusedAtStep r buffers c
+  refused-call r is = go (judged c)
+    where
+      go : Outcomes c → RefusedBefore r buffers c ⊎ RefusedAtStep r buffers c
+      go (judging.wrong q g e k) =
+          let same : q ≡ r = refused-same (sym e ∙ sym (called .answer) ∙ is) in
+          inl (record { wrong = subst (λ (x : Refusal). FirstWrong (reasons c) (x .number) (x .place)) same g; nothing-written = called .left ∙ k })
+      go (judging.right none e k) = inr (at-step c r buffers none (sym e ∙ sym (called .answer) ∙ is) (called .left ∙ k))
 
-  -- Bad input is refused: of an accepted call nothing is wrong ..
-  pub accepted-not-wrong : (s : Settlement) → Called n list script work out (settled (settled-is.Burned s)) work′ out′
-      → (number place : ℕ) → Wrong n list script (length work) (length out) number place → ⊥
-  accepted-not-wrong s c number place w = not-wrong (called-accepted n list script work out work′ out′ s c .passed) w
+  -- Of an accepted call nothing is wrong ..
+  pub accepted-not-wrong : (v : List ℕ) → o ≡ accepted v → NoneWrong (reasons c)
+  accepted-not-wrong v is = go (judged c)
+    where
+      go : Outcomes c → NoneWrong (reasons c)
+      go (judging.wrong q g e k) = absurd (not-both (sym is ∙ called .answer ∙ e))
+      go (judging.right none e k) = none
 
-  -- .. and nothing else is: where nothing is wrong and the script ends, the call is not refused.
-  pub only-bad-refused : (r : Refusal) → Called n list script work out (refused r) work′ out′
-      → ((number place : ℕ) → Wrong n list script (length work) (length out) number place → ⊥)
-      → (m : List Cube) (peak : ℕ) → run n (cubeCapacity (length work)) (stepsOf script) (cubesOf list) ≡ ended m peak → ⊥
-  unfolding runOf
-  only-bad-refused r c fine m peak e =
-      ⊎-elim
-      (λ b. fine (r .number) (r .place) (early-refusal n list script (length work) (length out) r (b .found)))
-      (λ s. not-ended (sym (s .found) ∙ e))
-      (called-refused n list script work out work′ out′ r c)
+  -- .. and where nothing is, the call answers and leaves what document 01 says of an accepted one, or is refused at a step; ..
+  pub not-wrong-goes-on : NoneWrong (reasons c) → (o ≡ goesOn c) × (buffers ≡ goesOnLeaving c)
+  not-wrong-goes-on fine = go (judged c)
+    where
+      go : Outcomes c → (o ≡ goesOn c) × (buffers ≡ goesOnLeaving c)
+      go (judging.wrong q g e k) = absurd (not-none (reasons c) (q .number) (q .place) g fine)
+      go (judging.right none e k) = (called .answer ∙ e, called .left ∙ k)
 
-  -- An accepted call leaves the work buffer all zero.
-  pub accepted-call : (s : Settlement) → Called n list script work out (settled (settled-is.Burned s)) work′ out′ → work′ ≡ zeros (length work)
-  accepted-call s c = called-accepted n list script work out work′ out′ s c .work-is
+  -- .. it is accepted where the script, if the call has one, ends.
+  pub not-wrong-accepted : NoneWrong (reasons c) → ScriptEnds c → (v : List ℕ) × (o ≡ accepted v)
+  not-wrong-accepted fine s = let a = accepts c s in (a .0, not-wrong-goes-on fine .0 ∙ a .1)

@@ -3,7 +3,7 @@
 -- most 8 variables no polarity's form has fewer. Stated of the bytes that `settle` leaves in the output buffer.
 -- Assumes nothing.
 use mathlib.Core.Path.{_≡_, refl, sym, ap, _∙_, subst}
-use mathlib.Core.List.{List}
+use mathlib.Core.List.{List, [], _∷_}
 use Prim.Native.Nat.{ℕ, _-_, _*_, _/_, _^_, _≤_, _<_}
 use native.Mathlib.Nat.{le-trans, mul-le-mul-left}
 use native.Mathlib.Omega.{arith}
@@ -20,6 +20,7 @@ use Rattle.cube.proofs.ListLaws.{lawful}
 use Rattle.polarity.specs.Forms.{formList}
 use Rattle.polarity.specs.Vectors.{byteAt}
 use Rattle.polarity.proofs.Theorems.{form-is-good}
+use Rattle.polarity.proofs.Uniqueness.{Form, form-is-only}
 use Rattle.script.specs.Run.{ended, run}
 use Rattle.script.specs.Scripts.{stepsOf, stepWidth, mostSteps}
 use Rattle.script.specs.Calls.{runOf}
@@ -30,22 +31,14 @@ use Rattle.settling.specs.declared.Settlement.{Settlement}
 use Rattle.settling.specs.Candidates.{bestOf, bestForm, burnedList}
 use Rattle.settling.proofs.SettleLaws.{burned-le-given, burned-le-result}
 use Rattle.settling.proofs.Fewest.{burned-form, burned-one, best-form-value, best-form-least}
-use Rattle.settling.specs.Calls.{settled, Called}
+use Rattle.settling.specs.Calls.{settled}
+use Rattle.promises.specs.Calls.{settle, Called}
+use Rattle.promises.specs.Burned.{burnedIn, EndsIn}
 use Rattle.promises.proofs.Calling.{Accepting, called-accepted}
-
--- the list we burn: the first records of the output buffer, as many as settle answers
-abbrev pub burnedIn : Settlement → List ℕ → List Cube
-burnedIn s out′ = records cubes (s .burned) out′
-
--- the list that the script ends in, after the undoing; settle answers its count and the peak
-pub record EndsIn (n : ℕ) (list script work : List ℕ) (s : Settlement) : Type 0 where
-  pub result : List Cube
-  pub is : run n (cubeCapacity (length work)) (stepsOf script) (cubesOf list) ≡ ended result (s .peak)
-  pub count : s .script ≡ length result
 
 -- a call that was not refused
 module _ (n : ℕ) (list script work out : List ℕ) (s : Settlement) (work′ out′ : List ℕ)
-    (c : Called n list script work out (settled (settled-is.Burned s)) work′ out′) where
+    (c : Called (settle n list script work out) (settled (settled-is.Burned s)) (work′ ∷ out′ ∷ [])) where
   acc : Accepting n list script work out s work′ out′
   acc = called-accepted n list script work out work′ out′ s c
 
@@ -111,11 +104,14 @@ module _ (n : ℕ) (list script work out : List ℕ) (s : Settlement) (work′ o
   unfolding result
   script-ends = record { result = acc .result; is = ran; count = acc .script-is }
 
-  -- .. and for at most 8 variables no polarity's form of the given list's function has fewer.
-  pub no-form-has-fewer : n ≤ vectorVariables → (p : ℕ) → p < 2 ^ n → length (burnedIn s out′) ≤ length (formList n p (listValue n (cubesOf list)))
-  no-form-has-fewer few p h =
-      subst (λ (l : List Cube). length l ≤ length (formList n p (listValue n (cubesOf list)))) (sym is-burned)
-      (le-trans (burned-form n result (cubesOf list) few) (best-form-least n (cubesOf list) few p h))
+  -- .. and for at most 8 variables no form of the given list's function has fewer: whatever the polarity p is, and whatever list is a form under p
+  -- (001, definition 3) and has the given list's values.
+  pub no-form-has-fewer : n ≤ vectorVariables → (p : ℕ) → p < 2 ^ n → (l : List Cube) → Form n p l
+      → ((a : ℕ) → a < 2 ^ n → listValue n l a ≡ listValue n (cubesOf list) a) → length (burnedIn s out′) ≤ length l
+  no-form-has-fewer few p h l F same =
+      subst (λ (m : List Cube). length (burnedIn s out′) ≤ length m) (sym (form-is-only n p l F h (listValue n (cubesOf list)) same))
+      (subst (λ (m : List Cube). length m ≤ length (formList n p (listValue n (cubesOf list)))) (sym is-burned)
+      (le-trans (burned-form n result (cubesOf list) few) (best-form-least n (cubesOf list) few p h)))
 
   -- After the list, which fits, every byte of the output buffer is zero; and every byte of the work buffer is.
   pub zeros-after : drop (recordWidth * s .burned) out′ ≡ zeros (length out - recordWidth * s .burned)

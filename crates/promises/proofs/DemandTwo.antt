@@ -5,7 +5,7 @@
 use mathlib.Core.Path.{_≡_, _∙_}
 use mathlib.Core.Logic.{_≢_, _⊎_}
 use mathlib.Core.Bool.{true}
-use mathlib.Core.List.{List, [], map}
+use mathlib.Core.List.{List, [], _∷_, map}
 use Prim.Native.Nat.{ℕ, suc, _+_, _*_, _^_, _≤_, _<_}
 use native.Mathlib.Omega.{arith}
 use borrow.Author.Tests.{le-leb, lt-leb}
@@ -39,7 +39,8 @@ use Rattle.settling.specs.declared.Fixed.the-variants as fixed-is
 use Rattle.settling.specs.declared.Settled.the-variants as settled-is
 use Rattle.settling.specs.declared.Settlement.{Settlement}
 use Rattle.settling.specs.Candidates.{bestForm, fixedOf}
-use Rattle.settling.specs.Calls.{settled, Called}
+use Rattle.settling.specs.Calls.{settled}
+use Rattle.promises.specs.Calls.{settle, Called}
 use Rattle.promises.proofs.Calling.{Accepting, called-accepted}
 
 -- ---- "The value of a list"
@@ -182,7 +183,7 @@ script-result = counting.run-result
 -- ---- the counts that settle answers, of a call that was not refused
 
 module _ (n : ℕ) (list script work out : List ℕ) (s : Settlement) (work′ out′ : List ℕ)
-    (c : Called n list script work out (settled (settled-is.Burned s)) work′ out′) where
+    (c : Called (settle n list script work out) (settled (settled-is.Burned s)) (work′ ∷ out′ ∷ [])) where
   acc : Accepting n list script work out s work′ out′
   acc = called-accepted n list script work out work′ out′ s c
 

@@ -1,6 +1,8 @@
-pub mod Calling
+pub mod Chains
+pub mod Judging
+pub mod Contracts
 pub mod DemandOne
-pub mod WritesNothing
+pub mod Calling
 pub mod DemandTwo
 pub mod DemandThree
 pub mod Examples

@@ -1,1 +1,6 @@
+pub mod Calls
+pub mod Contracts
+pub mod Refusals
+pub mod Accepted
+pub mod Burned
 pub mod Marked
