@@ -5,4 +5,5 @@ pub mod DemandOne
 pub mod Calling
 pub mod DemandTwo
 pub mod DemandThree
+pub mod DemandTwoCalls
 pub mod Examples
