@@ -54,6 +54,10 @@ first-number [] h number place f = absurd f
 first-number (x ∷ xs) h number place (inl f) = omega (arith, h .0, f .0)
 first-number (x ∷ xs) h number place (inr f) = first-number xs (h .1) number place (f .1)
 
+pub numbered-both : (xs ys : List Reason) → Numbered xs → Numbered ys → Numbered (xs ++ ys)
+numbered-both [] ys a b = b
+numbered-both (x ∷ xs) ys a b = (a .0, numbered-both xs ys (a .1) b)
+
 first-left : (xs ys : List Reason) (number place : ℕ) → FirstWrong xs number place → FirstWrong (xs ++ ys) number place
 first-left [] ys number place f = absurd f
 first-left (x ∷ xs) ys number place (inl f) = inl f

@@ -6,4 +6,5 @@ pub mod Calling
 pub mod DemandTwo
 pub mod DemandThree
 pub mod DemandTwoCalls
+pub mod Faces
 pub mod Examples

@@ -3,4 +3,5 @@ pub mod Contracts
 pub mod Refusals
 pub mod Accepted
 pub mod Burned
+pub mod Faced
 pub mod Marked

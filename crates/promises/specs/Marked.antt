@@ -5,7 +5,7 @@ use mathlib.Core.List.{List, [], _∷_, map}
 use Prim.Native.Nat.{ℕ, suc}
 use lib.Dec.{eqb}
 use lib.ListN.{length}
-use Rattle.records.specs.Records.{flat}
+use Rattle.records.specs.Records.{flat, zeros}
 use Rattle.cube.specs.declared.Cube.{Cube}
 use Rattle.cube.specs.Cubes.{put, one}
 use Rattle.cube.specs.Lists.{cubes, mostRecords, listValue}
@@ -109,3 +109,19 @@ right (valueIs n l a x) = eqb (listValue n (cubesFrom l) a) x
 unfoldable pub allRight : List Row → Bool
 allRight [] = true
 allRight (r ∷ rs) = right r && allRight rs
+
+-- ---- the printed example: "For n = 2, list 1- -1 11, script join 1 2, turn v=0 0 1, this is all of it"
+
+abbrev pub printedList : List ℕ
+printedList = 1 ∷ 0 ∷ 1 ∷ 0 ∷ 2 ∷ 0 ∷ 2 ∷ 0 ∷ 3 ∷ 0 ∷ 3 ∷ 0 ∷ []
+
+abbrev pub printedScript : List ℕ
+printedScript = 2 ∷ 0 ∷ 1 ∷ 0 ∷ 2 ∷ 0 ∷ 0 ∷ 0 ∷ 4 ∷ 0 ∷ 0 ∷ 0 ∷ 1 ∷ 0 ∷ 0 ∷ 0 ∷ []
+
+-- "in 3 peak 3 script 2 fixed 3 2 out 2"
+abbrev pub printedCounts : List ℕ
+printedCounts = 3 ∷ 3 ∷ 2 ∷ 3 ∷ 2 ∷ 2 ∷ []
+
+-- "--" and "00", at the front of a buffer of 16 bytes
+abbrev pub printedBurned : List ℕ
+printedBurned = 0 ∷ 0 ∷ 0 ∷ 0 ∷ 3 ∷ 0 ∷ 0 ∷ 0 ∷ zeros 8
