@@ -5,6 +5,7 @@ pub mod SettleLaws
 pub mod Settling
 pub mod Determined
 pub mod Fewest
+pub mod Outcomes
 pub mod Calling
 pub mod DemandOne
 pub mod WritesNothing
