@@ -2,22 +2,25 @@
 -- define. Truth vector to coefficients and back returns the vector, under every polarity. 000, 001 and 002 are the source documents of document 01.
 -- The theorems are proved in cube (Meaning), steps (Rules, Transformation, Inversion), polarity (Theorems) and script (Counting), and stand here as one page.
 -- Assumes nothing.
-use mathlib.Core.Path.{_≡_, _∙_}
+use mathlib.Core.Path.{_≡_, refl, sym, ap, _∙_}
 use mathlib.Core.Logic.{_≢_, _⊎_}
 use mathlib.Core.Bool.{true}
 use mathlib.Core.List.{List, [], _∷_, map}
-use Prim.Native.Nat.{ℕ, suc, _+_, _*_, _^_, _≤_, _<_}
+use Prim.Native.Nat.{ℕ, suc, _+_, _*_, _^_, _≤_, _<_, zero-le}
 use native.Mathlib.Omega.{arith}
 use borrow.Author.Tests.{le-leb, lt-leb}
 use lib.Bits.{bitAnd}
 use lib.Dec.{eqb}
 use lib.ListN.{length, getD}
+use lib.Pow.{pow-pos}
 use Rattle.bits.specs.Bits.{bit}
-use Rattle.bits.specs.Sums.{sum, oneIf, All}
+use Rattle.bits.specs.Sums.{tally, sum, oneIf, All}
+use Rattle.bits.proofs.Bits.{bit-high}
 use Rattle.bits.proofs.Least.{Least}
 use Rattle.cube.specs.declared.Cube.{Cube}
-use Rattle.cube.specs.Cubes.{code, put, Good, met, holds}
-use Rattle.cube.specs.Lists.{cubesOf, cubeCapacity, listValue, truthVector, vectorVariables}
+use Rattle.cube.specs.Cubes.{code, put, one, Good, met, holds}
+use Rattle.cube.specs.Lists.{cubesOf, cubeCapacity, trues, listValue, truthVector, vectorVariables}
+use Rattle.cube.proofs.Codes.{code-absent}
 use Rattle.cube.proofs.Meaning as meaning
 use Rattle.steps.specs.Moves.{next}
 use Rattle.steps.specs.Steps.{Step, drop, join, split, turn, L, step, exchanged, isSplit, isJoin, isDrop}
@@ -32,9 +35,11 @@ use Rattle.script.specs.Counts.{howMany, lists, greatest}
 use Rattle.script.specs.Scripts.{stepsOf}
 use Rattle.script.specs.Calls.{runOf}
 use Rattle.script.proofs.Counting as counting
-use Rattle.polarity.specs.Forms.{parityWithin, formFrom, formList, size, bestPolarity}
+use Rattle.polarity.specs.Forms.{parityWithin, coefficient, formFrom, formList, size, bestPolarity}
 use Rattle.polarity.specs.Vectors.{byteAt, Vector, coefficientVector, vectorBack}
 use Rattle.polarity.proofs.Theorems as theorems
+use Rattle.polarity.proofs.Uniqueness.{Form}
+use Rattle.polarity.proofs.Uniqueness as uniqueness
 use Rattle.settling.specs.declared.Fixed.the-variants as fixed-is
 use Rattle.settling.specs.declared.Settled.the-variants as settled-is
 use Rattle.settling.specs.declared.Settlement.{Settlement}
@@ -59,6 +64,14 @@ true-product = meaning.true-product
 -- .. which is one masked comparison of its record's numbers.
 pub product-by-mask : (n : ℕ) (c : Cube) (a : ℕ) → Good n c → a < 2 ^ n → holds n c a ≡ eqb (bitAnd (c .seen) a) (c .value)
 product-by-mask = meaning.product-by-mask
+
+-- "The product with no literal is the constant 1. The empty list is the constant 0."
+pub no-literal-is-1 : (n a : ℕ) → holds n one a ≡ true
+no-literal-is-1 n a = product-true n one a (λ k h. ap (λ (x : ℕ). met x (bit a k)) (code-absent one k (bit-high 0 0 k (pow-pos 0) zero-le)))
+
+pub empty-list-is-0 : (n a : ℕ) → listValue n [] a ≡ 0
+unfolding listValue trues tally
+empty-list-is-0 n a = refl
 
 -- ---- "each rewrite": the rules of 000, in any product t, at variables x and y
 
@@ -157,9 +170,13 @@ module _ (n p : ℕ) where
   pub literal-of-polarity-missing : (c : ℕ → ℕ) → All (λ d. (k : ℕ) → code d k ≢ bit p k) (formFrom n p c)
   literal-of-polarity-missing = theorems.literal-of-polarity-missing n p
 
-  -- 001, property 2: under a polarity no other form has the function's values.
-  pub form-unique : p < 2 ^ n → (f c : ℕ → ℕ) → ((s : ℕ) → c s < 2) → ((a : ℕ) → a < 2 ^ n → listValue n (formFrom n p c) a ≡ f a) → formFrom n p c ≡ formList n p f
-  form-unique = theorems.form-unique n p
+  -- The form's list is a form under its polarity: products without those literals, each set of variables once, ascending; ..
+  pub form-is-form : (f : ℕ → ℕ) → Form n p (formList n p f)
+  form-is-form = uniqueness.form-is-form n p
+
+  -- .. and 001, property 2: every form under that polarity that has the function's values is that list.
+  pub form-is-only : (l : List Cube) → Form n p l → p < 2 ^ n → (f : ℕ → ℕ) → ((a : ℕ) → a < 2 ^ n → listValue n l a ≡ f a) → l ≡ formList n p f
+  form-is-only = uniqueness.form-is-only n p
 
 module _ (n : ℕ) (f : ℕ → ℕ) where
   -- 002, lemma 2.2: polarity 0 is the positive form; its literals are plain, and f is the EXOR of the coefficients of the sets whose variables are all 1.
@@ -168,6 +185,9 @@ module _ (n : ℕ) (f : ℕ → ℕ) where
 
   pub positive-form : ((t : ℕ) → f t < 2) → (a : ℕ) → a < 2 ^ n → f a ≡ parityWithin n (parityWithin n f) a
   positive-form = theorems.positive-form n f
+
+  pub positive-coefficient : (s : ℕ) → coefficient n 0 f s ≡ parityWithin n f s
+  positive-coefficient = theorems.positive-coefficient n f
 
   -- The best polarity has the fewest products, and of those with as few it is the smallest.
   pub best-has-fewest : Least (λ p. size n p f) (2 ^ n) (bestPolarity n f)
@@ -187,34 +207,41 @@ module _ (n : ℕ) (list script work out : List ℕ) (s : Settlement) (work′ o
   acc : Accepting n list script work out s work′ out′
   acc = called-accepted n list script work out work′ out′ s c
 
-  ran : run n (cubeCapacity (length work)) (stepsOf script) (cubesOf list) ≡ ended (acc .result) (s .peak)
+  abbrev result : List Cube
+  result = acc .end .result
+
+  ran : run n (cubeCapacity (length work)) (stepsOf script) (cubesOf list) ≡ ended result (s .peak)
   unfolding runOf
-  ran = acc .ran
+  ran = acc .end .ran ∙ ap (λ (t : Settlement). ended result (t .peak)) (sym (acc .is))
 
   -- given: the number of the given products
   pub given-count : s .given ≡ length (cubesOf list)
-  given-count = acc .given-is
+  given-count = ap (λ (t : Settlement). t .given) (acc .is)
 
   -- script: "the first count plus splits, less joins, less twice the drops"
   pub script-count : s .script + howMany isJoin (stepsOf script) + 2 * howMany isDrop (stepsOf script) ≡ length (cubesOf list) + howMany isSplit (stepsOf script)
   script-count =
-      let many : s .script ≡ length (acc .result) = acc .script-is in
-      omega (arith, counting.run-count n (cubeCapacity (length work)) (stepsOf script) (cubesOf list) (acc .result) (s .peak) ran)
+      let many : s .script ≡ length result = ap (λ (t : Settlement). t .script) (acc .is) in
+      omega (arith, counting.run-count n (cubeCapacity (length work)) (stepsOf script) (cubesOf list) result (s .peak) ran)
 
   -- peak: "the greatest count met, the first included", of the lists between the steps, of which there is one more than there are steps
   pub peak-is : s .peak ≡ greatest (lists n (cubeCapacity (length work)) (stepsOf script) (cubesOf list))
-  peak-is = counting.run-peak n (cubeCapacity (length work)) (stepsOf script) (cubesOf list) (acc .result) (s .peak) ran
+  peak-is = counting.run-peak n (cubeCapacity (length work)) (stepsOf script) (cubesOf list) result (s .peak) ran
 
   pub lists-met : length (lists n (cubeCapacity (length work)) (stepsOf script) (cubesOf list)) ≡ suc (length (stepsOf script))
-  lists-met = counting.run-lists n (cubeCapacity (length work)) (stepsOf script) (cubesOf list) (acc .result) (s .peak) ran
+  lists-met = counting.run-lists n (cubeCapacity (length work)) (stepsOf script) (cubesOf list) result (s .peak) ran
+
+  -- "It is at most the first count plus splits."
+  pub peak-at-most : s .peak ≤ length (cubesOf list) + howMany isSplit (stepsOf script)
+  peak-at-most = counting.run-peak-splits n (cubeCapacity (length work)) (stepsOf script) (cubesOf list) result (s .peak) ran
 
   -- fixed: the best polarity of the given list's function, by its truth vector, and its size; none above 8 variables
   pub fixed-few : n ≤ vectorVariables → s .fixed
       ≡ fixed-is.Polarity (bestPolarity n (byteAt (truthVector n (cubesOf list))))
       (size n (bestPolarity n (byteAt (truthVector n (cubesOf list)))) (byteAt (truthVector n (cubesOf list))))
   unfolding fixedOf bestForm
-  fixed-few h = acc .fixed-is ∙ simp (le-leb n vectorVariables h)
+  fixed-few h = ap (λ (t : Settlement). t .fixed) (acc .is) ∙ simp (le-leb n vectorVariables h)
 
   pub fixed-many : vectorVariables < n → s .fixed ≡ fixed-is.Absent
   unfolding fixedOf
-  fixed-many h = acc .fixed-is ∙ simp (lt-leb n vectorVariables h)
+  fixed-many h = ap (λ (t : Settlement). t .fixed) (acc .is) ∙ simp (lt-leb n vectorVariables h)

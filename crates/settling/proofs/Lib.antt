@@ -5,3 +5,4 @@ pub mod SettleLaws
 pub mod Settling
 pub mod Determined
 pub mod Fewest
+pub mod Outcomes
