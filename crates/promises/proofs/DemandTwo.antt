@@ -23,10 +23,12 @@ use Rattle.cube.specs.Lists.{cubesOf, cubeCapacity, trues, listValue, truthVect
 use Rattle.cube.proofs.Codes.{code-absent}
 use Rattle.cube.proofs.Meaning as meaning
 use Rattle.steps.specs.Moves.{next}
-use Rattle.steps.specs.Steps.{Step, drop, join, split, turn, L, step, exchanged, isSplit, isJoin, isDrop}
+use Rattle.steps.specs.Steps.{Step, Fits, drop, join, split, turn, L, step, exchanged, isSplit, isJoin, isDrop}
 use Rattle.steps.proofs.Inversion.{Dropped, Joined, Split, Turned}
 use Rattle.steps.proofs.Inversion as inversion
 use Rattle.steps.proofs.Rules.{complemented, plain, absent, Same, DropRule, JoinRule, SplitRule, TurnRule}
+use Rattle.steps.proofs.Kept.{IsRewrite}
+use Rattle.steps.proofs.Kept as kept
 use Rattle.steps.proofs.Rules as rules
 use Rattle.steps.proofs.Transformation.{Transformed}
 use Rattle.steps.proofs.Transformation as transformation
@@ -127,6 +129,10 @@ module _ (n cap i j : ℕ) (l m : List Cube) where
 
   pub split-done : (v : ℕ) → step n cap (split v i) l ≡ next m → Split cap v i l m
   split-done v = inversion.split-accepted n cap v i l m
+
+-- Each of the four keeps the function: the list after it has the value of the list before it, at every assignment.
+pub rewrite-keeps : (n cap : ℕ) (x : Step) → IsRewrite x → Fits n x → (l m : List Cube) → All (Good n) l → step n cap x l ≡ next m → Same n m l
+rewrite-keeps = kept.rewrite-value
 
 -- ---- "each L-transformation"
 

@@ -15,14 +15,18 @@ use Rattle.bits.specs.Below.{listBelow}
 use Rattle.bits.specs.Sums.{sum, oneIf, All}
 use Rattle.bits.proofs.Below.{length-listBelow, getD-listBelow}
 use Rattle.bits.proofs.Least.{Least}
+use Rattle.bits.proofs.Sums.{all-map}
 use Rattle.records.specs.Records.{records, listOf, flat, filled, image, written, Holds}
 use Rattle.records.specs.Answers.{Outcome, accepted}
+use Rattle.records.proofs.Answering.{not-both}
 use Rattle.records.proofs.Images.{length-flat}
 use Rattle.records.proofs.Holding.{length-list, capacity-fits, capacity-most, holds-records, written-front}
 use Rattle.cube.specs.declared.Cube.{Cube}
 use Rattle.cube.specs.Cubes.{good, Good, holds, one}
-use Rattle.cube.specs.Lists.{cubes, cubesOf, cubeCapacity, mostRecords, recordWidth, vectorVariables, listValue, trues, truthVector}
+use Rattle.cube.specs.Lists.{cubes, cubesOf, cubeCapacity, mostVariables, mostRecords, recordWidth, vectorVariables, listValue, trues, truthVector}
 use Rattle.cube.proofs.Codes.{parts-good}
+use Rattle.cube.specs.Calls.{checkList}
+use Rattle.cube.proofs.ListLaws as list-laws
 use Rattle.cube.proofs.ListLaws.{lawful, good-at}
 use Rattle.cube.proofs.Meaning.{value-is-exor}
 use Rattle.polarity.specs.Forms.{coefficient, valueBack, formFrom, formList, size}
@@ -31,13 +35,20 @@ use Rattle.polarity.proofs.Checks.{check-accepts}
 use Rattle.polarity.proofs.Listing.{form-good, form-cong}
 use Rattle.polarity.proofs.Parities.{parity-lt}
 use Rattle.polarity.proofs.Theorems.{there-and-back, back-and-there, form-has-the-value, best-has-fewest}
+use Rattle.steps.specs.Steps.{Fits, meaning}
+use Rattle.script.specs.Run.{Ran, stopped, ended, run}
+use Rattle.script.specs.Scripts.{stepRecords, fits, stepsOf}
+use Rattle.script.specs.Calls.{checkScript, runOf, ranOutcome, ranWork}
+use Rattle.script.proofs.Codec.{meaning-fits}
+use Rattle.script.proofs.Reading.{script-accepts}
+use Rattle.script.proofs.Value.{run-value}
 use Rattle.promises.specs.Calls.{Call, Called}
 use Rattle.promises.specs.Calls as call
-use Rattle.promises.specs.Refusals.{NoneWrong, listReasons, vectorReasons, reasons}
+use Rattle.promises.specs.Refusals.{NoneWrong, listReasons, scriptReasons, vectorReasons, reasons}
 use Rattle.promises.specs.Accepted.{goesOn, goesOnLeaving}
 use Rattle.promises.proofs.Chains.{Judged, none-left, none-right, none-both, not-none}
 use Rattle.promises.proofs.Chains as chains
-use Rattle.promises.proofs.Judging.{by-vector}
+use Rattle.promises.proofs.Judging.{by-list, by-script, by-vector}
 use Rattle.promises.proofs.DemandOne.{accepted-not-wrong, not-wrong-goes-on}
 
 -- ---- one call
@@ -279,3 +290,45 @@ module _ (n p k a : ℕ) (list v v′ c c′ f f′ : List ℕ) (o₁ o₂ q : O
             ∙ ap (λ (b : List ℕ). accepted (byteAt b a ∷ [])) w
             ∙ ap (λ (x : ℕ). accepted (x ∷ [])) (getD-listBelow (2 ^ n) (listValue n (cubesOf list)) a 0 h),
       )
+
+-- ---- run
+
+-- where nothing is wrong of a list and of a script, the cubes are good, and the steps fit
+good-list : (limit n : ℕ) (list : List ℕ) → NoneWrong (listReasons limit n list) → All (Good n) (cubesOf list)
+good-list limit n list none = go (by-list limit n list)
+  where
+    go : Judged (listReasons limit n list) (checkList limit n list) (accepted (length (cubesOf list) ∷ [])) → All (Good n) (cubesOf list)
+    go (chains.wrong number place f e) = absurd (not-none (listReasons limit n list) number place f none)
+    go (chains.right fine e) = list-laws.check-accepts limit n list (length (cubesOf list) ∷ []) e .good
+
+fit-script : (n : ℕ) (script : List ℕ) → NoneWrong (scriptReasons n script) → All (Fits n) (stepsOf script)
+unfolding stepsOf
+fit-script n script none = go (by-script n script)
+  where
+    go : Judged (scriptReasons n script) (checkScript n script) (accepted (length (listOf stepRecords script) ∷ [])) → All (Fits n) (stepsOf script)
+    go (chains.wrong number place f e) = absurd (not-none (scriptReasons n script) number place f none)
+    go (chains.right fine e) =
+        all-map (λ r. fits n r ≡ true) (Fits n) meaning (meaning-fits n) (listOf stepRecords script)
+        (script-accepts n script (length (listOf stepRecords script) ∷ []) e .fit)
+
+module _ (n : ℕ) (list script work work′ : List ℕ) (count peak : ℕ)
+    (c : Called (call.run n list script work) (accepted (count ∷ peak ∷ [])) (work′ ∷ [])) where
+  -- Run answers the count and the peak of the list that the script ends in, after the undoing; that list is at the front of work, and zeros after it ..
+  pub run-answers : (m : List Cube) × (run n (cubeCapacity (length work)) (stepsOf script) (cubesOf list) ≡ ended m peak) × (count ≡ length m)
+      × (work′ ≡ image cubes (length work) m)
+  unfolding goesOn goesOnLeaving runOf
+  run-answers = let g = went-on (call.run n list script work) (count ∷ peak ∷ []) (work′ ∷ []) c in go (runOf n list script (length work)) refl (g .0) (g .1)
+    where
+      go : (ran : Ran Cube) → runOf n list script (length work) ≡ ran → accepted (count ∷ peak ∷ []) ≡ ranOutcome ran → work′ ∷ [] ≡ ranWork (length work) ran ∷ []
+          → (m : List Cube) × (runOf n list script (length work) ≡ ended m peak) × (count ≡ length m) × (work′ ≡ image cubes (length work) m)
+      go (stopped number step) is e f = absurd (not-both e)
+      go (ended m q) is e f = let t = two-values e in (m, is ∙ ap (ended m) (sym (t .1)), t .0, only f)
+
+  -- .. and it has the given list's value at every assignment.
+  pub run-keeps-value : (m : List Cube) → run n (cubeCapacity (length work)) (stepsOf script) (cubesOf list) ≡ ended m peak
+      → (a : ℕ) → listValue n m a ≡ listValue n (cubesOf list) a
+  unfolding reasons
+  run-keeps-value m ran =
+      let none = fine (call.run n list script work) (count ∷ peak ∷ []) (work′ ∷ []) c in
+      run-value n (cubeCapacity (length work)) (stepsOf script) (fit-script n script (none-right (listReasons mostVariables n list) _ none .1))
+      (cubesOf list) (good-list mostVariables n list (none-left (listReasons mostVariables n list) _ none)) m peak ran

@@ -53,7 +53,7 @@ by-list limit n list =
     (length list % recordWidth) 0 2 0)
     n limit 1 0
 
-by-script : (n : ℕ) (script : List ℕ) → Judged (scriptReasons n script) (checkScript n script) (accepted (length (listOf stepRecords script) ∷ []))
+pub by-script : (n : ℕ) (script : List ℕ) → Judged (scriptReasons n script) (checkScript n script) (accepted (length (listOf stepRecords script) ∷ []))
 unfolding checkScript scriptReasons
 by-script n script =
     unless-eq
