@@ -3,18 +3,20 @@
 -- most 8 variables no polarity's form has fewer. Stated of the bytes that `settle` leaves in the output buffer.
 -- Assumes nothing.
 use mathlib.Core.Path.{_≡_, sym, ap, ap₂, _∙_, subst}
+use mathlib.Core.Logic.{_≢_}
 use mathlib.Core.List.{List, [], _∷_}
 use Prim.Native.Nat.{ℕ, _-_, _*_, _/_, _^_, _≤_, _<_}
+use native.Mathlib.Nat.{le-trans}
 use native.Mathlib.Omega.{arith}
 use lib.ListN.{length, drop}
+use Rattle.bits.specs.Bits.{bit}
 use Rattle.bits.specs.Sums.{All}
 use Rattle.records.specs.Records.{records, zeros}
 use Rattle.records.proofs.Holding.{length-records, length-list}
 use Rattle.cube.specs.declared.Cube.{Cube}
-use Rattle.cube.specs.Cubes.{Good}
+use Rattle.cube.specs.Cubes.{code, Good}
 use Rattle.cube.specs.Lists.{cubes, cubesOf, cubeCapacity, recordWidth, mostRecords, mostVariables, vectorVariables, listValue}
 use Rattle.polarity.specs.Forms.{formList}
-use Rattle.polarity.proofs.Uniqueness.{Form, form-is-only}
 use Rattle.script.specs.Run.{ended, run}
 use Rattle.script.specs.Scripts.{stepsOf, stepWidth, mostSteps}
 use Rattle.script.specs.Calls.{runOf}
@@ -26,6 +28,7 @@ use Rattle.settling.specs.Calls.{settled}
 use Rattle.settling.proofs.Outcomes.{Passing, passing, BurnedBy, settle-burned}
 use Rattle.promises.specs.Calls.{settle, Called}
 use Rattle.promises.specs.Burned.{burnedIn, EndsIn}
+use Rattle.promises.proofs.AnyForm.{form-shortest}
 use Rattle.promises.proofs.Calling.{Accepting, called-accepted}
 
 -- a call that was not refused
@@ -90,13 +93,13 @@ module _ (n : ℕ) (list script work out : List ℕ) (s : Settlement) (work′ o
   pub script-ends : EndsIn n list script work s
   script-ends = record { result = result; is = ran; count = ap (λ (t : Settlement). t .script) (acc .is) }
 
-  -- .. and for at most 8 variables no form of the given list's function has fewer: whatever the polarity p is, and whatever list is a form under p
-  -- (001, definition 3) and has the given list's values.
-  pub no-form-has-fewer : n ≤ vectorVariables → (p : ℕ) → p < 2 ^ n → (l : List Cube) → Form n p l
+  -- .. and for at most 8 variables no form of the given list's function has fewer: whatever the polarity p is, and whatever list of products over n
+  -- variables, in any order, has the given list's values and nowhere "the literal whose code is the vector's entry" (001, definition 3).
+  pub no-form-has-fewer : n ≤ vectorVariables → (p : ℕ) → p < 2 ^ n → (l : List Cube) → All (Good n) l → All (λ c. (k : ℕ) → code c k ≢ bit p k) l
       → ((a : ℕ) → a < 2 ^ n → listValue n l a ≡ listValue n (cubesOf list) a) → length (burnedIn s out′) ≤ length l
-  no-form-has-fewer few p h l F same =
-      subst (λ (m : List Cube). length (burnedIn s out′) ≤ length m) (sym (form-is-only n p l F h (listValue n (cubesOf list)) same))
-      (of-burned (λ m. length m ≤ length (formList n p (listValue n (cubesOf list)))) (by .no-form-has-fewer few p h))
+  no-form-has-fewer few p h l good missing same =
+      le-trans (of-burned (λ m. length m ≤ length (formList n p (listValue n (cubesOf list)))) (by .no-form-has-fewer few p h))
+      (form-shortest n p h l good missing (listValue n (cubesOf list)) same)
 
   -- After the list, which fits, every byte of the output buffer is zero; and every byte of the work buffer is.
   pub zeros-after : drop (recordWidth * s .burned) out′ ≡ zeros (length out - recordWidth * s .burned)

@@ -4,6 +4,7 @@ pub mod Contracts
 pub mod DemandOne
 pub mod Calling
 pub mod DemandTwo
+pub mod AnyForm
 pub mod DemandThree
 pub mod DemandTwoCalls
 pub mod Faces
