@@ -12,6 +12,7 @@ use lib.ListN.{length, drop}
 use Rattle.bits.specs.Bits.{bit}
 use Rattle.bits.specs.Sums.{All}
 use Rattle.records.specs.Records.{records, zeros}
+use Rattle.records.specs.Answers.{Outcome}
 use Rattle.records.proofs.Holding.{length-records, length-list}
 use Rattle.cube.specs.declared.Cube.{Cube}
 use Rattle.cube.specs.Cubes.{code, Good}
@@ -27,9 +28,21 @@ use Rattle.settling.specs.Candidates.{burnedList}
 use Rattle.settling.specs.Calls.{settled}
 use Rattle.settling.proofs.Outcomes.{Passing, passing, BurnedBy, settle-burned}
 use Rattle.promises.specs.Calls.{settle, Called}
+use Rattle.promises.specs.Refusals.{NoneWrong, reasons}
+use Rattle.promises.specs.Accepted.{EndOfScript, ScriptEnds}
 use Rattle.promises.specs.Burned.{burnedIn, EndsIn}
 use Rattle.promises.proofs.AnyForm.{form-shortest}
-use Rattle.promises.proofs.Calling.{Accepting, called-accepted}
+use Rattle.promises.proofs.Calling.{Accepting, called-accepted, accepted-settled}
+use Rattle.promises.proofs.DemandOne.{not-wrong-accepted}
+
+-- There are such calls: one of which nothing is wrong, and whose script ends, is not refused.
+pub not-wrong-settles : (n : ℕ) (list script work out : List ℕ) (o : Outcome) (buffers : List (List ℕ)) → NoneWrong (reasons (settle n list script work out))
+    → EndOfScript n list script work → Called (settle n list script work out) o buffers
+    → (s : Settlement) × Called (settle n list script work out) (settled (settled-is.Burned s)) buffers
+unfolding ScriptEnds
+not-wrong-settles n list script work out o buffers fine end c =
+    let a = not-wrong-accepted (settle n list script work out) o buffers c fine end in
+    accepted-settled n list script work out (a .0) buffers (record { answer = sym (a .1) ∙ c .answer; left = c .left })
 
 -- a call that was not refused
 module _ (n : ℕ) (list script work out : List ℕ) (s : Settlement) (work′ out′ : List ℕ)

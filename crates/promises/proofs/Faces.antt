@@ -3,30 +3,24 @@
 -- Assumes nothing.
 use mathlib.Core.Path.{_≡_, refl, sym, ap, _∙_}
 use mathlib.Core.Logic.{⊎-elim}
-use mathlib.Core.List.{List, [], _∷_, _++_}
+use mathlib.Core.List.{List, [], _∷_}
 use Prim.Native.Nat.{ℕ, _≤_}
 use native.Mathlib.Omega.{arith}
-use lib.ListN.{length, getD}
+use lib.ListN.{getD}
 use Rattle.records.specs.declared.Refusal.{Refusal}
 use Rattle.records.specs.Answers.{Outcome, accepted, refused}
-use Rattle.records.proofs.Answering.{not-both}
-use Rattle.cube.specs.declared.Cube.{Cube}
-use Rattle.cube.specs.Lists.{cubesOf}
-use Rattle.script.specs.Run.{Ran, stopped, ended}
-use Rattle.script.specs.Calls.{runOf}
 use Rattle.settling.specs.declared.Fixed.{Fixed}
 use Rattle.settling.specs.declared.Fixed.the-variants as fixed-is
 use Rattle.settling.specs.declared.Settled.the-variants as settled-is
 use Rattle.settling.specs.declared.Settlement.{Settlement}
-use Rattle.settling.specs.Candidates.{burnedList, fixedOf}
-use Rattle.settling.specs.Calls.{ranSettled, settled}
+use Rattle.settling.specs.Calls.{settled}
 use Rattle.druthmoy.specs.Faces.{eight, words, settledWords}
-use Rattle.promises.specs.Calls.{Call, check, value, truthVector, coefficients, vectorBack, writeForm, bestPolarity, run, settle, wordsOf, Called, Faced}
+use Rattle.promises.specs.Calls.{Call, check, value, truthVector, coefficients, vectorBack, writeForm, bestPolarity, run, settle, wordsOf, Faced}
 use Rattle.promises.specs.Refusals.{listReasons, scriptReasons, vectorReasons, reasons, RefusedBefore, RefusedAtStep, in-run, in-settle}
-use Rattle.promises.specs.Accepted.{goesOn}
 use Rattle.promises.specs.Faced.{polarityWord, sizeWord, SettledFace}
 use Rattle.promises.proofs.Chains.{Numbered, numbered-both, first-number}
-use Rattle.promises.proofs.DemandOne.{refused-call, accepted-not-wrong, not-wrong-goes-on}
+use Rattle.promises.proofs.DemandOne.{refused-call}
+use Rattle.promises.proofs.Calling.{accepted-settled}
 
 -- ---- refused by a number above 0
 
@@ -110,27 +104,6 @@ module _ (c : Call) (answer : List ℕ) (buffers : List (List ℕ)) (F : Faced c
 
 -- ---- settle
 
--- an accepted settle answers a settlement
-module _ (n : ℕ) (list script work out : List ℕ) (buffers : List (List ℕ)) where
-  pub accepted-settled : (v : List ℕ) → Called (settle n list script work out) (accepted v) buffers → (s : Settlement) × (accepted v ≡ settled (settled-is.Burned s))
-  unfolding goesOn
-  accepted-settled v c =
-      let fine = accepted-not-wrong (settle n list script work out) (accepted v) buffers c v refl in
-      go (runOf n list script (length work)) (not-wrong-goes-on (settle n list script work out) (accepted v) buffers c fine .0)
-    where
-      go : (ran : Ran Cube) → accepted v ≡ ranSettled n (cubesOf list) ran → (s : Settlement) × (accepted v ≡ settled (settled-is.Burned s))
-      go (stopped number step) e = absurd (not-both e)
-      go (ended result peak) e = (
-        record {
-          given = length (cubesOf list);
-          peak = peak;
-          script = length result;
-          fixed = fixedOf n (cubesOf list);
-          burned = length (burnedList n result (cubesOf list));
-        },
-        e,
-      )
-
 settled-counts : (s : Settlement) (f : Fixed) → s .fixed ≡ f
     → settledWords (settled (settled-is.Burned s)) ≡ 0 ∷ 0 ∷ s .given ∷ s .peak ∷ s .script ∷ polarityWord f ∷ sizeWord f ∷ s .burned ∷ []
 unfolding settledWords words
@@ -144,10 +117,9 @@ pub settled-face : (n : ℕ) (list script work out : List ℕ) (answer work′ o
 unfolding wordsOf
 settled-face n list script work out answer work′ out′ F z =
     let a = zero-accepted (settle n list script work out) answer (work′ ∷ out′ ∷ []) F z in
-    let c : Called (settle n list script work out) (accepted (a .0)) (work′ ∷ out′ ∷ []) = record { answer = sym (a .1) ∙ F .called .answer; left = F .called .left } in
-    let t = accepted-settled n list script work out (work′ ∷ out′ ∷ []) (a .0) c in
+    let t = accepted-settled n list script work out (a .0) (work′ ∷ out′ ∷ []) (record { answer = sym (a .1) ∙ F .called .answer; left = F .called .left }) in
     record {
       settlement = t .0;
-      called = record { answer = sym (t .1) ∙ c .answer; left = c .left };
-      counts = F .told ∙ ap settledWords (a .1 ∙ t .1) ∙ settled-counts (t .0) (t .0 .fixed) refl;
+      called = t .1;
+      counts = F .told ∙ ap settledWords (F .called .answer ∙ sym (t .1 .answer)) ∙ settled-counts (t .0) (t .0 .fixed) refl;
     }

@@ -42,7 +42,7 @@ goesOnLeaving (call.run n list script work) = ranWork (length work) (runOf n lis
 goesOnLeaving (call.settle n list script work out) = zeros (length work) ∷ ranBurned n (cubesOf list) (runOf n list script (length work)) out ∷ []
 
 -- the script, of a call that has one, ends: no step of it is refused
-pub record Ended (n : ℕ) (list script work : List ℕ) : Type 0 where
+pub record EndOfScript (n : ℕ) (list script work : List ℕ) : Type 0 where
   pub result : List Cube
   pub peak : ℕ
   pub is : runOf n list script (length work) ≡ ended result peak
@@ -55,5 +55,5 @@ ScriptEnds (call.coefficients n vector p out) = Unit {0}
 ScriptEnds (call.vectorBack n vector p out) = Unit {0}
 ScriptEnds (call.writeForm n vector p out) = Unit {0}
 ScriptEnds (call.bestPolarity n vector) = Unit {0}
-ScriptEnds (call.run n list script work) = Ended n list script work
-ScriptEnds (call.settle n list script work out) = Ended n list script work
+ScriptEnds (call.run n list script work) = EndOfScript n list script work
+ScriptEnds (call.settle n list script work out) = EndOfScript n list script work
