@@ -1,6 +1,6 @@
 -- A chain of tests and the reasons that it goes by: it refuses by the first that is wrong, and goes on where none is. For every chain, of every call.
 -- Assumes nothing.
-use mathlib.Core.Path.{_≡_, refl, sym, ap, _∙_}
+use mathlib.Core.Path.{_≡_, refl, sym, _∙_}
 use mathlib.Core.Logic.{inl, inr}
 use mathlib.Core.Bool.{Bool, true, false, true≢false}
 use mathlib.Core.List.{List, [], _∷_, _++_}
@@ -12,7 +12,6 @@ use lib.Dec.{eqb, ltb}
 use lib.ListN.{length, getD}
 use Rattle.bits.specs.Sums.{firstBad}
 use Rattle.bits.proofs.Sums.{all-get, first-le, first-fails, first-lowest, first-none}
-use Rattle.records.specs.declared.Refusal.{Refusal}
 use Rattle.records.specs.Answers.{Outcome, accepted, refused, refusal, unless, unlessAt, andThen}
 use Rattle.records.proofs.Answering.{and-then, and-not}
 use Rattle.promises.specs.Refusals.{Lowest, Reason, at, lowest, numberOf, Wrong, NoneWrong, FirstWrong}

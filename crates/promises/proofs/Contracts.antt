@@ -44,7 +44,7 @@ use Rattle.druthmoy.proofs.dm_run.Kinds as dm-run-kinds
 use Rattle.druthmoy.proofs.dm_run.Reads as dm-run-reads
 use Rattle.druthmoy.proofs.dm_settle.Kinds as dm-settle-kinds
 use Rattle.druthmoy.proofs.dm_settle.Reads as dm-settle-reads
-use Rattle.promises.specs.Calls.{Call, check, value, truthVector, coefficients, vectorBack, writeForm, bestPolarity, run, settle, answers, leaves, wordsOf, Called, Faced}
+use Rattle.promises.specs.Calls.{Call, check, value, truthVector, coefficients, vectorBack, writeForm, bestPolarity, run, settle, answers, leaves, wordsOf, Faced}
 use Rattle.promises.specs.Contracts.{IsCalled, IsFaced}
 
 -- ---- from Rattle

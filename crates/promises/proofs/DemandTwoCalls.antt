@@ -4,7 +4,7 @@
 use mathlib.Core.Path.{_≡_, refl, sym, ap, _∙_, subst}
 use mathlib.Core.Bool.{true, true≢false}
 use mathlib.Core.List.{List, [], _∷_, _++_, append-nil}
-use Prim.Native.Nat.{ℕ, suc, _-_, _*_, _/_, _%_, _^_, _≤_, _<_}
+use Prim.Native.Nat.{ℕ, suc, _-_, _*_, _/_, _^_, _≤_, _<_}
 use native.Mathlib.Nat.{le-trans, mul-le-mul-left, mod-lt, zero-lt-suc, lt-of-not-le}
 use native.Mathlib.Omega.{arith}
 use borrow.Author.Tests.{le-leb}
@@ -16,11 +16,11 @@ use Rattle.bits.specs.Sums.{sum, oneIf, All}
 use Rattle.bits.proofs.Below.{length-listBelow, getD-listBelow}
 use Rattle.bits.proofs.Least.{Least}
 use Rattle.bits.proofs.Sums.{all-map}
-use Rattle.records.specs.Records.{records, listOf, flat, filled, image, written, Holds}
+use Rattle.records.specs.Records.{records, listOf, flat, filled, image, Holds}
 use Rattle.records.specs.Answers.{Outcome, accepted}
 use Rattle.records.proofs.Answering.{not-both}
 use Rattle.records.proofs.Images.{length-flat}
-use Rattle.records.proofs.Holding.{length-list, capacity-fits, capacity-most, holds-records, written-front}
+use Rattle.records.proofs.Holding.{capacity-fits, capacity-most, holds-records, written-front}
 use Rattle.cube.specs.declared.Cube.{Cube}
 use Rattle.cube.specs.Cubes.{good, Good, holds, one}
 use Rattle.cube.specs.Lists.{cubes, cubesOf, cubeCapacity, mostVariables, mostRecords, recordWidth, vectorVariables, listValue, trues, truthVector}
@@ -30,7 +30,7 @@ use Rattle.cube.proofs.ListLaws as list-laws
 use Rattle.cube.proofs.ListLaws.{lawful, good-at}
 use Rattle.cube.proofs.Meaning.{value-is-exor}
 use Rattle.polarity.specs.Forms.{coefficient, valueBack, formFrom, formList, size}
-use Rattle.polarity.specs.Vectors.{byteAt, isBit, Vector, checkVector, coefficientVector, vectorBack}
+use Rattle.polarity.specs.Vectors.{byteAt, Vector, checkVector, coefficientVector, vectorBack}
 use Rattle.polarity.proofs.Checks.{check-accepts}
 use Rattle.polarity.proofs.Listing.{form-good, form-cong}
 use Rattle.polarity.proofs.Parities.{parity-lt}

@@ -1,6 +1,6 @@
 -- Every call by its reasons: the first that is wrong is what it refuses, and then it leaves its buffers as they were; where none is, how it goes on.
 -- Assumes nothing.
-use mathlib.Core.Path.{_≡_, refl, ap, ap₂, _∙_}
+use mathlib.Core.Path.{_≡_, refl, ap}
 use mathlib.Core.List.{List, [], _∷_, _++_}
 use Prim.Native.Nat.{ℕ, _/_, _%_, _^_, _≤_, _<_}
 use native.Mathlib.Omega.{arith}
@@ -8,20 +8,18 @@ use borrow.Author.Tests.{leb-false, leb-true, ltb-true, ltb-false, eqb-false, eq
 use lib.Dec.{leb, ltb, eqb}
 use lib.ListN.{length}
 use Rattle.records.specs.declared.Refusal.{Refusal}
-use Rattle.records.specs.Records.{listOf, zeros}
+use Rattle.records.specs.Records.{listOf}
 use Rattle.records.specs.Answers.{Outcome, accepted, refused, refusal, unless, andThen}
 use Rattle.records.proofs.Answering.{and-then, and-not, after-refused, after-accepted}
-use Rattle.cube.specs.declared.Cube.{Cube}
 use Rattle.cube.specs.Cubes.{good, one}
-use Rattle.cube.specs.Lists.{mostVariables, vectorVariables, mostRecords, recordWidth, cubesOf, cubeCapacity, listValue}
+use Rattle.cube.specs.Lists.{mostVariables, vectorVariables, mostRecords, recordWidth, cubesOf, cubeCapacity}
 use Rattle.cube.specs.Calls.{checkList, valueOutcome, vectorOutcome, vectorAfter}
 use Rattle.polarity.specs.Forms.{formFrom}
 use Rattle.polarity.specs.Vectors.{byteAt, isBit, checkVector}
 use Rattle.polarity.specs.Calls.{coefficientsOutcome, coefficientsAfter, backAfter, formOutcome, formAfter, bestOutcome}
-use Rattle.script.specs.Run.{Ran}
 use Rattle.script.specs.Scripts.{stepRecords, stepWidth, mostSteps, fits}
-use Rattle.script.specs.Calls.{checkScript, checkRun, runOf, ranOutcome, runOutcome, workAfter, runAfter}
-use Rattle.settling.specs.Calls.{checkSettle, ranSettled, settleOutcome, settleWorkBy, settleWork, settleOutBy, settleOut}
+use Rattle.script.specs.Calls.{checkScript, checkRun, runOf, runOutcome, workAfter, runAfter}
+use Rattle.settling.specs.Calls.{checkSettle, settleOutcome, settleWorkBy, settleWork, settleOutBy, settleOut}
 use Rattle.promises.specs.Calls.{Call, check, value, truthVector, coefficients, vectorBack, writeForm, bestPolarity, run, settle, answers, lent, leaves}
 use Rattle.promises.specs.Refusals.{Reason, at, NoneWrong, FirstWrong, listReasons, scriptReasons, vectorReasons, reasons}
 use Rattle.promises.specs.Accepted.{goesOn, goesOnLeaving}
