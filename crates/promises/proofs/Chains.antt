@@ -85,6 +85,11 @@ pub data Judged (xs : List Reason) (o rest : Outcome) : Type 0 where
   wrong : (number place : ℕ) → FirstWrong xs number place → o ≡ refused (refusal number place) → Judged xs o rest
   right : NoneWrong xs → o ≡ rest → Judged xs o rest
 
+-- where none is there, it goes on
+pub judged-right : (xs : List Reason) (o rest : Outcome) → Judged xs o rest → NoneWrong xs → o ≡ rest
+judged-right xs o rest (wrong number place f e) none = absurd (not-none xs number place f none)
+judged-right xs o rest (right fine e) none = e
+
 pub judge-end : (o : Outcome) → Judged [] o o
 judge-end o = right tt refl
 

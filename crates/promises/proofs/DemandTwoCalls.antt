@@ -2,53 +2,41 @@
 -- "Truth vector to coefficients and back returns the vector, under every polarity."
 -- Assumes nothing.
 use mathlib.Core.Path.{_≡_, refl, sym, ap, _∙_, subst}
-use mathlib.Core.Bool.{true, true≢false}
-use mathlib.Core.List.{List, [], _∷_, _++_, append-nil}
-use Prim.Native.Nat.{ℕ, suc, _-_, _*_, _/_, _^_, _≤_, _<_}
-use native.Mathlib.Nat.{le-trans, mul-le-mul-left, mod-lt, zero-lt-suc, lt-of-not-le}
-use native.Mathlib.Omega.{arith}
-use borrow.Author.Tests.{le-leb}
+use mathlib.Core.List.{List, [], _∷_, _++_}
+use Prim.Native.Nat.{ℕ, _*_, _^_, _≤_, _<_}
+use native.Mathlib.Nat.{le-trans, mul-le-mul-left, mod-lt, zero-lt-suc}
 use lib.Bits.{bitXor}
-use lib.ListN.{length, getD, take, drop, replicate, List·getD-append}
+use lib.ListN.{length, take, drop, List·getD-append}
 use lib.Seq.{take-at, drop-at}
 use Rattle.bits.specs.Below.{listBelow}
-use Rattle.bits.specs.Sums.{sum, oneIf, All}
+use Rattle.bits.specs.Sums.{sum, oneIf}
 use Rattle.bits.proofs.Below.{length-listBelow, getD-listBelow}
 use Rattle.bits.proofs.Least.{Least}
-use Rattle.bits.proofs.Sums.{all-map}
-use Rattle.records.specs.Records.{records, listOf, flat, filled, image, Holds}
+use Rattle.records.specs.Records.{flat, image}
 use Rattle.records.specs.Answers.{Outcome, accepted}
 use Rattle.records.proofs.Answering.{not-both}
 use Rattle.records.proofs.Images.{length-flat}
-use Rattle.records.proofs.Holding.{capacity-fits, capacity-most, holds-records, written-front}
+use Rattle.records.proofs.Holding.{capacity-fits, capacity-most, written-front}
 use Rattle.cube.specs.declared.Cube.{Cube}
-use Rattle.cube.specs.Cubes.{good, Good, holds, one}
+use Rattle.cube.specs.Cubes.{holds}
 use Rattle.cube.specs.Lists.{cubes, cubesOf, cubeCapacity, mostVariables, mostRecords, recordWidth, vectorVariables, listValue, trues, truthVector}
-use Rattle.cube.proofs.Codes.{parts-good}
-use Rattle.cube.specs.Calls.{checkList}
-use Rattle.cube.proofs.ListLaws as list-laws
-use Rattle.cube.proofs.ListLaws.{lawful, good-at}
+use Rattle.cube.proofs.ListLaws.{lawful}
 use Rattle.cube.proofs.Meaning.{value-is-exor}
 use Rattle.polarity.specs.Forms.{coefficient, valueBack, formFrom, formList, size}
-use Rattle.polarity.specs.Vectors.{byteAt, Vector, checkVector, coefficientVector, vectorBack}
-use Rattle.polarity.proofs.Checks.{check-accepts}
+use Rattle.polarity.specs.Vectors.{byteAt, Vector, coefficientVector, vectorBack}
 use Rattle.polarity.proofs.Listing.{form-good, form-cong}
 use Rattle.polarity.proofs.Parities.{parity-lt}
 use Rattle.polarity.proofs.Theorems.{there-and-back, back-and-there, form-has-the-value, best-has-fewest}
-use Rattle.steps.specs.Steps.{Fits, meaning}
 use Rattle.script.specs.Run.{Ran, stopped, ended, run}
-use Rattle.script.specs.Scripts.{stepRecords, fits, stepsOf}
-use Rattle.script.specs.Calls.{checkScript, runOf, ranOutcome, ranWork}
-use Rattle.script.proofs.Codec.{meaning-fits}
-use Rattle.script.proofs.Reading.{script-accepts}
+use Rattle.script.specs.Scripts.{fits, stepsOf}
+use Rattle.script.specs.Calls.{runOf, ranOutcome, ranWork}
 use Rattle.script.proofs.Value.{run-value}
 use Rattle.promises.specs.Calls.{Call, Called}
 use Rattle.promises.specs.Calls as call
-use Rattle.promises.specs.Refusals.{NoneWrong, listReasons, scriptReasons, vectorReasons, reasons}
+use Rattle.promises.specs.Refusals.{NoneWrong, listReasons, vectorReasons, reasons}
 use Rattle.promises.specs.Accepted.{goesOn, goesOnLeaving}
-use Rattle.promises.proofs.Chains.{Judged, none-left, none-right, none-both, not-none}
-use Rattle.promises.proofs.Chains as chains
-use Rattle.promises.proofs.Judging.{by-list, by-script, by-vector}
+use Rattle.promises.proofs.Chains.{none-left, none-right}
+use Rattle.promises.proofs.NotWrong.{not-at-most, not-below, is-vector, good-list, fit-script, second-fine, flat-back, list-fine}
 use Rattle.promises.proofs.DemandOne.{accepted-not-wrong, not-wrong-goes-on}
 
 -- ---- one call
@@ -104,50 +92,9 @@ best-polarity-answers n vector p k c =
 
 -- ---- vectors
 
--- a reason that is not there
-not-at-most : (a b : ℕ) → ((q : ℕ) → (q ≡ 0) × (b ≤ a) → ⊥) → a < b
-not-at-most a b none = lt-of-not-le (λ h. none 0 (refl, h))
-
-not-below : (a b : ℕ) → ((q : ℕ) → (q ≡ 0) × (b < a) → ⊥) → a ≤ b
-not-below a b none = let l : a < suc b = lt-of-not-le (λ h. none 0 (refl, h)) in omega arith
-
--- what is not wrong of a vector
-is-vector : (n : ℕ) (l : List ℕ) → NoneWrong (vectorReasons n l) → Vector n l
-is-vector n l none = go (by-vector n l)
-  where
-    go : Judged (vectorReasons n l) (checkVector n l) (accepted (2 ^ n ∷ [])) → Vector n l
-    go (chains.wrong number place f e) = absurd (not-none (vectorReasons n l) number place f none)
-    go (chains.right fine e) = check-accepts n l (2 ^ n ∷ []) e
-
--- the bits of a function are a vector
-bits-fine : (n : ℕ) (f : ℕ → ℕ) → n ≤ vectorVariables → ((t : ℕ) → f t < 2) → NoneWrong (vectorReasons n (listBelow (2 ^ n) f))
-unfolding vectorReasons
-bits-fine n f few small = (
-  (λ q w. omega (arith, w .1)),
-  (
-    (λ q w. w .1 (length-listBelow (2 ^ n) f)),
-    (
-      (λ q low.
-          let inside : q < 2 ^ n = omega (arith, low .inside, length-listBelow (2 ^ n) f) in
-          let is : getD (listBelow (2 ^ n) f) q 0 ≡ f q = getD-listBelow (2 ^ n) f q 0 inside in
-          true≢false (sym (le-leb (getD (listBelow (2 ^ n) f) q 0) 1 (omega (arith, is, small q))) ∙ low .fails)),
-      tt,
-    ),
-  ),
-)
-
 -- the front of a buffer after a call that wrote V there
 front : (n : ℕ) (f : ℕ → ℕ) (out out′ : List ℕ) → _≡_ {A = List (List ℕ)} (out′ ∷ []) ((listBelow (2 ^ n) f ++ drop (2 ^ n) out) ∷ []) → take (2 ^ n) out′ ≡ listBelow (2 ^ n) f
 front n f out out′ e = ap (take (2 ^ n)) (only e) ∙ take-at (listBelow (2 ^ n) f) (drop (2 ^ n) out) (2 ^ n) (length-listBelow (2 ^ n) f)
-
--- nothing is wrong of a second transform under the same polarity, into a buffer with room
-module _ (n p : ℕ) (f : ℕ → ℕ) (few : n ≤ vectorVariables) (low : p < 2 ^ n) (small : (t : ℕ) → f t < 2) (l room : List ℕ)
-    (is : l ≡ listBelow (2 ^ n) f) (long : 2 ^ n ≤ length room) where
-  second-fine : NoneWrong (reasons (call.coefficients n l p room))
-  unfolding reasons
-  second-fine =
-      subst (λ (v : List ℕ). NoneWrong (reasons (call.coefficients n v p room))) (sym is)
-      (none-both (vectorReasons n (listBelow (2 ^ n) f)) _ (bits-fine n f few small) ((λ q w. omega (arith, w .1)), ((λ q w. omega (arith, w .1)), tt)))
 
 -- ---- there and back
 
@@ -191,40 +138,6 @@ module _ (n p : ℕ) (l out : List ℕ) (none : NoneWrong (reasons (call.coeffic
         )
 
 -- ---- the form's list
-
--- the cubes of a list's bytes are the list
-flat-holds : (l : List Cube) → Holds cubes (flat (cubes .enc) l) l
-unfolding Holds image filled
-flat-holds l =
-    let none : length (flat (cubes .enc) l) - length (flat (cubes .enc) l) ≡ 0 = omega arith in
-    sym (ap (λ (k : ℕ). flat (cubes .enc) l ++ replicate k 0) none ∙ append-nil (flat (cubes .enc) l))
-
-flat-back : (l : List Cube) → cubesOf (flat (cubes .enc) l) ≡ l
-unfolding listOf
-flat-back l =
-    let long : length (flat (cubes .enc) l) ≡ recordWidth * length l = length-flat (cubes .enc) recordWidth (lawful .len) l in
-    let many : length (flat (cubes .enc) l) / recordWidth ≡ length l = omega arith in
-    ap (λ (k : ℕ). records cubes k (flat (cubes .enc) l)) many ∙ holds-records cubes lawful (flat (cubes .enc) l) l (flat-holds l)
-
--- nothing is wrong of the value of a list of good cubes
-list-fine : (n a : ℕ) (l : List Cube) → n ≤ vectorVariables → a < 2 ^ n → length l ≤ mostRecords → All (Good n) l
-    → NoneWrong (reasons (call.value n (flat (cubes .enc) l) a))
-unfolding reasons listReasons
-list-fine n a l few h short g =
-    let long : length (flat (cubes .enc) l) ≡ recordWidth * length l = length-flat (cubes .enc) recordWidth (lawful .len) l in (
-      (λ q w. omega (arith, w .1)),
-      (
-        (λ q w. w .1 (omega arith)),
-        (
-          (λ q w. omega (arith, w .1)),
-          (
-            (λ q low.
-                true≢false (sym (subst (λ (m : List Cube). good n (getD m q one) ≡ true) (sym (flat-back l)) (parts-good n (getD l q one) (good-at n l g q))) ∙ low .fails)),
-            ((λ q w. omega (arith, w .1)), tt),
-          ),
-        ),
-      ),
-    )
 
 -- coefficients, writing the form, and the value of what was written
 module _ (n p k a : ℕ) (l c c′ f f′ : List ℕ) (o q : Outcome)
@@ -292,24 +205,6 @@ module _ (n p k a : ℕ) (list v v′ c c′ f f′ : List ℕ) (o₁ o₂ q : O
       )
 
 -- ---- run
-
--- where nothing is wrong of a list and of a script, the cubes are good, and the steps fit
-good-list : (limit n : ℕ) (list : List ℕ) → NoneWrong (listReasons limit n list) → All (Good n) (cubesOf list)
-good-list limit n list none = go (by-list limit n list)
-  where
-    go : Judged (listReasons limit n list) (checkList limit n list) (accepted (length (cubesOf list) ∷ [])) → All (Good n) (cubesOf list)
-    go (chains.wrong number place f e) = absurd (not-none (listReasons limit n list) number place f none)
-    go (chains.right fine e) = list-laws.check-accepts limit n list (length (cubesOf list) ∷ []) e .good
-
-fit-script : (n : ℕ) (script : List ℕ) → NoneWrong (scriptReasons n script) → All (Fits n) (stepsOf script)
-unfolding stepsOf
-fit-script n script none = go (by-script n script)
-  where
-    go : Judged (scriptReasons n script) (checkScript n script) (accepted (length (listOf stepRecords script) ∷ [])) → All (Fits n) (stepsOf script)
-    go (chains.wrong number place f e) = absurd (not-none (scriptReasons n script) number place f none)
-    go (chains.right fine e) =
-        all-map (λ r. fits n r ≡ true) (Fits n) meaning (meaning-fits n) (listOf stepRecords script)
-        (script-accepts n script (length (listOf stepRecords script) ∷ []) e .fit)
 
 module _ (n : ℕ) (list script work work′ : List ℕ) (count peak : ℕ)
     (c : Called (call.run n list script work) (accepted (count ∷ peak ∷ [])) (work′ ∷ [])) where
