@@ -98,7 +98,6 @@ front n f out out′ e = ap (take (2 ^ n)) (only e) ∙ take-at (listBelow (2 ^ 
 
 -- ---- there and back
 
--- a first call that nothing is wrong of, and a second one on what it left, into a buffer with room
 module _ (n p : ℕ) (l out : List ℕ) (none : NoneWrong (reasons (call.coefficients n l p out))) where
   vector : Vector n l
   unfolding reasons
@@ -108,34 +107,39 @@ module _ (n p : ℕ) (l out : List ℕ) (none : NoneWrong (reasons (call.coeffic
   unfolding reasons
   low = not-at-most p (2 ^ n) (none-right (vectorReasons n l) _ none .0)
 
-  module _ (out′ back back′ : List ℕ) (o q : Outcome) (long : 2 ^ n ≤ length back) where
-    -- Truth vector, coefficients, truth vector: both calls are accepted, and the second returns the vector, under every polarity ..
-    pub calls-there-and-back : Called (call.coefficients n l p out) o (out′ ∷ []) → Called (call.vectorBack n (take (2 ^ n) out′) p back) q (back′ ∷ [])
-        → (o ≡ accepted (2 ^ n ∷ [])) × (q ≡ accepted (2 ^ n ∷ [])) × (take (2 ^ n) back′ ≡ l)
-    unfolding goesOn goesOnLeaving reasons
-    calls-there-and-back c d =
-        let g = not-wrong-goes-on (call.coefficients n l p out) o (out′ ∷ []) c none in
-        let w : take (2 ^ n) out′ ≡ coefficientVector n p l = front n (coefficient n p (byteAt l)) out out′ (g .1) in
-        let more = second-fine n p (coefficient n p (byteAt l)) (vector .few) low (parity-lt n (λ t. byteAt l (bitXor t p))) (take (2 ^ n) out′) back w long in
-        let h = not-wrong-goes-on (call.vectorBack n (take (2 ^ n) out′) p back) q (back′ ∷ []) d more in (
-          g .0,
-          h .0,
-          front n (valueBack n p (byteAt (take (2 ^ n) out′))) back back′ (h .1) ∙ ap (vectorBack n p) w ∙ there-and-back n p l vector low,
-        )
+-- a first call of which nothing is wrong, and a second one on what it left, into a buffer with room
+module _ (n p : ℕ) (l out out′ back back′ : List ℕ) (o q : Outcome) (long : 2 ^ n ≤ length back) where
+  -- Truth vector, coefficients, truth vector: both calls are accepted, and the second returns the vector, under every polarity ..
+  pub calls-there-and-back : NoneWrong (reasons (call.coefficients n l p out))
+      → Called (call.coefficients n l p out) o (out′ ∷ []) → Called (call.vectorBack n (take (2 ^ n) out′) p back) q (back′ ∷ [])
+      → (o ≡ accepted (2 ^ n ∷ [])) × (q ≡ accepted (2 ^ n ∷ [])) × (take (2 ^ n) back′ ≡ l)
+  unfolding goesOn goesOnLeaving reasons
+  calls-there-and-back none c d =
+      let v = vector n p l out none in
+      let g = not-wrong-goes-on (call.coefficients n l p out) o (out′ ∷ []) c none in
+      let w : take (2 ^ n) out′ ≡ coefficientVector n p l = front n (coefficient n p (byteAt l)) out out′ (g .1) in
+      let more = second-fine n p (coefficient n p (byteAt l)) (v .few) (low n p l out none) (parity-lt n (λ t. byteAt l (bitXor t p))) (take (2 ^ n) out′) back w long in
+      let h = not-wrong-goes-on (call.vectorBack n (take (2 ^ n) out′) p back) q (back′ ∷ []) d more in (
+        g .0,
+        h .0,
+        front n (valueBack n p (byteAt (take (2 ^ n) out′))) back back′ (h .1) ∙ ap (vectorBack n p) w ∙ there-and-back n p l v (low n p l out none),
+      )
 
-    -- .. and coefficients, truth vector, coefficients too.
-    pub calls-back-and-there : Called (call.vectorBack n l p out) o (out′ ∷ []) → Called (call.coefficients n (take (2 ^ n) out′) p back) q (back′ ∷ [])
-        → (o ≡ accepted (2 ^ n ∷ [])) × (q ≡ accepted (2 ^ n ∷ [])) × (take (2 ^ n) back′ ≡ l)
-    unfolding goesOn goesOnLeaving reasons
-    calls-back-and-there c d =
-        let g = not-wrong-goes-on (call.vectorBack n l p out) o (out′ ∷ []) c none in
-        let w : take (2 ^ n) out′ ≡ vectorBack n p l = front n (valueBack n p (byteAt l)) out out′ (g .1) in
-        let more = second-fine n p (valueBack n p (byteAt l)) (vector .few) low (λ a. parity-lt n (byteAt l) (bitXor a p)) (take (2 ^ n) out′) back w long in
-        let h = not-wrong-goes-on (call.coefficients n (take (2 ^ n) out′) p back) q (back′ ∷ []) d more in (
-          g .0,
-          h .0,
-          front n (coefficient n p (byteAt (take (2 ^ n) out′))) back back′ (h .1) ∙ ap (coefficientVector n p) w ∙ back-and-there n p l vector low,
-        )
+  -- .. and coefficients, truth vector, coefficients too.
+  pub calls-back-and-there : NoneWrong (reasons (call.vectorBack n l p out))
+      → Called (call.vectorBack n l p out) o (out′ ∷ []) → Called (call.coefficients n (take (2 ^ n) out′) p back) q (back′ ∷ [])
+      → (o ≡ accepted (2 ^ n ∷ [])) × (q ≡ accepted (2 ^ n ∷ [])) × (take (2 ^ n) back′ ≡ l)
+  unfolding goesOn goesOnLeaving reasons
+  calls-back-and-there none c d =
+      let v = vector n p l out none in
+      let g = not-wrong-goes-on (call.vectorBack n l p out) o (out′ ∷ []) c none in
+      let w : take (2 ^ n) out′ ≡ vectorBack n p l = front n (valueBack n p (byteAt l)) out out′ (g .1) in
+      let more = second-fine n p (valueBack n p (byteAt l)) (v .few) (low n p l out none) (λ a. parity-lt n (byteAt l) (bitXor a p)) (take (2 ^ n) out′) back w long in
+      let h = not-wrong-goes-on (call.coefficients n (take (2 ^ n) out′) p back) q (back′ ∷ []) d more in (
+        g .0,
+        h .0,
+        front n (coefficient n p (byteAt (take (2 ^ n) out′))) back back′ (h .1) ∙ ap (coefficientVector n p) w ∙ back-and-there n p l v (low n p l out none),
+      )
 
 -- ---- the form's list
 

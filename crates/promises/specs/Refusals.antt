@@ -78,11 +78,11 @@ vectorReasons n vector =
 unfoldable pub reasons : Call → List Reason
 -- "Checking a list: 1 to 4"
 reasons (check n list) = listReasons mostVariables n list
--- "Value: 1 to 4, 6"
+-- "Value: 1 to 4, 6": "assignment has a bit at or above n"
 reasons (value n list a) = listReasons mostVariables n list ++ (at 6 0 (2 ^ n ≤ a) ∷ [])
 -- "Truth vector of a list: 1 to 4, 5 (2^n bytes)"
 reasons (truthVector n list out) = listReasons vectorVariables n list ++ (at 5 0 (length out < 2 ^ n) ∷ [])
--- "Coefficients, and back: 1, 14, 15, 5"
+-- "Coefficients, and back: 1, 14, 15, 5": "polarity has a bit at or above n"
 reasons (coefficients n vector p out) = vectorReasons n vector ++ (at 15 0 (2 ^ n ≤ p) ∷ at 5 0 (length out < 2 ^ n) ∷ [])
 reasons (vectorBack n vector p out) = vectorReasons n vector ++ (at 15 0 (2 ^ n ≤ p) ∷ at 5 0 (length out < 2 ^ n) ∷ [])
 -- "Writing a form's list from its coefficients: 1, 14, 15, 5 (capacity at least its count)"
