@@ -28,7 +28,7 @@ use Rattle.script.proofs.Value.{run-value, run-good}
 use Rattle.settling.specs.declared.Settled.the-variants as settled-is
 use Rattle.settling.specs.declared.Settlement.{Settlement}
 use Rattle.settling.specs.Candidates.{bestOf, bestForm, burnedList}
-use Rattle.settling.proofs.SettleLaws.{burned-le-given, burned-le-result}
+use Rattle.settling.proofs.Fewest.{burned-le-given, burned-le-result}
 use Rattle.settling.proofs.Fewest.{burned-form, burned-one, best-form-value, best-form-least}
 use Rattle.settling.specs.Calls.{settled, Called}
 use Rattle.settling.proofs.Calling.{Accepting, called-accepted}

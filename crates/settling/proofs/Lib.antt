@@ -1,10 +1,6 @@
-pub mod Winning
 pub mod Forming
-pub mod Written
-pub mod SettleLaws
-pub mod Settling
-pub mod Determined
 pub mod Fewest
+pub mod Determined
 pub mod Outcomes
 pub mod Calling
 pub mod DemandOne
