@@ -1,3 +1,2 @@
--- Laws of what is burned: a whole list, and a form.
+-- Laws of what is burned.
 mod Written
-mod Forms

@@ -1,4 +1,3 @@
--- Laws of the candidates: what a list and a form count, what their candidates stand for, and the best polarity.
-mod Counts
+-- Laws of the candidates: the choice among them, and the best polarity.
 mod Choosing
 mod Polarities

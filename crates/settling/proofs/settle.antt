@@ -1,3 +1,2 @@
--- Laws of the call: the best candidate to the output, and the whole call.
-mod Best
+-- Laws of the call.
 mod Settling

@@ -21,16 +21,16 @@ fn burn_list(list: &[u8], out: &mut [u8]) -> usize
 }
 
 // The form of a vector under p; its coefficients are left in a buffer as long as the vector.
-fn put_form(n: usize, vector: &[u8], p: usize, coefficients: &mut [u8], out: &mut [u8]) -> usize
+fn put_form(n: usize, vector: &[u8], p: usize, buffer: &mut [u8], out: &mut [u8]) -> usize
     requires { ⌜ Vector n (now vector) ⌝ }
     requires { ⌜ p < 2 ^ n ⌝ }
-    requires { ⌜ length (now coefficients) ≡ 2 ^ n ⌝ }
+    requires { ⌜ length (now buffer) ≡ 2 ^ n ⌝ }
     requires { ⌜ length (formList n p (byteAt (now vector))) ≤ cubeCapacity (length (now out)) ⌝ }
     ensures { λ r. ⌜ BurnedIs (formList n p (byteAt (now (vector .entry)))) (now (out .entry)) (now (out .exit)) r ⌝ }
 {
     records::clear(out);
-    polarity::transform::coefficients(n, vector, p as u64, coefficients);
-    match polarity::form::write_form(n, coefficients, p as u64, out) {
+    polarity::transform::coefficients(n, vector, p as u64, buffer);
+    match polarity::form::write_form(n, buffer, p as u64, out) {
         Counted::Count(count) => count,
         Counted::Refused(_) => 0,
     }

@@ -1,34 +1,58 @@
--- The whole call of settle, by the first thing that refuses it.
+-- The best candidate to the output, and the whole call of settle by the first thing that refuses it.
 -- Assumes nothing.
-use mathlib.Core.Path.{_≡_, refl, sym, ap, ap₂, _∙_, subst}
 use mathlib.Core.Bool.{Bool}
 use mathlib.Core.List.{List, [], _∷_, _++_, append-nil}
-use Prim.Native.Nat.{ℕ, _*_, _/_, _%_, _≤_, _<_}
+use mathlib.Core.Path.{_≡_, ap, _∙_, subst, sym, refl, ap₂}
+use Prim.Native.Nat.{ℕ, _≤_, _*_, _/_, _%_, _<_}
 use native.Mathlib.Nat.{le-trans, le-refl, sub-self, mul-le-mul-left}
 use native.Mathlib.Omega.{arith}
 use borrow.Author.Tests.{le-leb, lt-leb}
 use lib.Dec.{leb, eqb}
 use lib.ListN.{length, getD, take, replicate}
 use lib.Seq.{take-append-seam}
-use Rattle.records.specs.declared.Refusal.{Refusal}
-use Rattle.records.specs.Records.{Holds, records, listOf, flat, filled, image, zeros}
 use Rattle.records.specs.Answers.{Outcome, accepted, refused, refusal, unless, andThen}
+use Rattle.records.specs.Records.{image, Holds, records, listOf, flat, filled, zeros}
+use Rattle.records.specs.declared.Refusal.{Refusal}
 use Rattle.records.proofs.Answering.{not-both, accepted-values, unless-accepted, unless-at-accepted, and-then, and-not}
-use Rattle.records.proofs.Images.{length-flat}
 use Rattle.records.proofs.Holding.{capacity-fits, capacity-most, holds-fits, holds-records, filled-holds, image-holds}
-use Rattle.cube.specs.declared.Cube.{Cube}
-use Rattle.cube.specs.Cubes.{good}
-use Rattle.cube.specs.Lists.{cubes, cubesOf, cubeCapacity, recordWidth, mostRecords, mostVariables}
+use Rattle.records.proofs.Images.{length-flat}
 use Rattle.cube.specs.Calls.{checkList}
-use Rattle.cube.proofs.ListLaws.{lawful}
+use Rattle.cube.specs.Cubes.{good}
+use Rattle.cube.specs.Lists.{cubes, cubesOf, cubeCapacity, mostVariables, recordWidth, mostRecords}
+use Rattle.cube.specs.declared.Cube.{Cube}
+use Rattle.cube.proofs.ListLaws.{check-accepts, lawful}
+use Rattle.script.specs.Calls.{checkScript, checkRun, runOf, ranOutcome, runOutcome, workAfter, runAfter}
 use Rattle.script.specs.Run.{Ran, stopped, ended}
 use Rattle.script.specs.Scripts.{stepsOf}
-use Rattle.script.specs.Calls.{checkScript, checkRun, runOf, ranOutcome, runOutcome, workAfter, runAfter}
 use Rattle.script.proofs.Counting.{run-peak-capacity, run-last}
-use Rattle.settling.specs.declared.Burning.{Burning}
-use Rattle.settling.specs.Candidates.{burnedList}
-use Rattle.settling.specs.Choice.{Burns, BurningIs}
 use Rattle.settling.specs.Calls.{checkSettle, fixedValues, ranSettled, settleOutcome, settleWorkBy, settleWork, settleOutBy, settleOut, Called}
+use Rattle.settling.specs.Candidates.{burnedList}
+use Rattle.settling.specs.Choice.{listFrom, Stands, FormIs, Burnable, Burns, BurnedIs, BurningIs}
+use Rattle.settling.specs.declared.BestForm.{BestForm}
+use Rattle.settling.specs.declared.Burning.{Burning}
+use Rattle.settling.specs.declared.Candidate.{Candidate}
+use Rattle.settling.proofs.Fewest.{burned-le-given}
+
+module _ (n : ℕ) (list result : List ℕ) (best : BestForm) (F : FormIs n (cubesOf list) best) (c : Candidate)
+    (S : Stands n (cubesOf result) (cubesOf list) (burnedList n (cubesOf result) (cubesOf list)) c) where
+  pub best-burnable : (out : ℕ) → Burns n list result out → Burnable n list result best (c .origin) out
+  best-burnable out b = record {
+    list-whole = check-accepts mostVariables n list (b .passed .values) (b .passed .is) .whole;
+    result-whole = b .whole;
+    best-is = F;
+    named = S .named;
+    room = subst (λ (l : List Cube). length l ≤ cubeCapacity out) (sym (S .list-is)) (le-trans (burned-le-given n (cubesOf result) (cubesOf list)) (b .room));
+  }
+
+  pub best-burned : (out out′ : List ℕ) (r : ℕ) → BurnedIs (listFrom n (cubesOf result) (cubesOf list) (c .origin)) out out′ r
+      → BurningIs n (cubesOf result) (cubesOf list) out out′ (record { fixed = best .fixed; burned = r })
+  best-burned out out′ r d = record {
+    fixed = F .fixed;
+    burned = d .answer ∙ ap length (S .list-is);
+    buffer = d .buffer ∙ ap (image cubes (length out)) (S .list-is);
+  }
+
+-- ---- the call
 
 -- the bytes of a list are a list again
 flat-cubes : (l : List Cube) → cubesOf (flat (cubes .enc) l) ≡ l

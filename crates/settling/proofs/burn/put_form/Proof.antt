@@ -1,6 +1,7 @@
 -- `burn::put_form` meets its contract.
 -- Assumes nothing.
-use Rattle.settling.proofs.burn.Forms.{coefficients-written, form-burned, form-not-refused}
+use native.Mathlib.Omega.{arith}
+use Rattle.settling.proofs.burn.Written.{coefficients-written, form-burned, form-not-refused}
 use borrow.Author.Needs.{needs}
 use Rattle.settling.proofs.burn.put_form.Statement.{statement}
 use Rattle.settling.proofs.burn.put_form.Tie as tie
@@ -32,7 +33,7 @@ returns c =
     let c₁₀ = c₅ .before .before .before .before .before in
     let c₁₄ = c₁₀ .before .before .before .before in
     let s = c₁₄ .before .before .before .before .before in
-    let k = coefficients-written _ _ _ (s .pre .0) (s .pre .1 .0) _ _ (s .pre .1 .1 .0) (c₁₀ .coefficients .ensures .1) in
+    let k = coefficients-written _ _ _ (s .pre .0) (s .pre .1 .0) _ _ (omega (arith, s .pre .1 .1 .0)) (c₁₀ .coefficients .ensures .1) in
     form-burned _ _ _ (s .pre .0) (s .pre .1 .0) _ k _ (s .pre .1 .1 .1) _ _ (c .before .count .given .1) _ (c₁₄ .clear .ensures)
     (c₅ .write-form .ensures .0) _ (c₅ .write-form .ensures .1)
 
@@ -48,7 +49,7 @@ returns-2 c =
     let c₉ = c₄ .before .before .before .before .before in
     let c₁₃ = c₉ .before .before .before .before in
     let s = c₁₃ .before .before .before .before .before in
-    let k = coefficients-written _ _ _ (s .pre .0) (s .pre .1 .0) _ _ (s .pre .1 .1 .0) (c₉ .coefficients .ensures .1) in
+    let k = coefficients-written _ _ _ (s .pre .0) (s .pre .1 .0) _ _ (omega (arith, s .pre .1 .1 .0)) (c₉ .coefficients .ensures .1) in
     absurd (form-not-refused _ _ _ (s .pre .0) (s .pre .1 .0) _ k (s .args .out .now) (s .pre .1 .1 .1) _ _ (c .enum-told .given .1) _ (c₁₃ .clear .ensures)
     (c₄ .write-form .ensures .0))
 

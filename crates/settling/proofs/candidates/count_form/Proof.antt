@@ -1,6 +1,6 @@
 -- `candidates::count_form` meets its contract.
 -- Assumes nothing.
-use Rattle.settling.proofs.candidates.Counts.{form-counted}
+use Rattle.settling.proofs.candidates.Choosing.{form-counted}
 use borrow.Author.Needs.{needs}
 use Rattle.settling.proofs.candidates.count_form.Statement.{statement}
 use Rattle.settling.proofs.candidates.count_form.Tie as tie

@@ -8,7 +8,7 @@ use lib.ListN.{length}
 use Rattle.bits.proofs.Bools.{one-lt}
 use Rattle.records.proofs.Counting.{Counting, counting-none, counting-next}
 use Rattle.cube.specs.Lists.{cubes, recordWidth}
-use Rattle.settling.proofs.candidates.Counts.{bare, list-counted}
+use Rattle.settling.proofs.candidates.Choosing.{bare, list-counted}
 use borrow.Author.Needs.{needs}
 use Rattle.settling.proofs.candidates.count_list.Statement.{statement}
 use Rattle.settling.proofs.candidates.count_list.Tie as tie

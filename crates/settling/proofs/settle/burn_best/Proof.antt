@@ -1,6 +1,6 @@
 -- `settle::burn_best` meets its contract.
 -- Assumes nothing.
-use Rattle.settling.proofs.settle.Best.{best-burnable, best-burned}
+use Rattle.settling.proofs.settle.Settling.{best-burnable, best-burned}
 use borrow.Author.Needs.{needs}
 use Rattle.settling.proofs.settle.burn_best.Statement.{statement}
 use Rattle.settling.proofs.settle.burn_best.Tie as tie
