@@ -1,3 +1,4 @@
+pub mod Tests
 pub mod Forming
 pub mod Fewest
 pub mod Determined

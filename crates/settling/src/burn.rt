@@ -5,7 +5,7 @@ use records::Counted;
 ghost use mathlib.Core.Path.{_≡_};
 ghost use Prim.Native.Nat.{_^_, _%_, _<_, _≤_};
 ghost use lib.ListN.{length, take};
-ghost use Rattle.cube.specs.Lists.{cubesOf, cubeCapacity, recordWidth, truthVector};
+ghost use Rattle.cube.specs.Lists.{cubesOf, cubeCapacity, recordWidth};
 ghost use Rattle.polarity.specs.Forms.{formList};
 ghost use Rattle.polarity.specs.Vectors.{byteAt, Vector};
 ghost use Rattle.settling.specs.Choice.{listFrom, FormFits, Burnable, BurnedIs};

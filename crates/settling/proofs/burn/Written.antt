@@ -1,6 +1,5 @@
 -- What is burned at the front of the output buffer, zeros after it: a whole list, and a form.
 -- Assumes nothing.
-use mathlib.Core.Bool.{Bool}
 use mathlib.Core.List.{List, [], _∷_, _++_, append-nil}
 use mathlib.Core.Path.{_≡_, sym, ap, _∙_, subst, ap₂}
 use Prim.Native.Nat.{ℕ, _*_, _/_, _%_, _^_, _≤_, _<_, zero, suc, _-_}
@@ -30,6 +29,7 @@ use Rattle.settling.specs.Choice.{listFrom, Named, FormFits, Burnable, B
 use Rattle.settling.specs.declared.BestForm.{BestForm}
 use Rattle.settling.specs.declared.Origin.{Origin}
 use Rattle.settling.specs.declared.Origin.the-variants as origin-is
+use Rattle.settling.proofs.Tests.{unless-passes}
 use Rattle.settling.proofs.Forming.{truth-vector-is, size-is, bits-vector, vector-accepted}
 
 pub list-burned : (list out : List ℕ) → length list % recordWidth ≡ 0 → length (cubesOf list) ≤ cubeCapacity (length out) → ((i : ℕ) → getD list i 0 < 256)
@@ -134,11 +134,9 @@ module _ (n q : ℕ) (v : List ℕ) (vector : Vector n v) (polarity : q < 2 ^ n)
     form-accepted =
         ap (λ (t : List ℕ). formOutcome n t q (length out)) ec
         ∙ and-then _ _ _ (vector-accepted n (coefficientVector n q v) coefficients-vector)
-        ∙ ap (λ (b : Bool). unless b 15 0
-        (unless (leb (length (formFrom n q (byteAt (coefficientVector n q v)))) (cubeCapacity (length out))) 5 0
-        (accepted (length (formFrom n q (byteAt (coefficientVector n q v))) ∷ [])))) (lt-ltb _ _ polarity)
+        ∙ unless-passes _ 15 0 _ (lt-ltb _ _ polarity)
         ∙ ap (λ (l : List Cube). unless (leb (length l) (cubeCapacity (length out))) 5 0 (accepted (length l ∷ []))) form-is
-        ∙ ap (λ (b : Bool). unless b 5 0 (accepted (length (formList n q (byteAt v)) ∷ []))) (le-leb _ _ room)
+        ∙ unless-passes _ 5 0 _ (le-leb _ _ room)
 
     pub form-burned : (r : Counted) (count : ℕ) → r ≡ counted-is.Count count → (out₁ : List ℕ) → out₁ ≡ zeros (length out) → counted r ≡ formOutcome n c q (length out₁)
         → (out₂ : List ℕ) → out₂ ≡ formAfter n c q out₁ → BurnedIs (formList n q (byteAt v)) out out₂ count

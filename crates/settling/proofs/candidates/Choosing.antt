@@ -11,7 +11,6 @@ use lib.Dec.{eqb, ltb, leb}
 use lib.ListN.{length, take}
 use lib.Pow.{pow-pos, pow-mono}
 use lib.Seq.{getD-take}
-use Rattle.bits.specs.Sums.{tally}
 use Rattle.bits.proofs.Below.{getD-listBelow}
 use Rattle.records.proofs.Counting.{Counting, counted-all}
 use Rattle.records.proofs.Holding.{length-list}
@@ -28,7 +27,6 @@ use Rattle.settling.specs.Candidates.{bestOf, bestForm, better, burnedLi
 use Rattle.settling.specs.Choice.{FormCounts, candidateOf, betterOf, Stands, FormIs}
 use Rattle.settling.specs.declared.BestForm.{BestForm}
 use Rattle.settling.specs.declared.Candidate.{Candidate}
-use Rattle.settling.specs.declared.Fixed.{Fixed}
 use Rattle.settling.specs.declared.Fixed.the-variants as fixed-is
 use Rattle.settling.specs.declared.Origin.{Origin}
 use Rattle.settling.specs.declared.Origin.the-variants as origin-is

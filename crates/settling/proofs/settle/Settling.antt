@@ -1,6 +1,5 @@
 -- The best candidate to the output, and the whole call of settle by the first thing that refuses it.
 -- Assumes nothing.
-use mathlib.Core.Bool.{Bool}
 use mathlib.Core.List.{List, [], _∷_, _++_, append-nil}
 use mathlib.Core.Path.{_≡_, ap, _∙_, subst, sym, refl, ap₂}
 use Prim.Native.Nat.{ℕ, _≤_, _*_, _/_, _%_, _<_}
@@ -21,7 +20,7 @@ use Rattle.cube.specs.Cubes.{good}
 use Rattle.cube.specs.Lists.{cubes, cubesOf, cubeCapacity, mostVariables, recordWidth, mostRecords}
 use Rattle.cube.specs.declared.Cube.{Cube}
 use Rattle.cube.proofs.ListLaws.{check-accepts, lawful}
-use Rattle.script.specs.Calls.{checkScript, checkRun, runOf, ranOutcome, runOutcome, workAfter, runAfter}
+use Rattle.script.specs.Calls.{checkRun, runOf, ranOutcome, runOutcome, workAfter, runAfter}
 use Rattle.script.specs.Run.{Ran, stopped, ended}
 use Rattle.script.specs.Scripts.{stepsOf}
 use Rattle.script.proofs.Counting.{run-peak-capacity, run-last}
@@ -31,6 +30,7 @@ use Rattle.settling.specs.Choice.{listFrom, Stands, FormIs, Burnable, Bu
 use Rattle.settling.specs.declared.BestForm.{BestForm}
 use Rattle.settling.specs.declared.Burning.{Burning}
 use Rattle.settling.specs.declared.Candidate.{Candidate}
+use Rattle.settling.proofs.Tests.{unless-passes, unless-fails}
 use Rattle.settling.proofs.Fewest.{burned-le-given}
 
 module _ (n : ℕ) (list result : List ℕ) (best : BestForm) (F : FormIs n (cubesOf list) best) (c : Candidate)
@@ -98,8 +98,7 @@ module _ (n : ℕ) (list script work out : List ℕ) where
     work-short room er h r e =
         settle-refused r
         (and-then _ _ _ eg
-        ∙ ap (λ (t : Bool). unless t 5 0 (unless (leb (length (cubesOf list)) (cubeCapacity (length out))) 5 0 (checkScript n script)))
-        (lt-leb (length (cubesOf list)) (cubeCapacity (length work)) (omega (arith, er, given-is, h)))
+        ∙ unless-fails _ 5 0 _ (lt-leb (length (cubesOf list)) (cubeCapacity (length work)) (omega (arith, er, given-is, h)))
         ∙ sym (ap refused e))
 
     module _ (room : ℕ) (er : room ≡ cubeCapacity (length work)) (h : given ≤ room) where
@@ -111,8 +110,8 @@ module _ (n : ℕ) (list script work out : List ℕ) where
       out-short place ep k r e =
           settle-refused r
           (and-then _ _ _ eg
-          ∙ ap (λ (t : Bool). unless t 5 0 (unless (leb (length (cubesOf list)) (cubeCapacity (length out))) 5 0 (checkScript n script))) (le-leb _ _ room-work)
-          ∙ ap (λ (t : Bool). unless t 5 0 (checkScript n script)) (lt-leb (length (cubesOf list)) (cubeCapacity (length out)) (omega (arith, ep, given-is, k)))
+          ∙ unless-passes _ 5 0 _ (le-leb _ _ room-work)
+          ∙ unless-fails _ 5 0 _ (lt-leb (length (cubesOf list)) (cubeCapacity (length out)) (omega (arith, ep, given-is, k)))
           ∙ sym (ap refused e))
 
       module _ (place : ℕ) (ep : place ≡ cubeCapacity (length out)) (k : given ≤ place) where
@@ -124,7 +123,7 @@ module _ (n : ℕ) (list script work out : List ℕ) where
         unfolding checkSettle checkRun
         same-check =
             ap (andThen (checkList mostVariables n list))
-            (ap (λ (t : Bool). unless (leb (length (cubesOf list)) (cubeCapacity (length work))) 5 0 (unless t 5 0 (checkScript n script))) (le-leb _ _ room-out))
+            (ap (unless (leb (length (cubesOf list)) (cubeCapacity (length work))) 5 0) (unless-passes _ 5 0 _ (le-leb _ _ room-out)))
 
         pub run-refused : (r : Refusal) (work′ : List ℕ) → refused r ≡ runOutcome n list script (length work) → work′ ≡ runAfter n list script work
             → Called n list script work out (refused r) work′ out
