@@ -1,8 +1,5 @@
-pub mod Winning
+pub mod Tests
 pub mod Forming
-pub mod Written
-pub mod SettleLaws
-pub mod Settling
-pub mod Determined
 pub mod Fewest
+pub mod Determined
 pub mod Outcomes

@@ -39,8 +39,7 @@ use Rattle.settling.specs.declared.Settlement.{Settlement}
 use Rattle.settling.specs.Candidates.{bestOf, bestForm, burnedList, fixedOf}
 use Rattle.settling.specs.Calls.{checkSettle, ranSettled, settleOutcome, settleWorkBy, settleWork, settleOutBy, settleOut, settled}
 use Rattle.settling.proofs.Determined.{settled-back, settled-known}
-use Rattle.settling.proofs.SettleLaws.{burned-le-given, burned-le-result}
-use Rattle.settling.proofs.Fewest.{burned-form, burned-one, best-form-value, best-form-least}
+use Rattle.settling.proofs.Fewest.{burned-le-given, burned-le-result, burned-form, burned-one, best-form-value, best-form-least}
 
 -- ---- what passed before the first step
 

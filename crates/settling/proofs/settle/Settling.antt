@@ -1,32 +1,68 @@
--- The whole call of settle, by the first thing that refuses it.
+-- The best candidate to the output, and the whole call of settle by the first thing that refuses it.
 -- Assumes nothing.
-use mathlib.Core.Path.{_≡_, refl, sym, ap, ap₂, _∙_, subst}
-use mathlib.Core.Bool.{Bool}
-use mathlib.Core.List.{List, [], _∷_, _++_}
-use Prim.Native.Nat.{ℕ, _*_, _/_, _%_, _≤_, _<_}
-use native.Mathlib.Nat.{le-trans, mul-le-mul-left}
+use mathlib.Core.List.{List, [], _∷_, _++_, append-nil}
+use mathlib.Core.Path.{_≡_, ap, _∙_, subst, sym, refl, ap₂}
+use Prim.Native.Nat.{ℕ, _≤_, _*_, _/_, _%_, _<_}
+use native.Mathlib.Nat.{le-trans, le-refl, sub-self, mul-le-mul-left}
 use native.Mathlib.Omega.{arith}
 use borrow.Author.Tests.{le-leb, lt-leb}
 use lib.Dec.{leb, eqb}
-use lib.ListN.{length, getD}
-use Rattle.records.specs.declared.Refusal.{Refusal}
-use Rattle.records.specs.Records.{Holds, Held, records, image, zeros}
+use lib.ListN.{length, getD, take, replicate}
+use lib.Seq.{take-append-seam}
 use Rattle.records.specs.Answers.{Outcome, accepted, refused, refusal, unless, andThen}
+use Rattle.records.specs.Records.{image, Holds, records, listOf, flat, filled, zeros}
+use Rattle.records.specs.declared.Refusal.{Refusal}
 use Rattle.records.proofs.Answering.{not-both, accepted-values, unless-accepted, unless-at-accepted, and-then, and-not}
-use Rattle.records.proofs.Holding.{length-list, capacity-fits, holds-held, holds-records, image-holds}
-use Rattle.cube.specs.declared.Cube.{Cube}
-use Rattle.cube.specs.Cubes.{good}
-use Rattle.cube.specs.Lists.{cubes, cubesOf, cubeCapacity, recordWidth, mostRecords, mostVariables}
+use Rattle.records.proofs.Holding.{capacity-fits, capacity-most, holds-fits, holds-records, filled-holds, image-holds}
+use Rattle.records.proofs.Images.{length-flat}
 use Rattle.cube.specs.Calls.{checkList}
-use Rattle.cube.proofs.ListLaws.{lawful}
+use Rattle.cube.specs.Cubes.{good}
+use Rattle.cube.specs.Lists.{cubes, cubesOf, cubeCapacity, mostVariables, recordWidth, mostRecords}
+use Rattle.cube.specs.declared.Cube.{Cube}
+use Rattle.cube.proofs.ListLaws.{check-accepts, lawful}
+use Rattle.script.specs.Calls.{checkRun, runOf, ranOutcome, runOutcome, workAfter, runAfter}
 use Rattle.script.specs.Run.{Ran, stopped, ended}
 use Rattle.script.specs.Scripts.{stepsOf}
-use Rattle.script.specs.Calls.{checkScript, checkRun, runOf, ranOutcome, runOutcome, workAfter, runAfter}
 use Rattle.script.proofs.Counting.{run-peak-capacity, run-last}
-use Rattle.settling.specs.declared.Burning.{Burning}
-use Rattle.settling.specs.Candidates.{burnedList}
-use Rattle.settling.specs.Choice.{Burns, BurningIs}
 use Rattle.settling.specs.Calls.{checkSettle, fixedValues, ranSettled, settleOutcome, settleWorkBy, settleWork, settleOutBy, settleOut, Called}
+use Rattle.settling.specs.Candidates.{burnedList}
+use Rattle.settling.specs.Choice.{listFrom, Stands, FormIs, Burnable, Burns, BurnedIs, BurningIs}
+use Rattle.settling.specs.declared.BestForm.{BestForm}
+use Rattle.settling.specs.declared.Burning.{Burning}
+use Rattle.settling.specs.declared.Candidate.{Candidate}
+use Rattle.settling.proofs.Tests.{unless-passes, unless-fails}
+use Rattle.settling.proofs.Fewest.{burned-le-given}
+
+module _ (n : ℕ) (list result : List ℕ) (best : BestForm) (F : FormIs n (cubesOf list) best) (c : Candidate)
+    (S : Stands n (cubesOf result) (cubesOf list) (burnedList n (cubesOf result) (cubesOf list)) c) where
+  pub best-burnable : (out : ℕ) → Burns n list result out → Burnable n list result best (c .origin) out
+  best-burnable out b = record {
+    list-whole = check-accepts mostVariables n list (b .passed .values) (b .passed .is) .whole;
+    result-whole = b .whole;
+    best-is = F;
+    named = S .named;
+    room = subst (λ (l : List Cube). length l ≤ cubeCapacity out) (sym (S .list-is)) (le-trans (burned-le-given n (cubesOf result) (cubesOf list)) (b .room));
+  }
+
+  pub best-burned : (out out′ : List ℕ) (r : ℕ) → BurnedIs (listFrom n (cubesOf result) (cubesOf list) (c .origin)) out out′ r
+      → BurningIs n (cubesOf result) (cubesOf list) out out′ (record { fixed = best .fixed; burned = r })
+  best-burned out out′ r d = record {
+    fixed = F .fixed;
+    burned = d .answer ∙ ap length (S .list-is);
+    buffer = d .buffer ∙ ap (image cubes (length out)) (S .list-is);
+  }
+
+-- ---- the call
+
+-- the bytes of a list are a list again
+flat-cubes : (l : List Cube) → cubesOf (flat (cubes .enc) l) ≡ l
+unfolding listOf filled
+flat-cubes l =
+    let b : List ℕ = flat (cubes .enc) l in
+    let whole : filled (length b) b ≡ b = ap (λ (k : ℕ). b ++ replicate k 0) (sub-self (length b)) ∙ append-nil b in
+    let count : length b / recordWidth ≡ length l = omega (arith, length-flat (cubes .enc) recordWidth (lawful .len) l) in
+    ap (λ (k : ℕ). records cubes k b) count
+    ∙ holds-records cubes lawful b l (subst (λ (x : List ℕ). Holds cubes x l) whole (filled-holds cubes lawful (length b) l b refl (le-refl (length b))))
 
 module _ (n : ℕ) (list script work out : List ℕ) where
   -- by the checks before the first step, and the run
@@ -62,8 +98,7 @@ module _ (n : ℕ) (list script work out : List ℕ) where
     work-short room er h r e =
         settle-refused r
         (and-then _ _ _ eg
-        ∙ ap (λ (t : Bool). unless t 5 0 (unless (leb (length (cubesOf list)) (cubeCapacity (length out))) 5 0 (checkScript n script)))
-        (lt-leb (length (cubesOf list)) (cubeCapacity (length work)) (omega (arith, er, given-is, h)))
+        ∙ unless-fails _ 5 0 _ (lt-leb (length (cubesOf list)) (cubeCapacity (length work)) (omega (arith, er, given-is, h)))
         ∙ sym (ap refused e))
 
     module _ (room : ℕ) (er : room ≡ cubeCapacity (length work)) (h : given ≤ room) where
@@ -75,8 +110,8 @@ module _ (n : ℕ) (list script work out : List ℕ) where
       out-short place ep k r e =
           settle-refused r
           (and-then _ _ _ eg
-          ∙ ap (λ (t : Bool). unless t 5 0 (unless (leb (length (cubesOf list)) (cubeCapacity (length out))) 5 0 (checkScript n script))) (le-leb _ _ room-work)
-          ∙ ap (λ (t : Bool). unless t 5 0 (checkScript n script)) (lt-leb (length (cubesOf list)) (cubeCapacity (length out)) (omega (arith, ep, given-is, k)))
+          ∙ unless-passes _ 5 0 _ (le-leb _ _ room-work)
+          ∙ unless-fails _ 5 0 _ (lt-leb (length (cubesOf list)) (cubeCapacity (length out)) (omega (arith, ep, given-is, k)))
           ∙ sym (ap refused e))
 
       module _ (place : ℕ) (ep : place ≡ cubeCapacity (length out)) (k : given ≤ place) where
@@ -88,7 +123,7 @@ module _ (n : ℕ) (list script work out : List ℕ) where
         unfolding checkSettle checkRun
         same-check =
             ap (andThen (checkList mostVariables n list))
-            (ap (λ (t : Bool). unless (leb (length (cubesOf list)) (cubeCapacity (length work))) 5 0 (unless t 5 0 (checkScript n script))) (le-leb _ _ room-out))
+            (ap (unless (leb (length (cubesOf list)) (cubeCapacity (length work))) 5 0) (unless-passes _ 5 0 _ (le-leb _ _ room-out)))
 
         pub run-refused : (r : Refusal) (work′ : List ℕ) → refused r ≡ runOutcome n list script (length work) → work′ ≡ runAfter n list script work
             → Called n list script work out (refused r) work′ out
@@ -128,38 +163,53 @@ module _ (n : ℕ) (list script work out : List ℕ) where
               }
               go (refused q) eo ran et a w = absurd (not-both a)
 
-          fits-in : cubes .width * length (ran-to .result) ≤ length work
+          few : length (ran-to .result) ≤ cubeCapacity (length work)
           unfolding runOf
-          fits-in =
+          few =
               let t = ran-to in
-              let few : length (t .result) ≤ cubeCapacity (length work) =
               omega (
                 arith,
                 room-work,
                 run-last n (cubeCapacity (length work)) (stepsOf script) (cubesOf list) (t .result) peak (t .is),
                 run-peak-capacity n (cubeCapacity (length work)) (stepsOf script) (cubesOf list) (t .result) peak (t .is),
-              ) in
-              le-trans (mul-le-mul-left (cubes .width) few) (capacity-fits cubes mostRecords (length work))
+              )
+
+          pub result-few : count ≤ mostRecords
+          result-few = omega (arith, ran-to .many, few, capacity-most cubes mostRecords (length work))
 
           holds : Holds cubes work′ (ran-to .result)
-          holds = subst (λ (b : List ℕ). Holds cubes b (ran-to .result)) (sym (ran-to .buffer)) (image-holds cubes lawful (length work) (ran-to .result) fits-in)
+          holds =
+              subst (λ (b : List ℕ). Holds cubes b (ran-to .result)) (sym (ran-to .buffer))
+              (image-holds cubes lawful (length work) (ran-to .result) (le-trans (mul-le-mul-left (cubes .width) few) (capacity-fits cubes mostRecords (length work))))
 
-          result-is : records cubes count work′ ≡ ran-to .result
-          result-is = ap (λ (i : ℕ). records cubes i work′) (ran-to .many) ∙ holds-records cubes lawful work′ (ran-to .result) holds
+          -- the bytes of the script's result are the front of the work buffer
+          pub result-end : recordWidth * count ≤ length work′
+          result-end = subst (λ (k : ℕ). recordWidth * k ≤ length work′) (sym (ran-to .many)) (holds-fits cubes lawful work′ (ran-to .result) holds)
 
-          pub run-burns : Burns n count list work′ out
-          run-burns = record {
-            held = subst (λ (i : ℕ). Held cubes i work′) (sym (ran-to .many)) (holds-held cubes lawful work′ (ran-to .result) holds);
-            passed = record { values = given ∷ []; is = eg };
-            room = omega (arith, room-out, length-list cubes list);
-          }
+          module _ (front : List ℕ) (ef : front ≡ take (recordWidth * count) work′) where
+            front-long : recordWidth * count ≡ length (flat (cubes .enc) (ran-to .result))
+            front-long = ap (λ (k : ℕ). recordWidth * k) (ran-to .many) ∙ sym (length-flat (cubes .enc) recordWidth (lawful .len) (ran-to .result))
 
-          pub run-settled : (out′ : List ℕ) (b : Burning) → BurningIs n (records cubes count work′) (cubesOf list) out out′ b
-              → (work″ : List ℕ) → work″ ≡ zeros (length work′) → length work′ ≡ length work
-              → Called n list script work out (accepted (given ∷ peak ∷ count ∷ (fixedValues (b .fixed) ++ (b .burned ∷ [])))) work″ out′
-          run-settled out′ b is work″ cleared long =
-              let t = ran-to in
-              by-parts (accepted (t .values)) (ended (t .result) peak) (same-check ∙ t .checked) (t .is) work″ out′ _
-              (λ i. accepted (given-is i ∷ peak ∷ t .many i ∷ (fixedValues (is .fixed i) ++ ((is .burned ∙ ap (λ (m : List Cube). length (burnedList n m (cubesOf list))) result-is) i ∷ []))))
-              (cleared ∙ ap zeros long)
-              (is .buffer ∙ ap (λ (m : List Cube). image cubes (length out) (burnedList n m (cubesOf list))) result-is)
+            front-is : front ≡ flat (cubes .enc) (ran-to .result)
+            unfolding image filled
+            front-is = ef ∙ ap₂ take front-long (ran-to .buffer) ∙ take-append-seam (flat (cubes .enc) (ran-to .result)) _
+
+            result-is : cubesOf front ≡ ran-to .result
+            result-is = ap cubesOf front-is ∙ flat-cubes (ran-to .result)
+
+            pub run-burns : Burns n list front (length out)
+            run-burns = record {
+              whole = omega (arith, ap length front-is, front-long);
+              passed = record { values = given ∷ []; is = eg };
+              room = room-out;
+            }
+
+            pub run-settled : (out′ : List ℕ) (b : Burning) → BurningIs n (cubesOf front) (cubesOf list) out out′ b
+                → (work″ : List ℕ) → work″ ≡ zeros (length work′) → length work′ ≡ length work
+                → Called n list script work out (accepted (given ∷ peak ∷ count ∷ (fixedValues (b .fixed) ++ (b .burned ∷ [])))) work″ out′
+            run-settled out′ b is work″ cleared long =
+                let t = ran-to in
+                by-parts (accepted (t .values)) (ended (t .result) peak) (same-check ∙ t .checked) (t .is) work″ out′ _
+                (λ i. accepted (given-is i ∷ peak ∷ t .many i ∷ (fixedValues (is .fixed i) ++ ((is .burned ∙ ap (λ (m : List Cube). length (burnedList n m (cubesOf list))) result-is) i ∷ []))))
+                (cleared ∙ ap zeros long)
+                (is .buffer ∙ ap (λ (m : List Cube). image cubes (length out) (burnedList n m (cubesOf list))) result-is)
