@@ -11,8 +11,10 @@ use Rattle.records.proofs.Answering.{counted-back, counted-known}
 use Rattle.script.specs.declared.Finished.{Finished}
 use Rattle.script.specs.declared.Finished.the-variants as finished-is
 use Rattle.script.specs.Calls.{finished}
-use Rattle.script.proofs.check.step_at.Kinds as step-at-kinds
-use Rattle.script.proofs.check.step_at.Reads as step-at-reads
+use Rattle.script.proofs.record.step_at.Kinds as step-at-kinds
+use Rattle.script.proofs.record.step_at.Reads as step-at-reads
+use Rattle.script.proofs.record.put_step.Kinds as put-step-kinds
+use Rattle.script.proofs.record.put_step.Reads as put-step-reads
 use Rattle.script.proofs.check.check_script.Kinds as check-script-kinds
 use Rattle.script.proofs.check.check_script.Reads as check-script-reads
 use Rattle.script.proofs.run.run.Kinds as run-kinds
@@ -30,6 +32,9 @@ finished-known (finished-is.Refused r) = refl
 
 pub step-at-determined : Determined 1 step-at-kinds.ps step-at-kinds.r step-at-reads.Learnt
 step-at-determined κs a z z′ ws ws′ p q = (same p q, refl)
+
+pub put-step-determined : Determined 1 put-step-kinds.ps put-step-kinds.r put-step-reads.Learnt
+put-step-determined κs a z z′ ws ws′ p q = (refl, ap (λ (b : List ℕ). (b, (tt, (tt, tt)))) (same p q))
 
 pub check-script-determined : Determined 1 check-script-kinds.ps check-script-kinds.r check-script-reads.Learnt
 check-script-determined κs a z z′ ws ws′ p q = (same-told counted counted-back counted-known p q, refl)

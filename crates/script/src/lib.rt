@@ -1,5 +1,6 @@
 // Running a script on a list of cubes, in a lent work buffer.
 pub mod check;
+pub mod record;
 pub mod run;
 
 use records::Refusal;

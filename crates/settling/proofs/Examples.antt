@@ -5,6 +5,7 @@ use mathlib.Core.Bool.{true}
 use Rattle.bits.specs.Bits.{withBit}
 use Rattle.bits.specs.Below.{those, sumBelow, listBelow, leastBelow}
 use Rattle.bits.specs.Sums.{tally}
+use Rattle.records.specs.Numbers.{bytesOf}
 use Rattle.records.specs.Places.{removeAt}
 use Rattle.cube.specs.Cubes.{code, put, holds, apart}
 use Rattle.cube.specs.Lists.{trues, listValue}
@@ -17,5 +18,5 @@ use Rattle.settling.specs.Candidates.{bestForm, burnedList}
 use Rattle.settling.specs.Marked.{table, cubeFrom, sameNumbers, sameCubes, right, allRight}
 
 pub marked : allRight table ≡ true
-unfolding allRight right table cubeFrom sameNumbers sameCubes withBit those sumBelow listBelow leastBelow tally removeAt code put holds apart trues listValue third joinAt turnAt applied joinMove turnMove exchanged step stepsFrom undoBy run parityWithin formFrom countsOf bestPolarity bestForm burnedList
+unfolding allRight right table cubeFrom sameNumbers sameCubes withBit those sumBelow listBelow leastBelow tally bytesOf removeAt code put holds apart trues listValue third joinAt turnAt applied joinMove turnMove exchanged step stepsFrom undoBy run parityWithin formFrom countsOf bestPolarity bestForm burnedList
 marked = refl

@@ -13,10 +13,10 @@ use Rattle.bits.specs.Bits.{bit, withBit}
 use Rattle.bits.specs.Below.{allBelow}
 use Rattle.bits.proofs.Bools.{both-true, all-at₂, all-at₃, one-lt}
 use Rattle.bits.proofs.Bits.{bit-lt, bit-high, bit-and, bit-xor, differ-lt, differ-zero, with-same, with-other, with-lt, is-with, pow-bit, pow-bit-other}
-use Rattle.records.specs.Words.{wordSize}
 use Rattle.cube.specs.declared.Cube.{Cube}
 use Rattle.cube.specs.Cubes.{codeOf, code, seenBit, valueBit, put, withCode, one, Good}
-use Rattle.cube.specs.Lists.{mostVariables, joined, halves}
+use Rattle.cube.specs.CubeRecord.{recordNumber, halves, halfSize}
+use Rattle.cube.specs.Lists.{mostVariables}
 use Rattle.cube.proofs.Codes.{code-lt, good-seen, good-value, with-put}
 use Rattle.orders.specs.Orders.{image}
 use Rattle.steps.specs.declared.reorder.Masks.{Masks}
@@ -120,13 +120,13 @@ module _ (v : ℕ) where
 -- ---- two masks as one number
 
 abbrev pair : ℕ → ℕ → ℕ
-pair low high = joined (record { seen = low; value = high })
+pair low high = recordNumber (record { seen = low; value = high })
 
 module _ (low high : ℕ) where
-  pair-low : pair low high % wordSize ≡ low % wordSize
+  pair-low : pair low high % halfSize ≡ low % halfSize
   pair-low = omega arith
 
-  pair-high : pair low high / wordSize ≡ high % wordSize
+  pair-high : pair low high / halfSize ≡ high % halfSize
   pair-high = omega arith
 
 -- ---- a cube by masks
@@ -137,8 +137,8 @@ byMasks k c = halves (changed (pair (c .seen) (c .value)) (k .own) (pair (c .val
 
 module _ (v : ℕ) (l : v < mostVariables) where
   -- a mask of bit v alone, as one half of a number
-  half-flag : (m a : ℕ) → a < 2 → m ≡ flag v a → m % wordSize ≡ flag v a
-  half-flag m a h e = ap (λ (t : ℕ). t % wordSize) e ∙ mod-eq-of-lt (with-lt mostVariables v 0 a l h (lit< tt))
+  half-flag : (m a : ℕ) → a < 2 → m ≡ flag v a → m % halfSize ≡ flag v a
+  half-flag m a h e = ap (λ (t : ℕ). t % halfSize) e ∙ mod-eq-of-lt (with-lt mostVariables v 0 a l h (lit< tt))
 
   differ-flags : (m n a b : ℕ) → a < 2 → b < 2 → m ≡ flag v a → n ≡ flag v b → bitXor m n ≡ flag v (differ a b)
   differ-flags m n a b ha hb ea eb = ap₂ bitXor ea eb ∙ flag-xor v a b ha hb
@@ -157,7 +157,7 @@ module _ (v : ℕ) (l : v < mostVariables) where
     other-lt = differ-lt (f 0) (f j) (f-lt 0) (f-lt j)
 
     half-changed : (p q s w own other always : ℕ) → h p ≡ s → h q ≡ w
-        → h own ≡ bitXor (bitXor (2 ^ v) (i 0)) (i k) % wordSize → h other ≡ bitXor (i 0) (i j) % wordSize → h always ≡ i 2 % wordSize
+        → h own ≡ bitXor (bitXor (2 ^ v) (i 0)) (i k) % halfSize → h other ≡ bitXor (i 0) (i j) % halfSize → h always ≡ i 2 % halfSize
         → h (changed p own q other always) ≡ withBit s v (turn (bit s v) (bit w v) (differ (differ 1 (f 0)) (f k)) (differ (f 0) (f j)) (f 2))
     half-changed p q s w own other always ep eq eo et ea =
         let eo₁ : h own ≡ flag v (differ (differ 1 (f 0)) (f k)) = eo ∙ half-flag _ _ own-lt (same-flags _ _ _ _ (f-lt 0) (f-lt k) (flags 0) (flags k)) in
@@ -192,7 +192,7 @@ recoded-is k c g v o l e = ap (λ (t : Masks). byMasks t c) e ∙ (λ t. record 
 
     seen-is : byMasks (masksAt v o) c .seen ≡ withBit s v (seen-of (code c v))
     seen-is =
-        half-changed v l (λ t. t % wordSize) (λ a b. and-mod a b mostVariables) (λ a b. xor-mod a b mostVariables)
+        half-changed v l (λ t. t % halfSize) (λ a b. and-mod a b mostVariables) (λ a b. xor-mod a b mostVariables)
         seen-of seen-lt (λ x. imageAt v o x .seen) (λ x. ap (λ (t : Cube). t .seen) (images x)) 1 2 (pair s w) (pair w s) s w _ _ _
         (pair-low s w ∙ mod-eq-of-lt (good-seen mostVariables c g)) (pair-low w s ∙ mod-eq-of-lt (good-value mostVariables c g)) (pair-low _ _) (pair-low _ _) (pair-low _ _)
         ∙ ap (withBit s v)
@@ -201,7 +201,7 @@ recoded-is k c g v o l e = ap (λ (t : Masks). byMasks t c) e ∙ (λ t. record 
 
     value-is : byMasks (masksAt v o) c .value ≡ withBit w v (value-of (code c v))
     value-is =
-        half-changed v l (λ t. t / wordSize) (λ a b. and-shr a b mostVariables) (λ a b. xor-shr a b mostVariables)
+        half-changed v l (λ t. t / halfSize) (λ a b. and-shr a b mostVariables) (λ a b. xor-shr a b mostVariables)
         value-of value-lt (λ x. imageAt v o x .value) (λ x. ap (λ (t : Cube). t .value) (images x)) 2 1 (pair s w) (pair w s) w s _ _ _
         (pair-high s w ∙ mod-eq-of-lt (good-value mostVariables c g)) (pair-high w s ∙ mod-eq-of-lt (good-seen mostVariables c g)) (pair-high _ _) (pair-high _ _) (pair-high _ _)
         ∙ ap (withBit w v)
@@ -218,7 +218,7 @@ recoded-made k c x y ex ey r er = er ∙ ap halves (λ t. changed (ex t) (k .own
 pub masks-made : (v o m i₀ i₁ i₂ : ℕ) (x y z : Cube) (own other always : ℕ) → m ≡ 2 ^ v
     → i₀ ≡ image o 0 → x ≡ withCode one v i₀ → i₁ ≡ image o 1 → y ≡ withCode one v i₁ → i₂ ≡ image o 2 → z ≡ withCode one v i₂
     → own ≡ pair (bitXor (bitXor m (x .seen)) (z .seen)) (bitXor (bitXor m (x .value)) (y .value))
-    → other ≡ pair (bitXor (x .seen) (y .seen)) (bitXor (x .value) (z .value)) → always ≡ joined z
+    → other ≡ pair (bitXor (x .seen) (y .seen)) (bitXor (x .value) (z .value)) → always ≡ recordNumber z
     → record { own = own; other = other; always = always } ≡ masksAt v o
 unfolding masksAt
 masks-made v o m i₀ i₁ i₂ x y z own other always em e₀ ex e₁ ey e₂ ez eo et ea =
@@ -228,5 +228,5 @@ masks-made v o m i₀ i₁ i₂ x y z own other always em e₀ ex e₁ ey e₂ e
     λ t. record {
       own = (eo ∙ (λ u. pair (bitXor (bitXor (em u) (x₁ u .seen)) (z₁ u .seen)) (bitXor (bitXor (em u) (x₁ u .value)) (y₁ u .value)))) t;
       other = (et ∙ (λ u. pair (bitXor (x₁ u .seen) (y₁ u .seen)) (bitXor (x₁ u .value) (z₁ u .value)))) t;
-      always = (ea ∙ ap joined z₁) t;
+      always = (ea ∙ ap recordNumber z₁) t;
     }

@@ -3,18 +3,16 @@
 use mathlib.Core.Path.{_≡_, refl, sym, ap, ap₂, _∙_, subst}
 use mathlib.Core.List.{List, [], _∷_, _++_}
 use Prim.Native.Nat.{ℕ, suc, _+_, _-_, _*_, _/_, _≤_, _<_, max, min}
-use native.Mathlib.Nat.{le-trans, mul-le-mul-left, mul-suc, mod-eq-of-lt}
-use native.Mathlib.Decide.{decLt}
+use native.Mathlib.Nat.{le-trans, mul-le-mul-left, mul-suc}
 use native.Mathlib.Omega.{arith}
 use lib.ListN.{length, getD, set, length-set, List·getD-eq-default}
 use Rattle.records.specs.Places.{removeAt}
 use Rattle.records.specs.Records.{Codec, stored, records, listOf, image, Holds, Held}
-use Rattle.records.specs.Words.{wordAt, wordSize}
 use Rattle.records.proofs.Images.{length-image, length-remove}
-use Rattle.records.proofs.Holding.{Lawful, length-records, getD-records, list-at, list-past, length-stored, place-room, held-fits, held-place, holds-store, holds-push, holds-remove, holds-held, holds-records, image-holds}
+use Rattle.records.proofs.Holding.{Lawful, length-records, getD-records, list-at, length-stored, place-room, held-fits, held-place, holds-store, holds-push, holds-remove, holds-held, holds-records, image-holds}
 use Rattle.cube.specs.declared.Cube.{Cube}
 use Rattle.cube.specs.Cubes.{one}
-use Rattle.cube.specs.Lists.{cubes, cubesOf, narrow, recordWidth}
+use Rattle.cube.specs.Lists.{cubes, narrow, recordWidth}
 use Rattle.cube.proofs.ListLaws.{lawful}
 use Rattle.steps.specs.declared.Change.{Change}
 use Rattle.steps.specs.declared.Change.the-variants as change-is
@@ -141,19 +139,6 @@ module _ {A : Type 0} (C : Codec A) (K : Lawful C) where
         (subst (λ (l : List A). Holds C b₂ (set l j y)) (stored-records k i b b₁ x h (p .first) e₁) (stored-holds k j b₁ b₂ y h₁ (p .second) e₂))
 
 -- ---- cubes in the work buffer
-
--- what is read from bytes fits its record
-pub narrow-read : (b : List ℕ) (i : ℕ) (c : Cube) → ((k : ℕ) → getD b k 0 < 256) → c ≡ getD (cubesOf b) i one → narrow c ≡ c
-narrow-read b i c small e = subst (λ (t : Cube). narrow t ≡ t) (sym e) (go (decLt i (length b / recordWidth)))
-  where
-    word-lt : (p : ℕ) → wordAt b p < wordSize
-    word-lt p = omega (arith, small p, small (p + 1))
-
-    go : Dec (i < length b / recordWidth) → narrow (getD (cubesOf b) i one) ≡ getD (cubesOf b) i one
-    go (yes l) =
-        rw (list-at cubes b i one l)
-        (λ k. record { seen = mod-eq-of-lt (word-lt (recordWidth * i)) k; value = mod-eq-of-lt (word-lt (recordWidth * i + 2)) k })
-    go (no l) = rw (list-past cubes b i one (omega arith)) refl
 
 -- an accepted step
 done-next : (b b′ : List ℕ) (e : After Cube) (l : List Cube) (k : ℕ) → e ≡ next l → b′ ≡ image cubes (length b) l → length l ≡ k → Done b b′ e (stepped-is.Count k)

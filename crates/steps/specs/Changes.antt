@@ -9,7 +9,7 @@ use lib.Dec.{eqb, ltb}
 use lib.ListN.{length}
 use Rattle.cube.specs.declared.Cube.{Cube}
 use Rattle.cube.specs.Cubes.{Good, one, withCode}
-use Rattle.cube.specs.Lists.{narrow, joined}
+use Rattle.cube.specs.CubeRecord.{narrow, recordNumber}
 use Rattle.orders.specs.Orders.{image}
 use Rattle.steps.specs.declared.Change.{Change}
 use Rattle.steps.specs.declared.Change.the-variants as change-is
@@ -83,13 +83,13 @@ imageAt v o x = withCode one v (image o x)
 -- the order o at the variable v, as masks
 unfoldable pub masksAt : ℕ → ℕ → Masks
 masksAt v o = record {
-  own = joined (record {
+  own = recordNumber (record {
     seen = bitXor (bitXor (2 ^ v) (imageAt v o 0 .seen)) (imageAt v o 2 .seen);
     value = bitXor (bitXor (2 ^ v) (imageAt v o 0 .value)) (imageAt v o 1 .value);
   });
-  other = joined (record {
+  other = recordNumber (record {
     seen = bitXor (imageAt v o 0 .seen) (imageAt v o 1 .seen);
     value = bitXor (imageAt v o 0 .value) (imageAt v o 2 .value);
   });
-  always = joined (imageAt v o 2);
+  always = recordNumber (imageAt v o 2);
 }

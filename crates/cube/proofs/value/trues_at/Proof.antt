@@ -44,7 +44,7 @@ loop-again c =
     let s = c .before .before .before .before .before in
     let at = c .before .before .before in
     let true-there = mask-at (s .args .n) (cubesOf (s .args .list .now)) (s .args .a) (at .loop .i) (s .pre .0) (s .pre .1)
-    _ (c .before .cube-at .ensures) (c .holds-at .result) (c .holds-at .ensures) in
+    _ (c .before .cube-at .ensures) (c .holds-at .result) (c .holds-at .ensures .fixed) in
     counting-next cubes (λ c. holds (s .args .n) c (s .args .a)) _ _ _ (at .loop .inv) (c .before .before .loop-test .taken)
     _ (c .before .cube-at .ensures) (c .holds-at .result) true-there
 
