@@ -1,7 +1,8 @@
 // Numbers of two and of four bytes on a slice, the low byte first. A byte past the end is read as 0 and not stored. The compiler reads or stores
 // them at once where it knows the slice's length, as of a part `&s[at..at + 4]`.
 ghost use mathlib.Core.Path.{_≡_};
-ghost use lib.ListN.{getD, set};
+ghost use Prim.Native.Nat.{_+_, _≤_};
+ghost use lib.ListN.{length, getD, set};
 ghost use lib.Seq.{sets};
 ghost use Rattle.records.specs.Numbers.{bytesOf, numberAt};
 
@@ -29,6 +30,28 @@ fn put_byte(b: &mut [u8], p: usize, x: u8)
     }
 }
 
+// The number of four bytes that are there. They meet in the result of a function of its own, because only then does the compiler read them by one load.
+fn four_at(b: &[u8], p: usize) -> u32
+    requires { ⌜ p + 4 ≤ length (now b) ⌝ }
+    ensures { λ r. ⌜ r ≡ numberAt 4 (now (b .entry)) p ⌝ }
+{
+    b[p] as u32
+        + BYTE * (b[p + 1] as u32)
+        + TWO_BYTES * (b[p + 2] as u32)
+        + THREE_BYTES * (b[p + 3] as u32)
+}
+
+// A number stored where its four bytes are there: likewise by one store.
+fn put_four(b: &mut [u8], p: usize, x: u32)
+    requires { ⌜ p + 4 ≤ length (now b) ⌝ }
+    ensures { λ _. ⌜ now (b .exit) ≡ sets (now (b .entry)) p (bytesOf 4 x) ⌝ }
+{
+    b[p] = (x % BYTE) as u8;
+    b[p + 1] = (x / BYTE % BYTE) as u8;
+    b[p + 2] = (x / TWO_BYTES % BYTE) as u8;
+    b[p + 3] = (x / THREE_BYTES) as u8;
+}
+
 // The number of the two bytes from byte p on.
 pub fn number2_at(b: &[u8], p: usize) -> u16
     ensures { λ r. ⌜ r ≡ numberAt 2 (now (b .entry)) p ⌝ }
@@ -45,6 +68,9 @@ pub fn number4_at(b: &[u8], p: usize) -> u32
 {
     if b.len() <= p {
         return 0;
+    }
+    if 4 <= b.len() - p {
+        return four_at(b, p);
     }
     byte_at(b, p) as u32
         + BYTE * (byte_at(b, p + 1) as u32)
@@ -69,6 +95,10 @@ pub fn put_number4(b: &mut [u8], p: usize, x: u32)
     ensures { λ _. ⌜ now (b .exit) ≡ sets (now (b .entry)) p (bytesOf 4 x) ⌝ }
 {
     if b.len() <= p {
+        return;
+    }
+    if 4 <= b.len() - p {
+        put_four(b, p, x);
         return;
     }
     put_byte(b, p, (x % BYTE) as u8);

@@ -8,6 +8,15 @@ use Rattle.records.proofs.numbers.number4_at.Tie as tie
 returns : tie.Need-returns
 returns c = search number-end
 
+sub-if2 : tie.Need-sub-if2
+sub-if2 c = search needs
+
+four-at-requires : tie.Need-four-at-requires
+four-at-requires c κs = search needs
+
+returns-2 : tie.Need-returns-2
+returns-2 c = search needs
+
 byte-at-requires : tie.Need-byte-at-requires
 byte-at-requires c κs = search needs
 
@@ -59,14 +68,17 @@ mul-result-3 c = search needs
 add-result-3 : tie.Need-add-result-3
 add-result-3 c = search needs
 
-returns-2 : tie.Need-returns-2
-returns-2 c = search number-four
+returns-3 : tie.Need-returns-3
+returns-3 c = search number-four
 
 pub number4-at-spec : {M : Type 1} → statement M
 number4-at-spec =
     tie.close
     (tie.spec
     returns
+    sub-if2
+    four-at-requires
+    returns-2
     byte-at-requires
     cast-result
     add-byte-at
@@ -84,4 +96,4 @@ number4-at-spec =
     cast-result-4
     mul-result-3
     add-result-3
-    returns-2)
+    returns-3)

@@ -8,6 +8,18 @@ use Rattle.records.proofs.numbers.put_number4.Tie as tie
 returns : tie.Need-returns
 returns c = search sets-end
 
+sub-if2 : tie.Need-sub-if2
+sub-if2 c = search needs
+
+put-four-requires : tie.Need-put-four-requires
+put-four-requires c κs = search needs
+
+same-length : tie.Need-same-length
+same-length c = search needs
+
+returns-2 : tie.Need-returns-2
+returns-2 c = search needs
+
 cast-put-byte : tie.Need-cast-put-byte
 cast-put-byte c = search needs
 
@@ -41,11 +53,11 @@ cast-put-byte-4 c = search needs
 put-byte-requires-4 : tie.Need-put-byte-requires-4
 put-byte-requires-4 c κs = search needs
 
-same-length : tie.Need-same-length
-same-length c = search needs
+same-length-2 : tie.Need-same-length-2
+same-length-2 c = search needs
 
-returns-2 : tie.Need-returns-2
-returns-2 c =
+returns-3 : tie.Need-returns-3
+returns-3 c =
     let c₄ = c .before .before in
     let c₃ = c₄ .before .before .before .before in
     let c₂ = c₃ .before .before .before .before in
@@ -57,6 +69,10 @@ put-number4-spec =
     tie.close
     (tie.spec
     returns
+    sub-if2
+    put-four-requires
+    same-length
+    returns-2
     cast-put-byte
     put-byte-requires
     add-put-byte
@@ -68,5 +84,5 @@ put-number4-spec =
     add-put-byte-3
     cast-put-byte-4
     put-byte-requires-4
-    same-length
-    returns-2)
+    same-length-2
+    returns-3)
