@@ -1,12 +1,12 @@
--- `run` is safe and ends: a line that is read has at most 16 variables.
+-- `settle_named` is safe and ends: a line that gives a number gives at most 16 variables.
 -- Assumes nothing.
-use borrow.Author.Needs.{needs}
 use Rattle.map_files.proofs.Lines.{variables-few}
-use Rattle.map_files.proofs.run.Statement.{statement}
-use Rattle.map_files.proofs.run.Tie as tie
+use borrow.Author.Needs.{needs}
+use Rattle.map_files.proofs.settle_named.Statement.{statement}
+use Rattle.map_files.proofs.settle_named.Tie as tie
 
-read-requires : tie.Need-read-requires
-read-requires c κs = search needs
+line-of-requires : tie.Need-line-of-requires
+line-of-requires c κs = search needs
 
 enum-told : tie.Need-enum-told
 enum-told c = search needs
@@ -29,11 +29,11 @@ returns c = search needs
 returns-2 : tie.Need-returns-2
 returns-2 c = search needs
 
-pub run-spec : {M : Type 1} → statement M
-run-spec =
+pub settle-named-spec : {M : Type 1} → statement M
+settle-named-spec =
     tie.close
     (tie.spec
-    read-requires
+    line-of-requires
     enum-told
     new-requires
     refusal-requires
