@@ -37,7 +37,7 @@ digits-most most [] p x h = h
 digits-most most (b ∷ t) p x h =
     either (AtMost most) (isDigit b) _ (number-is.Read x p)
     (λ d. either (AtMost most) (leb (x * 10 + (b - 48)) most) _ (number-is.Wrong p)
-        (λ e. digits-most most t (p + 1) (x * 10 + (b - 48)) (leb-true (x * 10 + (b - 48)) most e)) tt)
+    (λ e. digits-most most t (p + 1) (x * 10 + (b - 48)) (leb-true (x * 10 + (b - 48)) most e)) tt)
     h
 
 number-most : (most : ℕ) (t : List ℕ) (p : ℕ) → AtMost most (numberAt most t p)

@@ -97,12 +97,12 @@ digits-back most zero x h k rest p =
 digits-back most (suc turns) x h k rest p =
     ⊎-elim
     (λ l.
-        let same : 0 * 10 + x ≡ x = omega arith in
-        let now : digitsFrom most ((48 + x) ∷ rest) p 0 ≡ digitsFrom most rest (p + 1) x =
-            digit-on most 0 x rest p l (omega arith) ∙ ap (digitsFrom most rest (p + 1)) same in
-        rw (lt-ltb x 10 l) now)
+    let same : 0 * 10 + x ≡ x = omega arith in
+    let now : digitsFrom most ((48 + x) ∷ rest) p 0 ≡ digitsFrom most rest (p + 1) x =
+    digit-on most 0 x rest p l (omega arith) ∙ ap (digitsFrom most rest (p + 1)) same in
+    rw (lt-ltb x 10 l) now)
     (λ l. rw (le-ltb x 10 l) (digits-on most x (decimalBy turns (x / 10)) rest p l k
-        (digits-back most turns (x / 10) (omega arith) (omega arith) ((48 + x % 10) ∷ rest) p)))
+    (digits-back most turns (x / 10) (omega arith) (omega arith) ((48 + x % 10) ∷ rest) p)))
     (below-or x 10)
 
 -- the first of them is a digit
@@ -116,8 +116,8 @@ first-digit (suc turns) x h rest =
     ⊎-elim
     (λ l. rw (lt-ltb x 10 l) (digit-true x l))
     (λ l. rw (le-ltb x 10 l)
-        (ap (λ (s : List ℕ). isDigit (getD s 0 0)) (append-assoc (decimalBy turns (x / 10)) ((48 + x % 10) ∷ []) rest)
-        ∙ first-digit turns (x / 10) (omega arith) ((48 + x % 10) ∷ rest)))
+    (ap (λ (s : List ℕ). isDigit (getD s 0 0)) (append-assoc (decimalBy turns (x / 10)) ((48 + x % 10) ∷ []) rest)
+    ∙ first-digit turns (x / 10) (omega arith) ((48 + x % 10) ∷ rest)))
     (below-or x 10)
 
 number-ends : (most : ℕ) (rest : List ℕ) (q x : ℕ) → isDigit (getD rest 0 0) ≡ false → digitsFrom most rest q x ≡ number-is.Read x q
@@ -204,10 +204,10 @@ codes-back c (suc left) k p t h f =
     let shift : (m i : ℕ) → m + 1 + i ≡ m + suc i = λ m i. omega arith in
     ap (λ (b : ℕ). cond (ltb b 3) (codesFrom t left (k + 1) (p + 1) (withCode (upTo k c) k b)) (cube-is.Wrong p)) is
     ∙ simp (lt-ltb (code c k) 3 (code-lt c k))
-      (ap (codesFrom t left (k + 1) (p + 1)) next
-      ∙ codes-back c left (k + 1) (p + 1) t (omega arith)
-          (λ i l. ap (λ (m : ℕ). getD t m 0) (shift p i) ∙ f (suc i) (omega arith) ∙ ap (λ (m : ℕ). glyph (code c m)) (sym (shift k i)))
-      ∙ ap₂ (λ (m r : ℕ). cube-is.Read (upTo m c) r) (shift k left) (shift p left))
+    (ap (codesFrom t left (k + 1) (p + 1)) next
+    ∙ codes-back c left (k + 1) (p + 1) t (omega arith)
+    (λ i l. ap (λ (m : ℕ). getD t m 0) (shift p i) ∙ f (suc i) (omega arith) ∙ ap (λ (m : ℕ). glyph (code c m)) (sym (shift k i)))
+    ∙ ap₂ (λ (m r : ℕ). cube-is.Read (upTo m c) r) (shift k left) (shift p left))
 
 glyph-at : (n : ℕ) (c : Cube) (i : ℕ) → i < n → getD (cubeText n c) i 0 ≡ glyph (code c i)
 unfolding cubeText
@@ -224,9 +224,9 @@ cube-back n c few g t rest p e =
     let none : 0 + n ≡ n = omega arith in
     let zero-first : (i : ℕ) → i ≡ 0 + i = λ i. omega arith in
     codes-back c n 0 p t (omega arith)
-        (λ i l.
-            sym (getD-drop p t i 0) ∙ ap (λ (s : List ℕ). getD s i 0) e ∙ List·getD-append (cubeText n c) rest 0 i (omega (arith, length-cube n c))
-            ∙ glyph-at n c i l ∙ ap (λ (m : ℕ). glyph (code c m)) (zero-first i))
+    (λ i l.
+    sym (getD-drop p t i 0) ∙ ap (λ (s : List ℕ). getD s i 0) e ∙ List·getD-append (cubeText n c) rest 0 i (omega (arith, length-cube n c))
+    ∙ glyph-at n c i l ∙ ap (λ (m : ℕ). glyph (code c m)) (zero-first i))
     ∙ ap (λ (d : Cube). cube-is.Read d (p + n)) (ap (λ (m : ℕ). upTo m c) none ∙ up-all n c g)
 
 -- ---- steps
@@ -272,19 +272,19 @@ step-back (step-of.drop i j) b t rest p none e =
     let long : p + length (dropWord ++ (fieldText i ++ fieldText j)) ≡ p + 4 + length (fieldText i ++ fieldText j) = omega arith in
     let two : Two 65535 65535 t (p + 4) i j _ = two-back 65535 65535 i j (b .i-word) (b .j-word) t rest (p + 4) _ none long at in
     sym (step-read t p refl (word-drop t ((fieldText i ++ fieldText j) ++ rest) p e)
-        (fields-read 1 (p + 4) t refl (unused 255 t (p + 4)) refl (two .first) refl refl (two .second) refl (unused 255 t _)))
+    (fields-read 1 (p + 4) t refl (unused 255 t (p + 4)) refl (two .first) refl refl (two .second) refl (unused 255 t _)))
 step-back (step-of.join i j) b t rest p none e =
     let at : drop (p + 4) t ≡ (fieldText i ++ fieldText j) ++ rest = after-text joinWord t ((fieldText i ++ fieldText j) ++ rest) p (p + 4) refl e in
     let long : p + length (joinWord ++ (fieldText i ++ fieldText j)) ≡ p + 4 + length (fieldText i ++ fieldText j) = omega arith in
     let two : Two 65535 65535 t (p + 4) i j _ = two-back 65535 65535 i j (b .i-word) (b .j-word) t rest (p + 4) _ none long at in
     sym (step-read t p refl (word-join t ((fieldText i ++ fieldText j) ++ rest) p e)
-        (fields-read 2 (p + 4) t refl (unused 255 t (p + 4)) refl (two .first) refl refl (two .second) refl (unused 255 t _)))
+    (fields-read 2 (p + 4) t refl (unused 255 t (p + 4)) refl (two .first) refl refl (two .second) refl (unused 255 t _)))
 step-back (step-of.split v i) b t rest p none e =
     let at : drop (p + 5) t ≡ (fieldText v ++ fieldText i) ++ rest = after-text splitWord t ((fieldText v ++ fieldText i) ++ rest) p (p + 5) refl e in
     let long : p + length (splitWord ++ (fieldText v ++ fieldText i)) ≡ p + 5 + length (fieldText v ++ fieldText i) = omega arith in
     let two : Two 255 65535 t (p + 5) v i _ = two-back 255 65535 v i (b .v-byte) (b .i-word) t rest (p + 5) _ none long at in
     sym (step-read t p refl (word-split t ((fieldText v ++ fieldText i) ++ rest) p e)
-        (fields-read 3 (p + 5) t refl (two .first) refl (two .second) refl refl (unused 65535 t _) refl (unused 255 t _)))
+    (fields-read 3 (p + 5) t refl (two .first) refl (two .second) refl refl (unused 65535 t _) refl (unused 255 t _)))
 step-back (step-of.turn v i j) b t rest p none e =
     let tail : List ℕ = (fieldText i ++ fieldText j) ++ rest in
     let whole : drop p t ≡ turnWord ++ (fieldText v ++ tail) = e ∙ ap (λ (s : List ℕ). turnWord ++ s) (append-assoc (fieldText v) (fieldText i ++ fieldText j) rest) in
@@ -292,16 +292,16 @@ step-back (step-of.turn v i j) b t rest p none e =
     let q : ℕ = p + 4 + length (fieldText v) in
     let then : drop q t ≡ tail = after-text (fieldText v) t tail (p + 4) q refl at in
     let long : p + length (turnWord ++ (fieldText v ++ (fieldText i ++ fieldText j))) ≡ q + length (fieldText i ++ fieldText j) =
-        omega (arith, length-append (fieldText v) (fieldText i ++ fieldText j)) in
+    omega (arith, length-append (fieldText v) (fieldText i ++ fieldText j)) in
     let two : Two 65535 65535 t q i j _ = two-back 65535 65535 i j (b .i-word) (b .j-word) t rest q _ none long then in
     sym (step-read t p refl (word-turn t (fieldText v ++ tail) p whole)
-        (fields-read 4 (p + 4) t refl (field-back 255 v (b .v-byte) t tail (p + 4) q refl refl at) refl (two .first) refl refl (two .second) refl (unused 255 t _)))
+    (fields-read 4 (p + 4) t refl (field-back 255 v (b .v-byte) t tail (p + 4) q refl refl at) refl (two .first) refl refl (two .second) refl (unused 255 t _)))
 step-back (step-of.L v x) b t rest p none e =
     let at : drop (p + 1) t ≡ (fieldText v ++ fieldText x) ++ rest = after-text lWord t ((fieldText v ++ fieldText x) ++ rest) p (p + 1) refl e in
     let long : p + length (lWord ++ (fieldText v ++ fieldText x)) ≡ p + 1 + length (fieldText v ++ fieldText x) = omega arith in
     let two : Two 255 255 t (p + 1) v x _ = two-back 255 255 v x (b .v-byte) (b .literal-byte) t rest (p + 1) _ none long at in
     sym (step-read t p refl (word-L t ((fieldText v ++ fieldText x) ++ rest) p e)
-        (fields-read 5 (p + 1) t refl (two .first) refl (unused 65535 t _) refl refl (unused 65535 t _) refl (two .second)))
+    (fields-read 5 (p + 1) t refl (two .first) refl (unused 65535 t _) refl refl (unused 65535 t _) refl (two .second)))
 
 -- ---- what a printer left in a buffer with room reads back from there
 
