@@ -1,6 +1,8 @@
 -- One lemma for every uniqueness theorem: two outcomes that a contract sets equal to the same thing are equal. And the theorems of this crate.
 -- Assumes nothing.
 use mathlib.Core.Path.{_≡_, refl, sym, ap, _∙_}
+use mathlib.Core.List.{List}
+use Prim.Native.Nat.{ℕ}
 use Rattle.bits.specs.Outcomes.{Determined}
 use Rattle.bits.proofs.bit.Kinds as bit-kinds
 use Rattle.bits.proofs.bit.Reads as bit-reads
@@ -20,10 +22,8 @@ use Rattle.bits.proofs.packed.Packed.both.Kinds as packed-both-kinds
 use Rattle.bits.proofs.packed.Packed.both.Reads as packed-both-reads
 use Rattle.bits.proofs.packed.Packed.sum.Kinds as packed-sum-kinds
 use Rattle.bits.proofs.packed.Packed.sum.Reads as packed-sum-reads
-use Rattle.bits.proofs.packed.Packed.word.Kinds as packed-word-kinds
-use Rattle.bits.proofs.packed.Packed.word.Reads as packed-word-reads
-use Rattle.bits.proofs.packed.Packed.bit.Kinds as packed-bit-kinds
-use Rattle.bits.proofs.packed.Packed.bit.Reads as packed-bit-reads
+use Rattle.bits.proofs.packed.Packed.put.Kinds as packed-put-kinds
+use Rattle.bits.proofs.packed.Packed.put.Reads as packed-put-reads
 
 -- equal to the same
 pub same {ℓ} : {A : Type ℓ} {x y z : A} → x ≡ z → y ≡ z → x ≡ y
@@ -42,6 +42,9 @@ within-determined κs a z z′ ws ws′ p q = (same p q, refl)
 pub packed-of-determined : Determined 1 packed-of-kinds.ps packed-of-kinds.r packed-of-reads.Learnt
 packed-of-determined κs a z z′ ws ws′ p q = (same p q, refl)
 
+pub packed-put-determined : Determined 1 packed-put-kinds.ps packed-put-kinds.r packed-put-reads.Learnt
+packed-put-determined κs a z z′ ws ws′ p q = (refl, ap (λ (b : List ℕ). (tt, (b, tt))) (same p q))
+
 pub packed-lowered-determined : Determined 0 packed-lowered-kinds.ps packed-lowered-kinds.r packed-lowered-reads.Learnt
 packed-lowered-determined κs a z z′ ws ws′ p q = (same p q, refl)
 
@@ -59,9 +62,3 @@ packed-both-determined κs a z z′ ws ws′ p q = (same p q, refl)
 
 pub packed-sum-determined : Determined 0 packed-sum-kinds.ps packed-sum-kinds.r packed-sum-reads.Learnt
 packed-sum-determined κs a z z′ ws ws′ p q = (same p q, refl)
-
-pub packed-bit-determined : Determined 0 packed-bit-kinds.ps packed-bit-kinds.r packed-bit-reads.Learnt
-packed-bit-determined κs a z z′ ws ws′ p q = (same p q, refl)
-
-pub packed-word-determined : Determined 0 packed-word-kinds.ps packed-word-kinds.r packed-word-reads.Learnt
-packed-word-determined κs a z z′ ws ws′ p q = (same p q, refl)

@@ -1,85 +1,15 @@
--- Laws of `leastBelow`, for any f: what it is, that it is the only one, and one turn of a search for it.
+-- Laws of the least of many, for any f: over two ranges side by side, that it is the only one, and that `leastBelow` is it.
 -- Assumes nothing.
-use mathlib.Core.Path.{_≡_, refl, sym, ap, _∙_, subst}
+use mathlib.Core.Path.{_≡_, refl, sym, ap, subst}
 use mathlib.Core.Logic.{⊎-elim}
-use mathlib.Core.Bool.{Bool, true, false, cond}
-use Prim.Native.Nat.{ℕ, zero, suc, _+_, _<_, _≤_, zero-le}
-use native.Mathlib.Nat.{le-refl, not-suc-le-zero, eq-or-lt-of-le, le-of-suc-le-suc, le-antisymm}
+use mathlib.Core.Bool.{Bool, cond}
+use Prim.Native.Nat.{ℕ, zero, suc, _+_, _<_, _≤_}
+use native.Mathlib.Nat.{le-refl, le-antisymm}
 use native.Mathlib.Numerals.{add-one}
 use native.Mathlib.Omega.{arith}
-use lib.Dec.{ltb}
-use borrow.Author.Tests.{ltb-true, ltb-false, lt-ltb, le-ltb}
-use Rattle.bits.specs.Below.{leastBelow, LeastIn}
+use borrow.Author.Tests.{lt-ltb, le-ltb}
+use Rattle.bits.specs.Below.{leastBelow, LeastIn, Least}
 use Rattle.bits.proofs.Bools.{below-or}
-
-module _ (f : ℕ → ℕ) (m : ℕ) where
-  least-lower : f m < f (leastBelow f m) → leastBelow f (suc m) ≡ m
-  unfolding leastBelow
-  least-lower l = ap (λ (b : Bool). cond b m (leastBelow f m)) (lt-ltb (f m) (f (leastBelow f m)) l)
-
-  least-kept : f (leastBelow f m) ≤ f m → leastBelow f (suc m) ≡ leastBelow f m
-  unfolding leastBelow
-  least-kept l = ap (λ (b : Bool). cond b m (leastBelow f m)) (le-ltb (f m) (f (leastBelow f m)) l)
-
-pub least-one : (f : ℕ → ℕ) → leastBelow f 1 ≡ 0
-unfolding leastBelow
-least-one f = ap (λ (b : Bool). cond b 0 0) (le-ltb (f 0) (f 0) (le-refl (f 0)))
-
--- it is below m, none below m is less, and each below it is more
-pub record Least (f : ℕ → ℕ) (m p : ℕ) : Type 0 where
-  pub inside : p < m
-  pub fewest : (q : ℕ) → q < m → f p ≤ f q
-  pub smallest : (q : ℕ) → q < p → f p < f q
-
-pub least-unique : (f : ℕ → ℕ) (m p q : ℕ) → Least f m p → Least f m q → p ≡ q
-least-unique f m p q P Q = le-antisymm (at-most p q P Q) (at-most q p Q P)
-  where
-    at-most : (p q : ℕ) → Least f m p → Least f m q → p ≤ q
-    at-most p q P Q = go (ltb q p) refl
-      where
-        go : (b : Bool) → ltb q p ≡ b → p ≤ q
-        go true e = absurd (omega (arith, P .smallest q (ltb-true q p e), Q .fewest p (P .inside)))
-        go false e = ltb-false q p e
-
-least-step : (f : ℕ → ℕ) (m : ℕ) → Least f (suc m) (leastBelow f (suc m)) → Least f (suc (suc m)) (leastBelow f (suc (suc m)))
-least-step f m P = go (ltb (f (suc m)) (f (leastBelow f (suc m)))) refl
-  where
-    go : (b : Bool) → ltb (f (suc m)) (f (leastBelow f (suc m))) ≡ b → Least f (suc (suc m)) (leastBelow f (suc (suc m)))
-    go true e =
-        let l = ltb-true (f (suc m)) (f (leastBelow f (suc m))) e in
-        subst (Least f (suc (suc m))) (sym (least-lower f (suc m) l)) (record {
-          inside = le-refl (suc (suc m));
-          fewest = λ q b. ⊎-elim (λ k. subst (λ (x : ℕ). f (suc m) ≤ f x) (sym k) (le-refl (f (suc m)))) (λ k. omega (arith, P .fewest q k)) (eq-or-lt-of-le (le-of-suc-le-suc b));
-          smallest = λ q b. omega (arith, P .fewest q b);
-        })
-    go false e =
-        let l = ltb-false (f (suc m)) (f (leastBelow f (suc m))) e in
-        subst (Least f (suc (suc m))) (sym (least-kept f (suc m) l)) (record {
-          inside = omega (arith, P .inside);
-          fewest = λ q b. ⊎-elim (λ k. subst (λ (x : ℕ). f (leastBelow f (suc m)) ≤ f x) (sym k) l) (λ k. P .fewest q k) (eq-or-lt-of-le (le-of-suc-le-suc b));
-          smallest = P .smallest;
-        })
-
-pub least-is : (f : ℕ → ℕ) (m : ℕ) → Least f (suc m) (leastBelow f (suc m))
-least-is f zero = subst (Least f 1) (sym (least-one f)) (record {
-  inside = le-refl 1;
-  fewest = λ q b. subst (λ (x : ℕ). f 0 ≤ f x) (omega arith) (le-refl (f 0));
-  smallest = λ q b. absurd (not-suc-le-zero b);
-})
-least-is f (suc m) = least-step f m (least-is f m)
-
--- one turn of a search: p is tried next; b is the least so far, and `rank` is f there
-module _ (f : ℕ → ℕ) (p b rank next : ℕ) (eb : b ≡ leastBelow f p) (es : rank ≡ f b) (en : next ≡ f p) where
-  there : rank ≡ f (leastBelow f p)
-  there = es ∙ ap f eb
-
-  pub turn-lower : next < rank → p ≡ leastBelow f (p + 1)
-  turn-lower l = sym (ap (leastBelow f) (add-one p) ∙ least-lower f p (omega (arith, there, en)))
-
-  pub turn-kept : rank ≤ next → b ≡ leastBelow f (p + 1)
-  turn-kept l = eb ∙ sym (ap (leastBelow f) (add-one p) ∙ least-kept f p (omega (arith, there, en)))
-
--- ---- the same over the numbers from a to b
 
 module _ (f : ℕ → ℕ) where
   pub in-one : (a b : ℕ) → b ≡ a + 1 → LeastIn f a b a
@@ -108,8 +38,37 @@ module _ (f : ℕ → ℕ) where
       smallest = P .smallest;
     }
 
-  pub in-all : (m p : ℕ) → LeastIn f 0 m p → p ≡ leastBelow f m
+  in-at-most : (a b p q : ℕ) → LeastIn f a b p → LeastIn f a b q → p ≤ q
+  in-at-most a b p q P Q =
+      ⊎-elim (λ l. absurd (omega (arith, P .smallest q (Q .from) l, Q .fewest p (P .from) (P .inside)))) (λ h. h) (below-or q p)
+
+  pub in-unique : (a b p q : ℕ) → LeastIn f a b p → LeastIn f a b q → p ≡ q
+  in-unique a b p q P Q = le-antisymm (in-at-most a b p q P Q) (in-at-most a b q p Q P)
+
+  -- ---- below a number
+
+  least-lower : (m : ℕ) → f m < f (leastBelow f m) → leastBelow f (suc m) ≡ m
+  unfolding leastBelow
+  least-lower m l = ap (λ (b : Bool). cond b m (leastBelow f m)) (lt-ltb (f m) (f (leastBelow f m)) l)
+
+  least-kept : (m : ℕ) → f (leastBelow f m) ≤ f m → leastBelow f (suc m) ≡ leastBelow f m
+  unfolding leastBelow
+  least-kept m l = ap (λ (b : Bool). cond b m (leastBelow f m)) (le-ltb (f m) (f (leastBelow f m)) l)
+
+  least-one : leastBelow f 1 ≡ 0
+  unfolding leastBelow
+  least-one = least-kept 0 (le-refl (f 0))
+
+  pub least-is : (m : ℕ) → Least f (suc m) (leastBelow f (suc m))
+  least-is zero = subst (Least f 1) (sym least-one) (in-one 0 1 refl)
+  least-is (suc m) =
+      let P : Least f (suc m) (leastBelow f (suc m)) = least-is m in
+      let Q : LeastIn f (suc m) (suc (suc m)) (suc m) = in-one (suc m) (suc (suc m)) (sym (add-one (suc m))) in
+      ⊎-elim
+      (λ l. subst (Least f (suc (suc m))) (sym (least-lower (suc m) l)) (in-upper 0 (suc m) (suc (suc m)) (leastBelow f (suc m)) (suc m) P Q l))
+      (λ l. subst (Least f (suc (suc m))) (sym (least-kept (suc m) l)) (in-lower 0 (suc m) (suc (suc m)) (leastBelow f (suc m)) (suc m) P Q l))
+      (below-or (f (suc m)) (f (leastBelow f (suc m))))
+
+  pub in-all : (m p : ℕ) → Least f m p → p ≡ leastBelow f m
   in-all zero p P = absurd (omega (arith, P .inside))
-  in-all (suc m) p P =
-      least-unique f (suc m) p (leastBelow f (suc m))
-      (record { inside = P .inside; fewest = λ q h. P .fewest q zero-le h; smallest = λ q h. P .smallest q zero-le h }) (least-is f m)
+  in-all (suc m) p P = in-unique 0 (suc m) p (leastBelow f (suc m)) P (least-is m)

@@ -3,5 +3,4 @@ pub mod Bits
 pub mod Below
 pub mod Sums
 pub mod Least
-pub mod Packing
 pub mod Determined

@@ -36,3 +36,7 @@ pub record LeastIn (f : ℕ → ℕ) (a b p : ℕ) : Type 0 where
   pub inside : p < b
   pub fewest : (q : ℕ) → a ≤ q → q < b → f p ≤ f q
   pub smallest : (q : ℕ) → a ≤ q → q < p → f p < f q
+
+-- of the numbers below m, p is the one at which f is least, and of several such the smallest
+abbrev pub Least : (ℕ → ℕ) → ℕ → ℕ → Type 0
+Least f m p = LeastIn f 0 m p

@@ -1,4 +1,4 @@
-// `map.scr` is missing, and the list is good: no file.
+// `map.scr` is missing, and the list is good: no file. The line has no newline.
 fn main() {
     map_files::run();
 }

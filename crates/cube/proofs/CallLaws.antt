@@ -1,13 +1,11 @@
 -- The value call and the truth vector by cases: what each of their returns answers and leaves.
 -- Assumes nothing.
-use mathlib.Core.Path.{_≡_, refl, sym, ap, ap₂, _∙_}
+use mathlib.Core.Path.{_≡_, sym, ap, _∙_}
 use mathlib.Core.List.{List, [], _∷_, _++_}
-use Prim.Native.Nat.{ℕ, _+_, _%_, _^_, _≤_, _<_, zero-le}
+use Prim.Native.Nat.{ℕ, _%_, _^_, _≤_, _<_}
 use native.Mathlib.Omega.{arith}
-use lib.ListN.{length, drop, set, length-set}
+use lib.ListN.{length, drop}
 use borrow.Author.Tests.{lt-ltb, le-ltb, le-leb, lt-leb}
-use Rattle.bits.specs.Below.{listBelow}
-use Rattle.bits.proofs.Below.{filling-none, filling-more}
 use Rattle.records.specs.declared.Refusal.{Refusal}
 use Rattle.records.specs.Answers.{Outcome, accepted, refused, refusal}
 use Rattle.records.proofs.Answering.{and-then, and-not, after-accepted, after-refused}
@@ -60,26 +58,3 @@ module _ (n : ℕ) (b out : List ℕ) where
         let room : 2 ^ n ≤ length out = omega arith in
         let is : vectorOutcome n b (length out) ≡ accepted (2 ^ n ∷ []) = and-then _ _ v e ∙ simp (le-leb _ _ room) in
         record { answer = ap (λ (x : ℕ). accepted (x ∷ [])) es ∙ sym is; buffer = eo ∙ sym (after-accepted _ _ out _ is) }
-
--- the values at the first a assignments have been written
-pub record Vectoring (n : ℕ) (b out out′ : List ℕ) (a : ℕ) : Type 0 where
-  pub size : length out′ ≡ length out
-  pub within : a ≤ 2 ^ n
-  pub is : out′ ≡ listBelow a (listValue n (cubesOf b)) ++ drop a out
-
-module _ (n : ℕ) (b out : List ℕ) where
-  pub vectoring-none : Vectoring n b out out 0
-  vectoring-none = record { size = refl; within = zero-le; is = filling-none (listValue n (cubesOf b)) out }
-
-  pub vectoring-more : (out′ : List ℕ) (a x : ℕ) → Vectoring n b out out′ a → a < 2 ^ n → 2 ^ n ≤ length out → x ≡ listValue n (cubesOf b) a
-      → Vectoring n b out (set out′ a x) (a + 1)
-  vectoring-more out′ a x r h room ex = record {
-    size = length-set out′ a x ∙ r .size;
-    within = omega arith;
-    is = ap₂ (λ (l : List ℕ) (y : ℕ). set l a y) (r .is) ex ∙ filling-more (listValue n (cubesOf b)) out a (omega arith);
-  }
-
-  pub vectoring-done : (out′ : List ℕ) (a : ℕ) → Vectoring n b out out′ a → 2 ^ n ≤ a → out′ ≡ truthVector n (cubesOf b) ++ drop (2 ^ n) out
-  vectoring-done out′ a r h =
-      let e : a ≡ 2 ^ n = omega (arith, r .within) in
-      r .is ∙ ap (λ (k : ℕ). listBelow k (listValue n (cubesOf b)) ++ drop k out) e

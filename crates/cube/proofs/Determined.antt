@@ -29,10 +29,10 @@ use Rattle.cube.proofs.Cube.differing.Kinds as differing-kinds
 use Rattle.cube.proofs.Cube.differing.Reads as differing-reads
 use Rattle.cube.proofs.list.capacity.Kinds as capacity-kinds
 use Rattle.cube.proofs.list.capacity.Reads as capacity-reads
-use Rattle.cube.proofs.list.cube_at.Kinds as cube-at-kinds
-use Rattle.cube.proofs.list.cube_at.Reads as cube-at-reads
-use Rattle.cube.proofs.list.put_cube.Kinds as put-cube-kinds
-use Rattle.cube.proofs.list.put_cube.Reads as put-cube-reads
+use Rattle.cube.proofs.record.cube_at.Kinds as cube-at-kinds
+use Rattle.cube.proofs.record.cube_at.Reads as cube-at-reads
+use Rattle.cube.proofs.record.put_cube.Kinds as put-cube-kinds
+use Rattle.cube.proofs.record.put_cube.Reads as put-cube-reads
 use Rattle.cube.proofs.list.check_within.Kinds as check-within-kinds
 use Rattle.cube.proofs.list.check_within.Reads as check-within-reads
 use Rattle.cube.proofs.list.check.Kinds as check-kinds
@@ -71,10 +71,10 @@ pub is-good-determined : Determined 0 is-good-kinds.ps is-good-kinds.r is-good-r
 is-good-determined κs a z z′ ws ws′ p q = (same p q, refl)
 
 pub holds-at-determined : Determined 0 holds-at-kinds.ps holds-at-kinds.r holds-at-reads.Learnt
-holds-at-determined κs a z z′ ws ws′ p q = (same p q, refl)
+holds-at-determined κs a z z′ ws ws′ p q = (same (p .fixed) (q .fixed), refl)
 
 pub differing-determined : Determined 0 differing-kinds.ps differing-kinds.r differing-reads.Learnt
-differing-determined κs a z z′ ws ws′ p q = (same p q, refl)
+differing-determined κs a z z′ ws ws′ p q = (same (p .fixed) (q .fixed), refl)
 
 pub capacity-determined : Determined 0 capacity-kinds.ps capacity-kinds.r capacity-reads.Learnt
 capacity-determined κs a z z′ ws ws′ p q = (same p q, refl)

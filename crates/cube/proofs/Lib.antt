@@ -1,9 +1,10 @@
 pub mod Codes
 pub mod Masks
 pub mod Apart
+pub mod RecordLaws
 pub mod ListLaws
 pub mod CallLaws
+pub mod Inversion
 pub mod Slices
-pub mod Filling
 pub mod Determined
 pub mod Meaning

@@ -4,7 +4,8 @@ use mathlib.Core.Path.{_≡_, refl, sym, ap, ap₂, _∙_}
 use mathlib.Core.Bool.{Bool, true, not, cond, Bool·beq}
 use Prim.Native.Nat.{ℕ, _^_, _≤_, _<_, min, max}
 use native.Mathlib.Nat.{lt-of-le-of-lt}
-use borrow.Author.Tests.{le-leb}
+use borrow.Author.Tests.{le-leb, eqb-true}
+use Rattle.bits.specs.Sums.{oneIf}
 use lib.Bits.{bitAnd, bitXor, differ, and-le-l, or-lt, xor-lt}
 use lib.Count.{ones, trailingZeros}
 use lib.Dec.{eqb, leb}
@@ -63,6 +64,12 @@ module _ (n : ℕ) (c d : Cube) (g : Good n c) (h : Good n d) where
       (bit-lt _ k) (bit-lt _ k) (bit-lt _ k) (bit-lt _ k) (g .inside k) (h .inside k)
       ∙ ap (λ (x : ℕ). not (eqb x 0))
       (sym (bit-or (bitXor (c .seen) (d .seen)) (bitXor (c .value) (d .value)) k ∙ ap₂ max (bit-xor (c .seen) (d .seen) k) (bit-xor (c .value) (d .value) k)))
+
+  pub differing-is : (k : ℕ) → bit (differing c d) k ≡ oneIf (not (eqb (code c k) (code d k)))
+  differing-is k = one-of (bit (differing c d) k) (bit-lt (differing c d) k) ∙ ap oneIf (sym (differing-bit k))
+    where
+      one-of : (x : ℕ) → x < 2 → x ≡ oneIf (not (eqb x 0))
+      one-of x h = eqb-true _ _ (all-at 2 (λ x. eqb x (oneIf (not (eqb x 0)))) refl x h)
 
   pub differing-lt : differing c d < 2 ^ n
   unfolding differing

@@ -1,22 +1,22 @@
 -- What the definitions mean, in document 01's words: theorems for readers.
 -- Assumes nothing.
-use mathlib.Core.Path.{_≡_}
+use mathlib.Core.Path.{_≡_, refl, ap}
 use mathlib.Core.Bool.{true}
-use mathlib.Core.List.{List}
-use Prim.Native.Nat.{ℕ, _*_, _^_, _<_}
+use mathlib.Core.List.{List, []}
+use Prim.Native.Nat.{ℕ, _*_, _^_, _<_, zero-le}
 use lib.Bits.{bitAnd}
 use lib.Count.{ones}
 use lib.Dec.{eqb}
 use lib.ListN.{length, getD}
 use Rattle.bits.specs.Bits.{bit}
-use Rattle.bits.specs.Sums.{sum, oneIf}
+use Rattle.bits.specs.Sums.{sum, oneIf, tally}
 use Rattle.bits.proofs.Bools.{all-at, all-true}
 use Rattle.bits.proofs.Sums.{tally-sum}
 use Rattle.records.specs.Records.{flat, records, image}
 use Rattle.cube.specs.declared.Cube.{Cube}
 use Rattle.cube.specs.Cubes.{code, Good, met, holds, one, apart, differing}
 use Rattle.cube.specs.Lists.{cubes, recordWidth, trues, listValue}
-use Rattle.cube.proofs.Codes.{cube-ext}
+use Rattle.cube.proofs.Codes.{code-above, one-good, cube-ext}
 use Rattle.cube.proofs.Masks.{holds-mask, apart-count}
 use Rattle.cube.proofs.ListLaws.{lawful, cubes-bytes}
 
@@ -34,6 +34,15 @@ product-true n c a h = all-true n (λ k. met (code c k) (bit a k)) h
 pub true-product : (n : ℕ) (c : Cube) (a : ℕ) → holds n c a ≡ true → (k : ℕ) → k < n → met (code c k) (bit a k) ≡ true
 unfolding holds
 true-product n c a e = all-at n (λ k. met (code c k) (bit a k)) e
+
+-- "The product with no literal is the constant 1."
+pub no-literal-true : (n a : ℕ) → holds n one a ≡ true
+no-literal-true n a = product-true n one a (λ k h. ap (λ (x : ℕ). met x (bit a k)) (code-above 0 one (one-good 0) k zero-le))
+
+-- "The empty list is the constant 0."
+pub empty-list-zero : (n a : ℕ) → listValue n [] a ≡ 0
+unfolding listValue trues tally
+empty-list-zero n a = refl
 
 -- For a good cube, and an assignment of n variables, that is one masked comparison, for every n.
 pub product-by-mask : (n : ℕ) (c : Cube) (a : ℕ) → Good n c → a < 2 ^ n → holds n c a ≡ eqb (bitAnd (c .seen) a) (c .value)

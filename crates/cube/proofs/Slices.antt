@@ -1,24 +1,27 @@
--- A product's truth as bits, one for each assignment of eight variables; and the value of a list as their sum.
+-- The truth vector: a product as bits, one for each assignment of eight variables, the value of a list as their sum, and the bytes that are written.
 -- Assumes nothing.
-use mathlib.Core.Path.{_≡_, refl, sym, ap, ap₂, _∙_, subst}
-use mathlib.Core.Bool.{Bool, true, false, _&&_, _||_}
-use mathlib.Core.List.{List, _++_, append-nil}
+use mathlib.Core.Path.{_≡_, refl, sym, ap, ap₂, _∙_}
+use mathlib.Core.Bool.{Bool, true, false, _&&_}
+use mathlib.Core.List.{List, _++_}
 use Prim.Native.Nat.{ℕ, zero, suc, _+_, _-_, _/_, _%_, _^_, _≤_, _<_, min, zero-le}
-use native.Mathlib.Nat.{zero-add, add-zero, add-suc, le-refl}
+use native.Mathlib.Nat.{zero-add, add-zero, add-suc}
 use native.Mathlib.Omega.{arith}
 use lib.Bits.{bitXor}
 use lib.Dec.{eqb}
-use lib.ListN.{length, getD, drop, set, length-set, drop-of-length-le}
+use lib.ListN.{length, getD, take, drop, set, length-set}
+use lib.Pow.{pow-mono}
 use borrow.Author.Tests.{eqb-true}
 use Rattle.bits.specs.Bits.{bit}
 use Rattle.bits.specs.Below.{allBelow, listBelow}
 use Rattle.bits.specs.Sums.{oneIf, tally, All}
-use Rattle.bits.specs.Packed.{bitAt, both, summed, every, literalBits}
+use Rattle.bits.specs.Packed.{bitAt, both, summed, putBits, literalBits}
 use Rattle.bits.specs.declared.packed.Packed.{Packed}
-use Rattle.bits.proofs.Bools.{all-at, all-at₂, one-lt}
-use Rattle.bits.proofs.Below.{filling-none, filling-more}
+use Rattle.bits.proofs.Bools.{all-at₂, one-lt}
+use Rattle.bits.proofs.Below.{listBelow-cong, filling-none, filling-more}
 use Rattle.bits.proofs.Sums.{tally-on, tally-end, tally-ext}
-use Rattle.bits.proofs.Packing.{bitAt-lt, both-bit, summed-bit, literal-bit}
+use Rattle.bits.proofs.packed.Words.{bitAt-lt, full-bits, both-bit, summed-bit}
+use Rattle.bits.proofs.packed.Packing.{put-front}
+use Rattle.bits.proofs.packed.Literals.{literal-bit}
 use Rattle.records.proofs.Holding.{length-list}
 use Rattle.cube.specs.declared.Cube.{Cube}
 use Rattle.cube.specs.Cubes.{one, codeOf, code, Good, met, holds}
@@ -31,9 +34,6 @@ use Rattle.cube.proofs.Codes.{code-absent}
 abbrev pub Sliced : Cube → ℕ → Packed → Type 0
 Sliced c k w = (a : ℕ) → a < 256 → bitAt w a ≡ oneIf (allBelow k (λ j. met (code c j) (bit a j)))
 
-every-test : ℕ → Bool
-every-test a = eqb (bitAt every a) 1
-
 code-lt : (c : Cube) (k : ℕ) → code c k < 3
 unfolding code
 code-lt c k = go (bit (c .seen) k)
@@ -43,9 +43,8 @@ code-lt c k = go (bit (c .seen) k)
     go (suc s) = omega arith
 
 module _ (c : Cube) where
-  pub sliced-none : Sliced c 0 every
-  unfolding bitAt every-test
-  sliced-none a h = eqb-true _ _ (all-at 256 every-test refl a h)
+  pub sliced-none : Sliced c 0 (record { a = 2 ^ 64 - 1; b = 2 ^ 64 - 1; c = 2 ^ 64 - 1; d = 2 ^ 64 - 1 })
+  sliced-none a h = full-bits true a
 
   pub sliced-more : (k : ℕ) (w w′ : Packed) → k < 8 → Sliced c k w → w′ ≡ both w (literalBits (code c k) k) → Sliced c (suc k) w′
   sliced-more k w w′ hk S e a h =
@@ -73,19 +72,12 @@ pub record Valuing (b : List ℕ) (w : Packed) (i : ℕ) : Type 0 where
 abbrev nothing : Packed
 nothing = record { a = 0; b = 0; c = 0; d = 0 }
 
-nothing-test : ℕ → Bool
-nothing-test a = eqb (bitAt nothing a) 0
-
-nothing-bit : (a : ℕ) → a < 256 → bitAt nothing a ≡ 0
-unfolding bitAt nothing-test
-nothing-bit a h = eqb-true _ _ (all-at 256 nothing-test refl a h)
-
 xor-parity : (x y : ℕ) → x < 2 → y < 2 → bitXor x y ≡ (x + y) % 2
 xor-parity x y hx hy = eqb-true _ _ (all-at₂ 2 2 (λ x y. eqb (bitXor x y) ((x + y) % 2)) refl x y hx hy)
 
 module _ (b : List ℕ) where
   pub valuing-none : Valuing b nothing 0
-  valuing-none = record { within = zero-le; so-far = λ a h. ap (λ (x : ℕ). x % 2) (ap (λ (x : ℕ). x + tally (λ c. holds 8 c a) (cubesOf b)) (nothing-bit a h) ∙ zero-add _) }
+  valuing-none = record { within = zero-le; so-far = λ a h. ap (λ (x : ℕ). x % 2) (ap (λ (x : ℕ). x + tally (λ c. holds 8 c a) (cubesOf b)) (full-bits false a) ∙ zero-add _) }
 
   module _ (w : Packed) (i : ℕ) (U : Valuing b w i) where
     pub valuing-more : i < length b / recordWidth → (c : Cube) → c ≡ getD (cubesOf b) i one → (v : Packed) → ((a : ℕ) → a < 256 → bitAt v a ≡ oneIf (holds 8 c a))
@@ -135,28 +127,39 @@ value-more n l a h g =
     ap (λ (x : ℕ). x % 2) (tally-ext (λ c. holds 8 c a) (λ c. holds n c a) (Good n)
     (λ c good. let e : 8 ≡ n + (8 - n) = omega arith in ap (λ (m : ℕ). holds m c a) e ∙ holds-more n c a good (8 - n)) l g)
 
--- ---- the bytes of a word
+-- the values written to the front of a buffer are the truth vector
+pub vector-is : (n : ℕ) (b out : List ℕ) (size : ℕ) → size ≡ 2 ^ n → n ≤ 8 → All (Good n) (cubesOf b) → size ≤ length out
+    → (w : Packed) → ((a : ℕ) → a < 256 → bitAt w a ≡ listValue 8 (cubesOf b) a)
+    → (part : List ℕ) → part ≡ putBits w (take size out) → part ++ drop size out ≡ truthVector n (cubesOf b) ++ drop (2 ^ n) out
+vector-is n b out size es few good room w is part ep =
+    let most : size ≤ 256 = omega (arith, es, pow-mono {j = 8} few) in
+    ap₂ (λ (l : List ℕ) (k : ℕ). l ++ drop k out)
+    (ep ∙ put-front w out size most room
+    ∙ listBelow-cong size (bitAt w) (listValue n (cubesOf b)) (λ a h. is a (omega arith) ∙ value-more n (cubesOf b) a few good)
+    ∙ ap (λ (k : ℕ). listBelow k (listValue n (cubesOf b))) es) es
 
--- the first j bytes have been written
-pub record Putting (w : ℕ) (l₀ l : List ℕ) (j : ℕ) : Type 0 where
-  pub size : length l ≡ length l₀
-  pub within : j ≤ length l₀
-  pub is : l ≡ listBelow j (bit w) ++ drop j l₀
+-- ---- assignment by assignment
 
-module _ (w : ℕ) (l₀ : List ℕ) where
-  pub putting-none : Putting w l₀ l₀ 0
-  putting-none = record { size = refl; within = zero-le; is = filling-none (bit w) l₀ }
+-- the values at the first a assignments have been written
+pub record Vectoring (n : ℕ) (b out out′ : List ℕ) (a : ℕ) : Type 0 where
+  pub size : length out′ ≡ length out
+  pub within : a ≤ 2 ^ n
+  pub is : out′ ≡ listBelow a (listValue n (cubesOf b)) ++ drop a out
 
-  module _ (l : List ℕ) (j : ℕ) (P : Putting w l₀ l j) where
-    pub putting-more : j < length l → Putting w l₀ (set l j (bit w j)) (j + 1)
-    putting-more h = record {
-      size = length-set l j (bit w j) ∙ P .size;
-      within = omega (arith, P .size);
-      is = ap (λ (x : List ℕ). set x j (bit w j)) (P .is) ∙ filling-more (bit w) l₀ j (omega (arith, P .size));
-    }
+module _ (n : ℕ) (b out : List ℕ) where
+  pub vectoring-none : Vectoring n b out out 0
+  vectoring-none = record { size = refl; within = zero-le; is = filling-none (listValue n (cubesOf b)) out }
 
-    pub putting-all : length l ≤ j → l ≡ listBelow (length l₀) (bit w)
-    putting-all h =
-        let e : j ≡ length l₀ = omega (arith, P .size, P .within) in
-        P .is ∙ ap (λ (k : ℕ). listBelow k (bit w) ++ drop k l₀) e
-        ∙ ap (λ (r : List ℕ). listBelow (length l₀) (bit w) ++ r) (drop-of-length-le l₀ {i = length l₀} (le-refl (length l₀))) ∙ append-nil (listBelow (length l₀) (bit w))
+  pub vectoring-more : (out′ : List ℕ) (a t : ℕ) → Vectoring n b out out′ a → a < 2 ^ n → 2 ^ n ≤ length out → t ≡ trues n (cubesOf b) a
+      → Vectoring n b out (set out′ a (t % 2)) (a + 1)
+  unfolding listValue
+  vectoring-more out′ a t r h room et = record {
+    size = length-set out′ a (t % 2) ∙ r .size;
+    within = omega arith;
+    is = ap₂ (λ (l : List ℕ) (x : ℕ). set l a (x % 2)) (r .is) et ∙ filling-more (listValue n (cubesOf b)) out a (omega arith);
+  }
+
+  pub vectoring-done : (out′ : List ℕ) (a : ℕ) → Vectoring n b out out′ a → 2 ^ n ≤ a → out′ ≡ truthVector n (cubesOf b) ++ drop (2 ^ n) out
+  vectoring-done out′ a r h =
+      let e : a ≡ 2 ^ n = omega (arith, r .within) in
+      r .is ∙ ap (λ (k : ℕ). listBelow k (listValue n (cubesOf b)) ++ drop k out) e

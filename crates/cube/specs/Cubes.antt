@@ -3,9 +3,9 @@
 use mathlib.Core.Path.{_≡_}
 use mathlib.Core.Bool.{Bool, not, cond, _&&_, _||_}
 use mathlib.Core.List.{List}
-use Prim.Native.Nat.{ℕ, zero, suc, _^_, _≤_}
+use Prim.Native.Nat.{ℕ, zero, suc, _^_, _≤_, _<_}
 use lib.Dec.{eqb, ltb}
-use lib.Bits.{bitOr, bitXor}
+use lib.Bits.{bitAnd, bitOr, bitXor}
 use Rattle.bits.specs.Bits.{bit, withBit, within}
 use Rattle.bits.specs.Below.{allBelow, those}
 use Rattle.bits.specs.Sums.{oneIf}
@@ -60,10 +60,20 @@ met x b = eqb x 2 || eqb x b
 unfoldable pub holds : ℕ → Cube → ℕ → Bool
 holds n c a = allBelow n (λ k. met (code c k) (bit a k))
 
+-- whether the product is true at a: of a good cube that, and of any cube what one masked comparison says
+pub record HoldsAt (c : Cube) (a : ℕ) (r : Bool) : Type 0 where
+  pub means : (n : ℕ) → Good n c → a < 2 ^ n → r ≡ holds n c a
+  pub fixed : r ≡ eqb (bitAnd (c .seen) a) (c .value)
+
 -- the variables below n in which two cubes differ, ascending
 unfoldable pub apart : ℕ → Cube → Cube → List ℕ
 apart n c d = those (λ k. not (eqb (code c k) (code d k))) n 0
 
--- the set of those variables, as the masks give it
+-- the bits in which the masks differ
 unfoldable pub differing : Cube → Cube → ℕ
 differing c d = bitOr (bitXor (c .seen) (d .seen)) (bitXor (c .value) (d .value))
+
+-- a set of variables: of good cubes those in which the codes differ, and of any cubes the bits in which the masks do
+pub record DiffersIn (c d : Cube) (r : ℕ) : Type 0 where
+  pub means : (n : ℕ) → Good n c → Good n d → (k : ℕ) → bit r k ≡ oneIf (not (eqb (code c k) (code d k)))
+  pub fixed : r ≡ differing c d

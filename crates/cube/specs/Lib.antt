@@ -1,3 +1,4 @@
 pub mod Cubes
+pub mod CubeRecord
 pub mod Lists
 pub mod Calls

@@ -1,13 +1,13 @@
--- Lists of cubes, their records of four bytes, and their value. Document 01, "Cubes and lists" and "Limits".
+-- Lists of cubes: their limits, and their value. Document 01, "Cubes and lists" and "Limits".
 -- Assumes nothing.
-use mathlib.Core.List.{List, _++_}
-use Prim.Native.Nat.{ℕ, _+_, _*_, _/_, _%_, _^_}
+use mathlib.Core.List.{List}
+use Prim.Native.Nat.{ℕ, _%_, _^_}
 use Rattle.bits.specs.Below.{listBelow}
 use Rattle.bits.specs.Sums.{tally}
-use Rattle.records.specs.Words.{word, wordAt, wordSize}
-use Rattle.records.specs.Records.{Codec, listOf, capacityOf}
+use Rattle.records.specs.Records.{capacityOf}
 use Rattle.cube.specs.declared.Cube.{Cube}
-use Rattle.cube.specs.Cubes.{one, holds}
+use Rattle.cube.specs.Cubes.{holds}
+pub use Rattle.cube.specs.CubeRecord.{recordWidth, cubes, cubesOf, narrow}
 
 -- ---- limits
 
@@ -22,36 +22,7 @@ vectorVariables = 8
 abbrev pub mostRecords : ℕ
 mostRecords = 4096
 
--- ---- records
-
--- "A cube record is 4 bytes"
-abbrev pub recordWidth : ℕ
-recordWidth = 4
-
--- "two bytes seen, two bytes value, each little-endian"
-abbrev pub cubes : Codec Cube
-cubes = record {
-  width = recordWidth;
-  enc = λ c. word (c .seen) ++ word (c .value);
-  read = λ b i. record { seen = wordAt b (recordWidth * i); value = wordAt b (recordWidth * i + 2) };
-  none = one;
-}
-
--- a record as one number of four bytes: seen is its low half, value its high half
-abbrev pub joined : Cube → ℕ
-joined c = c .seen % wordSize + wordSize * (c .value % wordSize)
-
--- the cube of such a number
-abbrev pub halves : ℕ → Cube
-halves x = record { seen = x % wordSize; value = x / wordSize }
-
--- what of a cube fits a record
-abbrev pub narrow : Cube → Cube
-narrow c = record { seen = c .seen % wordSize; value = c .value % wordSize }
-
--- the list of cubes that a buffer's bytes are
-abbrev pub cubesOf : List ℕ → List Cube
-cubesOf b = listOf cubes b
+-- ---- lists
 
 -- how many cubes a lent buffer of so many bytes can hold
 abbrev pub cubeCapacity : ℕ → ℕ

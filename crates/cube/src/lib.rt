@@ -1,16 +1,14 @@
 // Cubes: products of literals by value, as two masks.
 pub mod list;
+pub mod record;
 pub mod value;
 
 use records::Refusal;
 ghost use mathlib.Core.Path.{_≡_};
-ghost use lib.Bits.{bitAnd};
-ghost use lib.Dec.{eqb};
 ghost use Rattle.bits.specs.Bits.{withBit};
 ghost use Rattle.bits.specs.Sums.{oneIf};
 ghost use Prim.Native.Nat.{_<_};
-ghost use Rattle.cube.specs.Cubes.{code, withCode, one, good, differing};
-ghost use Rattle.cube.specs.Lists.{joined, halves};
+ghost use Rattle.cube.specs.Cubes.{maskBits, code, withCode, one, good, HoldsAt, DiffersIn};
 
 // Bit k of seen is set where variable k has a literal, and bit k of value holds that literal's code.
 pub struct Cube {
@@ -27,12 +25,9 @@ pub enum Valued {
 // How many variables the masks have room for.
 const MASK_BITS: u32 = 32;
 
-// How many numbers a half of a record holds: seen is the low half of its four bytes, value the high one.
-const HALF: u32 = 65536;
-
 // x with bit k set where the test passed, and clear where not.
 fn with_bit(x: u32, k: u32, t: bool) -> u32
-    requires { ⌜ k < 32 ⌝ }
+    requires { ⌜ k < maskBits ⌝ }
     ensures { λ r. ⌜ r ≡ withBit x k (oneIf t) ⌝ }
 {
     let m: u32 = 1 << k;
@@ -51,23 +46,6 @@ impl Cube {
         ensures { λ r. ⌜ r ≡ withCode one v x ⌝ }
     {
         Cube::ONE.with_code(v, x)
-    }
-
-    // A cube's record as one number; what of a mask is above 16 bits is cut off.
-    pub fn word(self) -> u32
-        ensures { λ r. ⌜ r ≡ joined self ⌝ }
-    {
-        self.seen % HALF + HALF * (self.value % HALF)
-    }
-
-    // The cube of such a number: a decoded record.
-    pub fn of_word(x: u32) -> Cube
-        ensures { λ r. ⌜ r ≡ halves x ⌝ }
-    {
-        Cube {
-            seen: x % HALF,
-            value: x / HALF,
-        }
     }
 
     // The literal code at variable v.
@@ -101,7 +79,7 @@ impl Cube {
         if !bits::within(self.value, seen) {
             return false;
         }
-        if 32 <= n {
+        if MASK_BITS as usize <= n {
             return true;
         }
         seen >> n == 0
@@ -109,14 +87,14 @@ impl Cube {
 
     // One masked comparison: the product of a good cube is true at the assignment a.
     pub fn holds_at(self, a: u32) -> bool
-        ensures { λ r. ⌜ r ≡ eqb (bitAnd (self .seen) a) (self .value) ⌝ }
+        ensures { λ r. ⌜ HoldsAt self a r ⌝ }
     {
         self.seen & a == self.value
     }
 
-    // The set of the variables in which the cubes differ.
+    // The set of the variables in which good cubes differ.
     pub fn differing(self, other: Cube) -> u32
-        ensures { λ r. ⌜ r ≡ differing self other ⌝ }
+        ensures { λ r. ⌜ DiffersIn self other r ⌝ }
     {
         (self.seen ^ other.seen) | (self.value ^ other.value)
     }

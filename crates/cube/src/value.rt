@@ -6,11 +6,9 @@ use bits::packed::Packed;
 use records::Counted;
 use records::Refusal;
 ghost use mathlib.Core.Path.{_≡_};
-ghost use Prim.Native.Nat.{ℕ, _+_, min, _<_, _≤_, _^_};
+ghost use Prim.Native.Nat.{ℕ, _<_, _≤_, _^_};
 ghost use mathlib.Core.List.{_++_};
 ghost use lib.ListN.{length, drop};
-ghost use Rattle.bits.specs.Bits.{bit};
-ghost use Rattle.bits.specs.Below.{listBelow};
 ghost use Rattle.bits.specs.Sums.{All, oneIf};
 ghost use Rattle.bits.specs.Packed.{bitAt, both, literalBits};
 ghost use Rattle.records.specs.Answers.{counted};
@@ -54,7 +52,6 @@ pub fn value(n: usize, list: &[u8], a: u64) -> Valued
 
 // The bits of w at whose index the literal of variable k is true.
 fn with_literal(w: Packed, c: Cube, k: u32) -> Packed
-    requires { ⌜ k < 8 ⌝ }
     ensures { λ r. ⌜ r ≡ both w (literalBits (code c k) k) ⌝ }
 {
     w.both(Packed::literal(k as usize, c.code_at(k)))
@@ -89,45 +86,32 @@ fn value_bits(list: &[u8]) -> Packed
     w
 }
 
-// Where the word that starts at a ends, or the whole.
-fn word_end(a: usize, size: usize) -> usize
-    requires { ⌜ (a ≤ size) × (size ≤ 256) ⌝ }
-    ensures { λ r. ⌜ r ≡ min (a + 64) size ⌝ }
+// The value at each of `size` assignments, to the front of a buffer, one by one.
+fn fill_each(n: usize, size: usize, list: &[u8], out: &mut [u8])
+    requires { ⌜ All (Good n) (cubesOf (now list)) ⌝ }
+    requires { ⌜ (size ≡ 2 ^ n) × (size ≤ 4) ⌝ }
+    requires { ⌜ size ≤ length (now out) ⌝ }
+    ensures { λ _. ⌜ now (out .exit) ≡ truthVector n (cubesOf (now (list .entry))) ++ drop (2 ^ n) (now (out .entry)) ⌝ }
 {
-    if a + 64 < size {
-        return a + 64;
-    }
-    size
-}
-
-// The bits of a word, a byte each. The part is exactly as long as what is written, so that the loop needs no test of the place.
-fn put_bits(w: u64, part: &mut [u8])
-    requires { ⌜ length (now part) ≤ 64 ⌝ }
-    ensures { λ _. ⌜ now (part .exit) ≡ listBelow (length (now (part .entry))) (bit w) ⌝ }
-{
-    let mut j: usize = 0;
-    while j < part.len() {
-        part[j] = ((w >> j) % 2) as u8;
-        j += 1;
+    let mut a: usize = 0;
+    while a < size {
+        out[a] = (trues_at(n, list, a as u32) % 2) as u8;
+        a += 1;
     }
 }
 
-// The value at each of `size` assignments, to the front of a buffer, word by word.
+// The value at each of `size` assignments, to the front of a buffer. A product at four assignments costs less than its bits at 256.
 fn fill_vector(n: usize, size: usize, list: &[u8], out: &mut [u8])
     requires { ⌜ All (Good n) (cubesOf (now list)) ⌝ }
     requires { ⌜ (size ≡ 2 ^ n) × (n ≤ 8) ⌝ }
     requires { ⌜ size ≤ length (now out) ⌝ }
     ensures { λ _. ⌜ now (out .exit) ≡ truthVector n (cubesOf (now (list .entry))) ++ drop (2 ^ n) (now (out .entry)) ⌝ }
 {
-    let values = value_bits(list);
-    let mut i: usize = 0;
-    let mut a: usize = 0;
-    while a < size {
-        let end = word_end(a, size);
-        put_bits(values.word(i), &mut out[a..end]);
-        i += 1;
-        a = end;
+    if size <= 4 {
+        fill_each(n, size, list, out);
+        return;
     }
+    value_bits(list).put(&mut out[..size]);
 }
 
 // The truth vector of a list: refusals 1 to 4 and 5, or its length, written to the front of the buffer.

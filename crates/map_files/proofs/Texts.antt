@@ -1,56 +1,38 @@
--- A cube's line, character by character.
+-- A line that is read, byte by byte; and a cube's line: its text at the front of a buffer, and the newline after it.
 -- Assumes nothing.
-use mathlib.Core.Path.{_≡_, refl, sym, ap, _∙_}
+use mathlib.Core.Path.{_≡_, sym, _∙_}
 use mathlib.Core.List.{List, [], _∷_, _++_}
 use Prim.Native.Nat.{ℕ, _+_, _≤_, _<_}
-use native.Mathlib.Numerals.{add-one}
 use native.Mathlib.Omega.{arith}
-use lib.ListN.{length, take, set, length-set}
-use lib.Seq.{take-suc-set, length-take-le}
+use lib.ListN.{length, take, set, length-set, length-append}
+use lib.Seq.{length-take-le}
 use Rattle.io.specs.Counts.{Counts}
 use Rattle.cube.specs.declared.Cube.{Cube}
-use Rattle.cube.specs.Cubes.{code}
-use Rattle.map_files.specs.Writing.{glyph, glyphs, cubeText}
+use Rattle.text.specs.Places.{Laid}
+use Rattle.text.specs.Cubes.{cubeText}
+use Rattle.text.proofs.Laying.{after, kept, front-laid, length-cube, Front}
 
--- the codes of the first k variables stand at the front of a line that was `line₀`
-pub record Spelt (n : ℕ) (c : Cube) (line₀ line : List ℕ) (k : ℕ) : Type 0 where
-  pub upto : k ≤ n
-  pub room : n < length line
+-- a number of bytes at the front of a buffer
+pub counted : (k : ℕ) (l : List ℕ) → k ≤ length l → Counts k l
+counted k l h = (h, sym (length-take-le k l h))
+
+-- the first k bytes of a buffer are filled, and it has its length
+pub record Filled (line₀ line : List ℕ) (k : ℕ) : Type 0 where
+  pub upto : k ≤ length line
   pub same : length line ≡ length line₀
-  pub front : take k line ≡ glyphs k c
 
-pub none : (n : ℕ) (c : Cube) (line : List ℕ) → n < length line → Spelt n c line line 0
-unfolding glyphs
-none n c line h = record { upto = omega arith; room = h; same = refl; front = refl }
+pub filled-more : {line₀ line : List ℕ} {k : ℕ} (b : ℕ) → Filled line₀ line k → k < length line → Filled line₀ (set line k b) (k + 1)
+filled-more b f h = record { upto = simp length-set (omega arith); same = simp length-set (f .same) }
 
-module _ {n : ℕ} {c : Cube} {line₀ line : List ℕ} {k : ℕ} (s : Spelt n c line₀ line k) where
-  pub more : {x g : ℕ} → k < n → x ≡ code c k → g ≡ glyph x → Spelt n c line₀ (set line k g) (k + 1)
-  unfolding glyphs
-  more {x} {g} h e d =
-      record {
-        upto = omega arith;
-        room = simp length-set (s .room);
-        same = simp length-set (s .same);
-        front =
-            rw add-one
-            (take-suc-set line k g (omega (arith, s .room, h))
-            ∙ ap (λ (l : List ℕ). l ++ (g ∷ [])) (s .front)
-            ∙ ap (λ (y : ℕ). glyphs k c ++ (y ∷ [])) (d ∙ ap glyph e));
-      }
+module _ {n p r : ℕ} (c : Cube) {line line′ line″ : List ℕ} (f : Laid line 0 (cubeText n c) p line′) (g : Laid line′ p (10 ∷ []) r line″) (h : n < length line) where
+  laid-line : Front (cubeText n c ++ (10 ∷ [])) r line″
+  laid-line = front-laid (after f g) (omega (arith, length-append (cubeText n c) (10 ∷ []), length-cube n c))
 
-  pub ended : n ≤ k → take (n + 1) (set line n 10) ≡ cubeText n c
-  unfolding cubeText
-  ended h =
-      let e : k ≡ n = omega (arith, s .upto)
-      in
-      rw add-one
-      (take-suc-set line n 10 (s .room)
-      ∙ ap (λ (l : List ℕ). l ++ (10 ∷ [])) (rw e at (s .front)))
+  pub line-text : take r line″ ≡ cubeText n c ++ (10 ∷ [])
+  line-text = laid-line .text
 
-  pub counts : Counts (n + 1) (set line n 10)
-  counts =
-      let h : n + 1 ≤ length (set line n 10) = simp length-set (omega (arith, s .room))
-      in (h, sym (length-take-le (n + 1) (set line n 10) h))
+  pub line-counts : Counts r line″
+  line-counts = counted r line″ (laid-line .within)
 
-  pub kept : length (set line n 10) ≡ length line₀
-  kept = simp length-set (s .same)
+  pub line-kept : length line″ ≡ length line
+  line-kept = kept (after f g)

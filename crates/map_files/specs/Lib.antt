@@ -1,3 +1,2 @@
--- What the contracts of reading the line and of printing a cube cite. Assumes nothing.
+-- What the contract of reading the line cites. Assumes nothing.
 pub mod Reading
-pub mod Writing

@@ -2,15 +2,12 @@
 -- Assumes nothing.
 use mathlib.Core.Bool.{Bool, cond, _&&_}
 use mathlib.Core.List.{List, [], _∷_}
-use Prim.Native.Nat.{ℕ, _+_, _*_, _-_, _≤_}
+use Prim.Native.Nat.{ℕ, _+_, _*_, _-_}
 use lib.Dec.{leb}
 use Rattle.cube.specs.Lists.{mostVariables}
+use Rattle.text.specs.Numbers.{isDigit}
 use Rattle.map_files.specs.declared.line.Line.{Line}
 use Rattle.map_files.specs.declared.line.Line.the-variants.{Variables, Bad}
-
--- a byte that is a digit's character
-abbrev pub isDigit : ℕ → Bool
-isDigit b = leb 48 b && leb b 57
 
 -- "digits for a number from 0 to 16": that number, or a bad line
 abbrev pub numbered : Bool → ℕ → Line
@@ -22,8 +19,3 @@ lineOf [] = Bad
 lineOf (a ∷ []) = numbered (isDigit a) (a - 48)
 lineOf (a ∷ b ∷ []) = numbered (isDigit a && isDigit b) ((a - 48) * 10 + (b - 48))
 lineOf (a ∷ b ∷ c ∷ l) = Bad
-
--- a number of variables that a list can have
-abbrev pub Few : Line → Type 0
-Few (Variables n) = n ≤ mostVariables
-Few Bad = Unit {0}

@@ -1,8 +1,9 @@
 // The line of standard input that gives the number of variables.
+use text::number;
 ghost use mathlib.Core.Path.{_≡_};
-ghost use Prim.Native.Nat.{_-_};
 ghost use mathlib.Core.List.{[], _∷_};
-ghost use Rattle.map_files.specs.Reading.{isDigit, lineOf, Few};
+ghost use Rattle.io.specs.Counts.{Counts};
+ghost use Rattle.map_files.specs.Reading.{lineOf};
 
 // What the line says: a number of variables that a list can have, or nothing that is one.
 pub(crate) enum Line {
@@ -18,6 +19,12 @@ enum Next {
 
 const NEWLINE: u8 = 10;
 
+// The digits of a line that gives a number, at most.
+const MOST_DIGITS: usize = 2;
+
+// Bytes of the line that are read: one more than its digits, by which it is too long.
+pub(crate) const LINE_BYTES: usize = MOST_DIGITS + 1;
+
 fn next_byte() -> Next {
     let mut byte = [0u8; 1];
     let got = io::read_full(libc::STDIN_FILENO, &mut byte);
@@ -31,35 +38,17 @@ fn next_byte() -> Next {
     Next::Byte(b)
 }
 
-fn is_digit(b: u8) -> bool
-    ensures { λ r. ⌜ r ≡ isDigit b ⌝ }
-{
-    if b < b'0' {
-        return false;
-    }
-    b <= b'9'
-}
-
-fn number(b: u8) -> usize
-    ensures { λ r. ⌜ r ≡ b - 48 ⌝ }
-{
-    if b < b'0' {
-        return 0;
-    }
-    (b - b'0') as usize
-}
-
 // The line of two bytes.
 fn two(tens: u8, ones: u8) -> Line
     ensures { λ r. ⌜ r ≡ lineOf (tens ∷ ones ∷ []) ⌝ }
 {
-    if !is_digit(tens) {
+    if !number::is_digit(tens) {
         return Line::Bad;
     }
-    if !is_digit(ones) {
+    if !number::is_digit(ones) {
         return Line::Bad;
     }
-    let n = number(tens) * 10 + number(ones);
+    let n = number::digit(tens) * 10 + number::digit(ones);
     if cube::list::MOST_VARIABLES < n {
         return Line::Bad;
     }
@@ -73,18 +62,34 @@ fn one(digit: u8) -> Line
     two(b'0', digit)
 }
 
-// Reads the line, and nothing after it. A line of more than two bytes is bad at its third.
-pub(crate) fn read() -> Line
-    ensures { λ r. ⌜ Few r ⌝ }
+// What the bytes of a line say, its newline left out.
+pub(crate) fn line_of(line: &[u8]) -> Line
+    ensures { λ r. ⌜ r ≡ lineOf (now (line .entry)) ⌝ }
 {
-    match next_byte() {
-        Next::End => Line::Bad,
-        Next::Byte(a) => match next_byte() {
-            Next::End => one(a),
-            Next::Byte(b) => match next_byte() {
-                Next::End => two(a, b),
-                Next::Byte(_) => Line::Bad,
-            },
-        },
+    if line.len() == 1 {
+        return one(line[0]);
     }
+    if line.len() == MOST_DIGITS {
+        return two(line[0], line[1]);
+    }
+    Line::Bad
+}
+
+// Reads the line, and nothing after it, to the front of a buffer, as far as that goes. Answers how many bytes it has.
+pub(crate) fn read(line: &mut [u8]) -> usize
+    ensures { λ r. ⌜ Counts r (now (line .exit)) ⌝ }
+{
+    let mut k: usize = 0;
+    while k < line.len() {
+        match next_byte() {
+            Next::End => {
+                return k;
+            }
+            Next::Byte(b) => {
+                line[k] = b;
+            }
+        }
+        k += 1;
+    }
+    k
 }

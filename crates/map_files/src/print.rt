@@ -9,15 +9,19 @@ ghost use Prim.Native.Nat.{_≤_, _<_};
 ghost use lib.ListN.{length, take};
 ghost use Rattle.io.specs.Counts.{Counts};
 ghost use Rattle.cube.specs.Lists.{mostVariables};
-ghost use Rattle.map_files.specs.Writing.{glyph as Writing·glyph, cubeText};
+ghost use mathlib.Core.List.{[], _∷_, _++_};
+ghost use Rattle.text.specs.Cubes.{cubeText};
 
-fn text(t: &[u8]) {
+// A cube's characters and its newline.
+const LINE_BYTES: usize = cube::list::MOST_VARIABLES + 1;
+
+fn write(t: &[u8]) {
     io::write_all(STDOUT_FILENO, t);
 }
 
 // A word before a number, and the number.
 fn number(word: &[u8], x: usize) {
-    text(word);
+    write(word);
     io::print_decimal(STDOUT_FILENO, x as u64);
 }
 
@@ -26,13 +30,13 @@ fn widened(x: u8) -> usize {
 }
 
 pub(crate) fn no_file() {
-    text(b"no file\n");
+    write(b"no file\n");
 }
 
 pub(crate) fn refusal(r: Refusal) {
     number(b"refused ", widened(r.number));
     number(b" at ", r.place);
-    text(b"\n");
+    write(b"\n");
 }
 
 // The line of counts.
@@ -47,47 +51,29 @@ pub(crate) fn counts(s: Settlement) {
             number(b" ", size);
         }
         Fixed::Absent => {
-            text(b" fixed - -");
+            write(b" fixed - -");
         }
     }
     number(b" out ", s.burned);
-    text(b"\n");
+    write(b"\n");
 }
 
-// The character of a literal code.
-fn glyph(x: u8) -> u8
-    ensures { λ r. ⌜ r ≡ Writing·glyph x ⌝ }
-{
-    if x == 0 {
-        return b'0';
-    }
-    if x == 1 {
-        return b'1';
-    }
-    b'-'
-}
-
-// The cube's line to the front of a text, and how long it is.
+// A cube and its newline at the front of a line, which has room for them, and how long they are.
 fn spell(n: usize, c: Cube, line: &mut [u8]) -> usize
     requires { ⌜ (n ≤ mostVariables) × (n < length (now line)) ⌝ }
     ensures { λ r. ⌜ Counts r (now (line .exit)) ⌝ }
-    ensures { λ r. ⌜ take r (now (line .exit)) ≡ cubeText n c ⌝ }
+    ensures { λ r. ⌜ take r (now (line .exit)) ≡ cubeText n c ++ (10 ∷ []) ⌝ }
 {
-    let mut k: usize = 0;
-    while k < n {
-        line[k] = glyph(c.code_at(k as u32));
-        k += 1;
-    }
-    line[n] = b'\n';
-    n + 1
+    let end = text::cubes::put_cube(line, 0, n as u32, c);
+    text::place::put_byte(line, end, b'\n')
 }
 
 fn cube_line(n: usize, c: Cube)
     requires { ⌜ n ≤ mostVariables ⌝ }
 {
-    let mut line = [0u8; 17];
+    let mut line = [0u8; LINE_BYTES];
     let end = spell(n, c, &mut line);
-    text(&line[..end]);
+    write(&line[..end]);
 }
 
 // The first `count` cubes of a list.

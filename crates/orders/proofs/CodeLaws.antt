@@ -52,9 +52,9 @@ pub third-back : (x y : ℕ) → x < 3 → y < 3 → y ≢ x → third (third x 
 unfolding third
 third-back x y hx hy d = eqb-true _ _ (two-codes (λ x y. eqb (third (third x y) y) x) refl x y hx hy d)
 
-pub third-of-codes : (x y : ℕ) → x < 3 → y < 3 → thirdOf x y ≡ third x y
+pub third-of-codes : (x y : ℕ) → x < 3 → y < 3 → y ≢ x → thirdOf x y ≡ third x y
 unfolding third thirdOf
-third-of-codes x y hx hy = eqb-true _ _ (all-at₂ 3 3 (λ x y. eqb (thirdOf x y) (third x y)) refl x y hx hy)
+third-of-codes x y hx hy d = eqb-true _ _ (two-codes (λ x y. eqb (thirdOf x y) (third x y)) refl x y hx hy d)
 
 -- ---- the two codes of a split
 

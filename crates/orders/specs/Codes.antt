@@ -12,9 +12,13 @@ neither z x y = not (eqb z x) && not (eqb z y)
 unfoldable pub third : ℕ → ℕ → ℕ
 third x y = cond (neither 0 x y) 0 (cond (neither 1 x y) 1 2)
 
--- the same where both are codes, else 0
+-- how many codes there are
+abbrev pub codeCount : ℕ
+codeCount = 3
+
+-- the same where they are two different codes, else 0
 unfoldable pub thirdOf : ℕ → ℕ → ℕ
-thirdOf x y = cond (ltb x 3 && ltb y 3) (third x y) 0
+thirdOf x y = cond (ltb x codeCount && (ltb y codeCount && not (eqb y x))) (third x y) 0
 
 -- "of the two codes that i does not have at v, the lower stays at i, the higher is appended"
 abbrev pub lower : ℕ → ℕ

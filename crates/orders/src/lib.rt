@@ -3,9 +3,14 @@ ghost use mathlib.Core.Path.{_≡_};
 ghost use Rattle.orders.specs.Codes.{thirdOf};
 ghost use Rattle.orders.specs.Orders.{image, follow, inverse, letterOrder};
 
-// Row x, column y: the remaining one of the codes 0, 1, 2. Two bits an entry, from the lowest on; the rows are 1 2 1, 2 0 0 and 1 0 0. As one
-// number the table stays in the code, where an array would be laid out in memory at each call.
-const THIRD: u32 = 0b000001_000010_011001;
+// The codes 0, 1, 2, and the orders 0 to 5.
+const CODES: u8 = 3;
+
+const ORDERS: u8 = 6;
+
+// Row x, column y: the remaining one of the codes 0, 1, 2. Two bits an entry, from the lowest on; the rows are - 2 1, 2 - 0 and 1 0 -, with 0
+// where a code meets itself. As one number the table stays in the code, where an array would be laid out in memory at each call.
+const THIRD: u32 = 0b000001_000010_011000;
 
 // Row o: what the order o makes of 0, 1 and 2.
 const IMAGE: [[u8; 3]; 6] = [
@@ -30,14 +35,14 @@ const FOLLOW: [[u8; 6]; 6] = [
 // The order that takes each order back.
 const INVERSE: [u8; 6] = [0, 1, 2, 4, 3, 5];
 
-// The third of two different codes; 0 where one of them is no code.
+// The third of two different codes; 0 where they are equal, or one of them is no code.
 pub fn third(x: u8, y: u8) -> u8
     ensures { λ r. ⌜ r ≡ thirdOf x y ⌝ }
 {
-    if 3 <= x {
+    if CODES <= x {
         return 0;
     }
-    if 3 <= y {
+    if CODES <= y {
         return 0;
     }
     let row = 3 * (x as u32);
@@ -49,10 +54,10 @@ pub fn third(x: u8, y: u8) -> u8
 pub fn image(o: u8, x: u8) -> u8
     ensures { λ r. ⌜ r ≡ image o x ⌝ }
 {
-    if 6 <= o {
+    if ORDERS <= o {
         return 0;
     }
-    if 3 <= x {
+    if CODES <= x {
         return 0;
     }
     let row = o as usize;
@@ -64,10 +69,10 @@ pub fn image(o: u8, x: u8) -> u8
 pub fn follow(p: u8, q: u8) -> u8
     ensures { λ r. ⌜ r ≡ follow p q ⌝ }
 {
-    if 6 <= p {
+    if ORDERS <= p {
         return 0;
     }
-    if 6 <= q {
+    if ORDERS <= q {
         return 0;
     }
     let row = p as usize;
@@ -79,7 +84,7 @@ pub fn follow(p: u8, q: u8) -> u8
 pub fn inverse(o: u8) -> u8
     ensures { λ r. ⌜ r ≡ inverse o ⌝ }
 {
-    if 6 <= o {
+    if ORDERS <= o {
         return 0;
     }
     let at = o as usize;

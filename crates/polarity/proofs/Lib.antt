@@ -1,13 +1,9 @@
 pub mod Subsets
 pub mod Parities
-pub mod Passing
-pub mod Blocks
-pub mod Moving
-pub mod Checks
+pub mod Passes
 pub mod Listing
-pub mod Writing
-pub mod Flipping
-pub mod Choosing
 pub mod Theorems
 pub mod Uniqueness
+pub mod Checks
+pub mod Shown
 pub mod Determined

@@ -9,7 +9,7 @@ use native.Mathlib.Numerals.{add-one, one-add}
 use native.Mathlib.Omega.{arith}
 use lib.Bits.{bitAnd, bitXor, differ, and-le-l}
 use lib.Dec.{eqb, ltb}
-use lib.ListN.{length, drop}
+use lib.ListN.{length}
 use lib.Pow.{suc-ones}
 use borrow.Author.Tests.{eqb-true, ne-eqb}
 use Rattle.bits.specs.Bits.{bit, within}
@@ -18,12 +18,10 @@ use Rattle.bits.specs.Sums.{tally, oneIf, All}
 use Rattle.bits.proofs.Bools.{all-at₂, all-at₃, all-ext, beq-eq}
 use Rattle.bits.proofs.Bits.{bit-lt, bit-and, bit-xor, bit-high}
 use Rattle.bits.proofs.Below.{eqb-bits, sum-parts, sum-cong, sum-none}
-use Rattle.bits.proofs.Sums.{tally-on, tally-end}
 use Rattle.cube.specs.Cubes.{codeOf, code, met, holds, Good}
 use Rattle.cube.specs.Lists.{trues, listValue}
 use Rattle.polarity.specs.Forms.{parityWithin, valueBack, product, formFrom, countsOf}
-use Rattle.polarity.specs.Vectors.{byteAt}
-use Rattle.polarity.specs.Passes.{nonzero, countsFrom}
+use Rattle.polarity.specs.Words.{nonzero}
 
 -- ---- those of the numbers that pass a test, from the front
 
@@ -83,23 +81,10 @@ tally-those w h f (suc m) k =
 
 -- ---- how many products
 
-length-map : {A B : Type 0} (h : A → B) (l : List A) → length (map h l) ≡ length l
-length-map h [] = refl
-length-map h (x ∷ l) = ap suc (length-map h l)
-
-module _ (w : ℕ → Bool) (l : List ℕ) where
-  length-those : (m k : ℕ) → m + k ≡ length l → length (those (λ s. w (byteAt l s)) m k) ≡ tally w (drop k l)
-  unfolding those
-  length-those zero k e = sym (tally-end w 0 l k (omega arith))
-  length-those (suc m) k e =
-      let le : k < length l = omega arith in
-      step (w (byteAt l k)) (those (λ s. w (byteAt l s)) m (suc k))
-      ∙ ap (λ (x : ℕ). oneIf (w (byteAt l k)) + x) (length-those m (suc k) (omega arith) ∙ ap (λ (j : ℕ). tally w (drop j l)) (sym (add-one k)))
-      ∙ sym (tally-on w 0 l k le)
-    where
-      step : (b : Bool) (r : List ℕ) → length (cond b (k ∷ r) r) ≡ oneIf b + length r
-      step true r = omega arith
-      step false r = omega arith
+length-all : {A : Type 0} (l : List A) → length l ≡ tally (λ x. true) l
+unfolding tally
+length-all [] = refl
+length-all (x ∷ l) = ap suc (length-all l) ∙ sym (one-add (tally (λ y. true) l))
 
 -- no product but that of the empty set is without literals
 module _ (f : ℕ → Bool) (p m : ℕ) where
@@ -121,18 +106,35 @@ module _ (f : ℕ → Bool) (p m : ℕ) where
       at true e = rw e
       at false e = rw e
 
--- the counts of a form, from the bytes of its coefficients
-pub form-counts : (n p : ℕ) (l : List ℕ) → length l ≡ 2 ^ n → countsFrom l ≡ countsOf (formFrom n p (byteAt l))
-unfolding countsFrom countsOf formFrom
-form-counts n p l e = λ i. record { products = sym products-is i; constant = sym constant i }
+-- the counts of a form, from its coefficients
+pub form-length : (n p : ℕ) (c : ℕ → ℕ) → length (formFrom n p c) ≡ sumBelow (2 ^ n) (λ s. oneIf (nonzero (c s)))
+unfolding formFrom
+form-length n p c =
+    length-all (map (product p) (those (λ s. nonzero (c s)) (2 ^ n) 0))
+    ∙ tally-those (λ d. true) (product p) (λ s. nonzero (c s)) (2 ^ n) 0
+    ∙ sum-cong (2 ^ n) (λ t. cond (nonzero (c (0 + t))) 1 0) (λ s. oneIf (nonzero (c s))) (λ t b. ap (λ (x : ℕ). cond (nonzero (c x)) 1 0) (zero-add t) ∙ one (nonzero (c t)))
   where
-    products-is : length (map (product p) (those (λ s. nonzero (byteAt l s)) (2 ^ n) 0)) ≡ tally nonzero l
-    products-is = length-map (product p) (those (λ s. nonzero (byteAt l s)) (2 ^ n) 0) ∙ length-those nonzero l (2 ^ n) 0 (add-zero (2 ^ n) ∙ sym e)
+    one : (b : Bool) → cond b 1 0 ≡ oneIf b
+    one true = refl
+    one false = refl
 
-    constant : ltb 0 (tally (λ c. eqb (c .seen) 0) (map (product p) (those (λ s. nonzero (byteAt l s)) (2 ^ n) 0))) ≡ nonzero (byteAt l 0)
-    constant =
-        ap (λ (m : ℕ). ltb 0 (tally (λ c. eqb (c .seen) 0) (map (product p) (those (λ s. nonzero (byteAt l s)) m 0)))) (sym (suc-ones n))
-        ∙ constant-is (λ s. nonzero (byteAt l s)) p (2 ^ n - 1)
+module _ (n p : ℕ) (c : ℕ → ℕ) (bits : (s : ℕ) → c s < 2) where
+  form-products : length (formFrom n p c) ≡ sumBelow (2 ^ n) c
+  form-products = form-length n p c ∙ sum-cong (2 ^ n) (λ s. oneIf (nonzero (c s))) c (λ t b. one (c t) (bits t))
+    where
+      one : (x : ℕ) → x < 2 → oneIf (nonzero x) ≡ x
+      one zero h = refl
+      one (suc zero) h = refl
+      one (suc (suc x)) h = absurd (omega arith)
+
+  form-constant : ltb 0 (tally (λ d. eqb (d .seen) 0) (map (product p) (those (λ s. nonzero (c s)) (2 ^ n) 0))) ≡ nonzero (c 0)
+  form-constant =
+      ap (λ (m : ℕ). ltb 0 (tally (λ d. eqb (d .seen) 0) (map (product p) (those (λ s. nonzero (c s)) m 0)))) (sym (suc-ones n))
+      ∙ constant-is (λ s. nonzero (c s)) p (2 ^ n - 1)
+
+  pub form-counts : countsOf (formFrom n p c) ≡ record { products = sumBelow (2 ^ n) c; constant = nonzero (c 0) }
+  unfolding countsOf formFrom
+  form-counts = λ i. record { products = form-products i; constant = form-constant i }
 
 -- ---- the product of a set
 

@@ -8,9 +8,10 @@ use native.Mathlib.Nat.{zero-add, add-zero, pow-suc, mod-lt, zero-lt-suc, mod-mo
 use native.Mathlib.Omega.{arith}
 use Rattle.bits.specs.Bits.{within}
 use Rattle.bits.specs.Below.{sumBelow}
+use Rattle.bits.proofs.Bools.{below-or}
 use Rattle.bits.proofs.Below.{sum-cong, sum-parts, sum-plus, sum-parity, sum-none}
 use Rattle.polarity.specs.Forms.{parityWithin}
-use Rattle.polarity.proofs.Subsets.{below-or, within-low, within-top, within-none}
+use Rattle.polarity.proofs.Subsets.{within-low, within-top, within-none}
 
 pub pow-double : (n : ℕ) → 2 ^ suc n ≡ 2 ^ n + 2 ^ n
 pow-double n = omega (arith, pow-suc 2 n)
@@ -51,6 +52,15 @@ parity-top n f s hs =
     omega (arith, sum-double n (inside (2 ^ n + s) f), low, top)
 
 -- ---- congruence and linearity
+
+-- it looks at f within s only
+pub parity-inside : (n : ℕ) (f g : ℕ → ℕ) (s : ℕ) → ((t : ℕ) → within t s ≡ true → f t ≡ g t) → parityWithin n f s ≡ parityWithin n g s
+unfolding parityWithin
+parity-inside n f g s h = ap (λ (x : ℕ). x % 2) (sum-cong (2 ^ n) (inside s f) (inside s g) (λ t ht. at t (within t s) refl))
+  where
+    at : (t : ℕ) (b : Bool) → within t s ≡ b → cond b (f t) 0 ≡ cond b (g t) 0
+    at t true e = h t e
+    at t false e = refl
 
 pub parity-cong : (n : ℕ) (f g : ℕ → ℕ) (s : ℕ) → ((t : ℕ) → t < 2 ^ n → f t ≡ g t) → parityWithin n f s ≡ parityWithin n g s
 unfolding parityWithin

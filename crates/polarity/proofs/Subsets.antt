@@ -1,24 +1,16 @@
--- Sets as numbers: `within` at the top variable, EXOR twice, and EXOR of two bits.
+-- Sets as numbers: `within` at the top variable, and EXOR.
 -- Assumes nothing.
 use mathlib.Core.Path.{_≡_, refl, sym, ap, ap₂, _∙_}
-use mathlib.Core.Logic.{_⊎_, inl, inr}
 use mathlib.Core.Bool.{Bool, true, false}
-use Prim.Native.Nat.{ℕ, _+_, _*_, _%_, _^_, _<_, _≤_}
+use Prim.Native.Nat.{ℕ, _+_, _*_, _%_, _^_, _<_}
 use native.Mathlib.Nat.{zero-add, zero-mul, one-mul}
 use native.Mathlib.Omega.{arith}
-use lib.Dec.{eqb, ltb}
-use lib.Bits.{bitAnd, bitXor, differ, and-block, and-le-r}
-use borrow.Author.Tests.{eqb-true, eqb-false, eq-eqb, ne-eqb, ltb-true, ltb-false}
+use lib.Dec.{eqb}
+use lib.Bits.{bitAnd, bitXor, differ, and-block, and-le-r, xor-comm, xor-self, xor-zero-r}
+use borrow.Author.Tests.{eqb-true, eqb-false, eq-eqb, ne-eqb}
 use Rattle.bits.specs.Bits.{bit, within}
-use Rattle.bits.proofs.Bools.{all-at₂}
+use Rattle.bits.proofs.Bools.{all-at₂, all-at₃}
 use Rattle.bits.proofs.Bits.{bit-lt, bit-ext, bit-xor}
-
-pub below-or : (a m : ℕ) → (a < m) ⊎ (m ≤ a)
-below-or a m = go (ltb a m) refl
-  where
-    go : (b : Bool) → ltb a m ≡ b → (a < m) ⊎ (m ≤ a)
-    go true e = inl (ltb-true a m e)
-    go false e = inr (ltb-false a m e)
 
 -- ---- within, at the top variable
 
@@ -50,12 +42,18 @@ module _ (k t s : ℕ) where
 
 -- ---- EXOR
 
+pub xor-assoc : (t a b : ℕ) → bitXor t (bitXor a b) ≡ bitXor (bitXor t a) b
+xor-assoc t a b = bit-ext (bitXor t (bitXor a b)) (bitXor (bitXor t a) b) (λ j.
+    bit-xor t (bitXor a b) j ∙ ap (differ (bit t j)) (bit-xor a b j)
+    ∙ eqb-true _ _ (all-at₃ 2 2 2 (λ x y z. eqb (differ x (differ y z)) (differ (differ x y) z)) refl (bit t j) (bit a j) (bit b j) (bit-lt t j) (bit-lt a j) (bit-lt b j))
+    ∙ sym (bit-xor (bitXor t a) b j ∙ ap (λ (x : ℕ). differ x (bit b j)) (bit-xor t a j)))
+
+pub xor-swap : (t a b : ℕ) → bitXor (bitXor t a) b ≡ bitXor (bitXor t b) a
+xor-swap t a b = sym (xor-assoc t a b) ∙ ap (bitXor t) (xor-comm a b) ∙ xor-assoc t b a
+
 -- with p, twice
 pub xor-twice : (p a : ℕ) → bitXor (bitXor a p) p ≡ a
-xor-twice p a =
-    bit-ext (bitXor (bitXor a p) p) a (λ k.
-    bit-xor (bitXor a p) p k ∙ ap (λ (x : ℕ). differ x (bit p k)) (bit-xor a p k)
-    ∙ eqb-true _ _ (all-at₂ 2 2 (λ x y. eqb (differ (differ x y) y) x) refl (bit a k) (bit p k) (bit-lt a k) (bit-lt p k)))
+xor-twice p a = sym (xor-assoc a p p) ∙ ap (bitXor a) (xor-self p) ∙ xor-zero-r a
 
 -- of two bits it is the parity of their sum
 pub xor-parity : (x y : ℕ) → x < 2 → y < 2 → bitXor x y ≡ (x + y) % 2

@@ -9,16 +9,16 @@ use native.Mathlib.Omega.{arith}
 use lib.Bits.{bitXor, xor-lt, xor-zero-r}
 use lib.Pow.{suc-ones, pow-pos}
 use Rattle.bits.specs.Bits.{bit}
-use Rattle.bits.specs.Below.{leastBelow}
+use Rattle.bits.specs.Below.{leastBelow, Least}
 use Rattle.bits.specs.Sums.{All}
 use Rattle.bits.proofs.Bits.{bit-lt, bit-high}
 use Rattle.bits.proofs.Below.{getD-listBelow, is-listBelow}
-use Rattle.bits.proofs.Least.{Least, least-is}
+use Rattle.bits.proofs.Least.{least-is}
 use Rattle.cube.specs.Cubes.{codeOf, code, Good}
 use Rattle.cube.specs.Lists.{listValue, truthVector}
 use Rattle.polarity.specs.Forms.{parityWithin, coefficient, valueBack, product, formFrom, formList, size, countsOf, rank, bestPolarity}
 use Rattle.polarity.specs.Vectors.{byteAt, Vector, coefficientVector, vectorBack}
-use Rattle.polarity.specs.Passes.{nonzero}
+use Rattle.polarity.specs.Words.{nonzero}
 use Rattle.polarity.proofs.Subsets.{xor-twice}
 use Rattle.polarity.proofs.Parities.{parity-cong, parity-lt, parity-twice}
 use Rattle.polarity.proofs.Listing.{all-those, product-code, form-value, form-good, form-cong}
@@ -103,6 +103,7 @@ module _ (n : ℕ) (f : ℕ → ℕ) where
   pub positive-form : ((t : ℕ) → f t < 2) → (a : ℕ) → a < 2 ^ n → f a ≡ parityWithin n (parityWithin n f) a
   positive-form bits a b = sym (parity-twice n f a b ∙ mod-eq-of-lt (bits a))
 
+  -- Promised: a coefficient of the positive form is the parity within its set.
   pub positive-coefficient : (s : ℕ) → coefficient n 0 f s ≡ parityWithin n f s
   positive-coefficient s = parity-cong n (λ t. f (bitXor t 0)) f s (λ t b. ap f (xor-zero-r t))
 

@@ -1,10 +1,10 @@
--- Under a polarity, a function has one form and no other: 001, property 2, for lists of cubes.
+-- Under a polarity, a function has one form and no other: 001, property 2, for any list that is a form (`Form`, specs/Forms.antt).
 -- Assumes nothing.
 use mathlib.Core.Path.{_≡_, refl, sym, ap, ap₂, _∙_, subst}
 use mathlib.Core.Logic.{_≢_}
 use mathlib.Core.Bool.{Bool, true, false, cond, _||_}
 use mathlib.Core.List.{List, [], _∷_, map}
-use Prim.Native.Nat.{ℕ, zero, suc, _+_, _-_, _^_, _≤_, _<_}
+use Prim.Native.Nat.{ℕ, zero, suc, _+_, _-_, _^_, _<_}
 use native.Mathlib.Decide.{ℕ-discrete}
 use native.Mathlib.Nat.{le-refl}
 use native.Mathlib.Omega.{arith}
@@ -21,25 +21,10 @@ use Rattle.cube.specs.declared.Cube.{Cube}
 use Rattle.cube.specs.Cubes.{codeOf, code, Good}
 use Rattle.cube.specs.Lists.{listValue}
 use Rattle.cube.proofs.Codes.{code-absent, code-present, cube-ext, good-seen}
-use Rattle.polarity.specs.Forms.{coefficient, product, formFrom, formList}
-use Rattle.polarity.specs.Passes.{nonzero}
+use Rattle.polarity.specs.Forms.{coefficient, product, formFrom, formList, Ascending, variables, Form}
+use Rattle.polarity.specs.Words.{nonzero}
 use Rattle.polarity.proofs.Listing.{those-same, product-code, product-good, form-good}
 use Rattle.polarity.proofs.Theorems.{literal-of-polarity-missing, form-unique}
-
--- the numbers from k on, ascending
-abbrev pub Ascending : ℕ → List ℕ → Type 0
-Ascending k [] = Unit {0}
-Ascending k (x ∷ l) = (k ≤ x) × Ascending (suc x) l
-
--- a cube's set of variables
-abbrev pub variables : Cube → ℕ
-variables c = c .seen
-
--- a form under p: products of n variables without the literals that p forbids (001, definition 3), each set of variables once, ascending
-pub record Form (n p : ℕ) (l : List Cube) : Type 0 where
-  pub good : All (Good n) l
-  pub literals : All (λ c. (k : ℕ) → code c k ≢ bit p k) l
-  pub ascending : Ascending 0 (map variables l)
 
 -- ---- a product is its set of variables
 
@@ -140,7 +125,7 @@ variables-of : (p : ℕ) (l : List ℕ) → map variables (map (product p) l) �
 variables-of p [] = refl
 variables-of p (s ∷ l) = ap (λ (m : List ℕ). s ∷ m) (variables-of p l)
 
--- The form of a function is a form under its polarity ..
+-- Promised. The form of a function is a form under its polarity ..
 pub form-is-form : (n p : ℕ) (f : ℕ → ℕ) → Form n p (formList n p f)
 unfolding formFrom
 form-is-form n p f = record {
@@ -167,7 +152,7 @@ module _ (n p : ℕ) (l : List Cube) (F : Form n p l) where
       ∙ ap (map (product p)) (sym (those-cong (λ s. nonzero (oneIf (has s (map variables l)))) (λ s. has s (map variables l)) (λ s. nonzero-one (has s (map variables l))) (2 ^ n) 0
       ∙ those-has (2 ^ n) 0 (map variables l) (F .ascending) (below l (F .good))))
 
-  -- .. and every form under that polarity that has the function's values is that list.
+  -- .. and, promised as 001's property 2, every form under that polarity that has the function's values is that list.
   pub form-is-only : p < 2 ^ n → (f : ℕ → ℕ) → ((a : ℕ) → a < 2 ^ n → listValue n l a ≡ f a) → l ≡ formList n p f
   form-is-only h f same =
       form-from

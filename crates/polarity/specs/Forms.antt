@@ -1,15 +1,17 @@
 -- Fixed-polarity forms of a function f of the assignments of n variables. Document 01, "Fixed polarity"; 001, definition 3; 002, lemma 2.2.
 -- Assumes nothing.
 use mathlib.Core.Bool.{not, cond}
-use mathlib.Core.List.{List, map}
-use Prim.Native.Nat.{ℕ, _%_, _^_}
+use mathlib.Core.Logic.{_≢_}
+use mathlib.Core.List.{List, [], _∷_, map}
+use Prim.Native.Nat.{ℕ, suc, _%_, _^_, _≤_}
 use lib.Bits.{bitAnd, bitXor}
 use lib.Dec.{eqb, ltb}
 use lib.ListN.{length}
-use Rattle.bits.specs.Bits.{within}
+use Rattle.bits.specs.Bits.{bit, within}
 use Rattle.bits.specs.Below.{sumBelow, those, leastBelow}
-use Rattle.bits.specs.Sums.{tally}
+use Rattle.bits.specs.Sums.{tally, All}
 use Rattle.cube.specs.declared.Cube.{Cube}
+use Rattle.cube.specs.Cubes.{code, Good}
 use Rattle.polarity.specs.declared.Counts.{Counts}
 
 -- ---- coefficients
@@ -44,13 +46,32 @@ formList n p f = formFrom n p (coefficient n p f)
 abbrev pub size : ℕ → ℕ → (ℕ → ℕ) → ℕ
 size n p f = length (formList n p f)
 
+-- ---- any form
+
+-- the numbers from k on, ascending
+abbrev pub Ascending : ℕ → List ℕ → Type 0
+Ascending k [] = Unit {0}
+Ascending k (x ∷ l) = (k ≤ x) × Ascending (suc x) l
+
+-- a cube's set of variables
+abbrev pub variables : Cube → ℕ
+variables c = c .seen
+
+-- Any list that is a form under p, however it was made. 001, definition 3, of the case in which each term is a product (fan-in 1): good cubes, "the literal
+-- whose code is the vector's entry does not appear" in any, and each set of variables at most once, "s ascending". 001, property 2, says that a function has
+-- one such form.
+pub record Form (n p : ℕ) (l : List Cube) : Type 0 where
+  pub good : All (Good n) l
+  pub literals : All (λ c. (k : ℕ) → code c k ≢ bit p k) l
+  pub ascending : Ascending 0 (map variables l)
+
 -- ---- the choice
 
 -- how many products a list has, and whether one of them has no literal
 unfoldable pub countsOf : List Cube → Counts
 countsOf l = record { products = length l; constant = ltb 0 (tally (λ c. eqb (c .seen) 0) l) }
 
--- what every choice goes by, of polarities and of candidates: the number of products
+-- what every choice goes by, here of polarities and in `settling` of candidates: the number of products
 abbrev pub rankOf : Counts → ℕ
 rankOf c = c .products
 

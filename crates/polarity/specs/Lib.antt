@@ -1,5 +1,4 @@
 pub mod Forms
 pub mod Vectors
 pub mod Calls
-pub mod Passes
-pub mod Search
+pub mod Words

@@ -1,22 +1,24 @@
-// The list of a form from its coefficients, and the rank that every choice goes by.
+// The list of a form from its coefficients, its counts, and the rank that choices go by.
 use crate::Counts;
 use crate::vector;
+use bits::packed::Packed;
 use cube::Cube;
 use cube::list;
 use records::Counted;
 use records::Refusal;
 ghost use mathlib.Core.Path.{_≡_};
-ghost use Prim.Native.Nat.{_<_, _^_};
 ghost use lib.ListN.{length};
+ghost use Rattle.bits.specs.Below.{sumBelow};
+ghost use Rattle.bits.specs.Sums.{oneIf};
 ghost use Rattle.records.specs.Answers.{counted};
 ghost use Rattle.records.specs.Records.{written};
 ghost use Rattle.cube.specs.Lists.{cubes};
 ghost use Rattle.polarity.specs.Forms.{product, formFrom, rankOf};
 ghost use Rattle.polarity.specs.Vectors.{byteAt, Vector};
 ghost use Rattle.polarity.specs.Calls.{formOutcome, formAfter};
-ghost use Rattle.polarity.specs.Passes.{countsFrom};
+ghost use Rattle.polarity.specs.Words.{nonzero, countsIn};
 
-// What every choice goes by, of polarities and of candidates: the fewest products.
+// What every choice goes by, here of polarities and in `settling` of candidates: the fewest products.
 pub fn rank(counts: Counts) -> usize
     ensures { λ r. ⌜ r ≡ rankOf counts ⌝ }
 {
@@ -24,9 +26,18 @@ pub fn rank(counts: Counts) -> usize
 }
 
 // The products of the form with these coefficients, and whether the one without literals is among them.
-pub(crate) fn count_products(coefficients: &[u8]) -> Counts
-    requires { ⌜ 0 < length (now coefficients) ⌝ }
-    ensures { λ r. ⌜ r ≡ countsFrom (now (coefficients .entry)) ⌝ }
+pub(crate) fn counts_of(w: Packed) -> Counts
+    ensures { λ r. ⌜ r ≡ countsIn w ⌝ }
+{
+    Counts {
+        products: w.ones() as usize,
+        constant: w.a % 2 != 0,
+    }
+}
+
+// How many of the coefficients have a product. Bytes that are only counted are not worth packing.
+fn count_products(coefficients: &[u8]) -> usize
+    ensures { λ r. ⌜ r ≡ sumBelow (length (now (coefficients .entry))) (λ s. oneIf (nonzero (byteAt (now (coefficients .entry)) s))) ⌝ }
 {
     let mut products: usize = 0;
     let mut i: usize = 0;
@@ -34,10 +45,7 @@ pub(crate) fn count_products(coefficients: &[u8]) -> Counts
         products += (coefficients[i] != 0) as usize;
         i += 1;
     }
-    Counts {
-        products,
-        constant: coefficients[0] != 0,
-    }
+    products
 }
 
 // The product of the variable set s under p: each variable of s, complemented where p has it.
@@ -77,7 +85,7 @@ pub fn write_form(n: usize, coefficients: &[u8], p: u64, out: &mut [u8]) -> Coun
             if m as u64 <= p {
                 return Counted::Refused(Refusal::new(15, 0));
             }
-            let count = count_products(coefficients).products;
+            let count = count_products(coefficients);
             if list::capacity(out.len()) < count {
                 return Counted::Refused(Refusal::new(5, 0));
             }

@@ -1,109 +1,69 @@
-// The coefficients of a vector under a polarity, and back. The transform knows no polarity: a polarity only moves the bytes, before it or after.
+// The coefficients of a vector under a polarity, and back, on the bits of four words. Both kinds of pass are their own inverse.
 use crate::vector;
+use bits::packed::Packed;
 use records::Counted;
 use records::Refusal;
 ghost use mathlib.Core.Path.{_≡_};
-ghost use Prim.Native.Nat.{ℕ, suc, _+_, _^_, _≤_, _<_, _∣_};
-ghost use lib.ListN.{length};
-ghost use lib.Bits.{bitXor};
+ghost use mathlib.Core.List.{_++_};
+ghost use Prim.Native.Nat.{_^_, _≤_, _<_};
+ghost use lib.ListN.{length, drop};
 ghost use Rattle.bits.specs.Below.{listBelow};
-ghost use Rattle.records.specs.Answers.{counted};
-ghost use Rattle.polarity.specs.Vectors.{byteAt, Vector, coefficientVector, vectorBack};
+ghost use Rattle.bits.specs.Packed.{raised};
+ghost use Rattle.records.specs.Answers.{counted, afterCall};
+ghost use Rattle.polarity.specs.Vectors.{byteAt, Vector};
 ghost use Rattle.polarity.specs.Calls.{coefficientsOutcome, coefficientsAfter, backAfter};
-ghost use Rattle.bits.specs.Packed.{added};
-ghost use Rattle.polarity.specs.Passes.{Ready, addedBlock, parities, moved, exchanged};
+ghost use Rattle.polarity.specs.Words.{Shows, passed, turned, transformed};
 
-// To each byte of the upper half of the block of 2h bytes at `from`, the byte h before it is added, modulo 2.
-fn add_block(v: &mut [u8], from: usize, h: usize)
-    requires { ⌜ from + h + h ≤ length (now v) ⌝ }
-    ensures { λ _. ⌜ now (v .exit) ≡ listBelow (length (now (v .entry))) (addedBlock from h (byteAt (now (v .entry)))) ⌝ }
+// The pass up of each variable below n: from a vector, its positive coefficients.
+pub(crate) fn raised_below(n: usize, w: Packed) -> Packed
+    ensures { λ r. ⌜ r ≡ passed raised n w ⌝ }
 {
-    let mut t: usize = 0;
-    while t < h {
-        let low = from + t;
-        let high = low + h;
-        v[high] = v[high] ^ v[low];
-        t += 1;
-    }
-}
-
-// To each byte whose index has variable k, the byte at the index without it is added, modulo 2. These are the upper halves of the blocks of 2^(k+1) bytes.
-fn add_without(v: &mut [u8], k: usize)
-    requires { ⌜ (k < 64) × (2 ^ suc k ∣ length (now v)) ⌝ }
-    ensures { λ _. ⌜ now (v .exit) ≡ listBelow (length (now (v .entry))) (added k (byteAt (now (v .entry)))) ⌝ }
-{
-    let h: usize = 1 << k;
-    let mut from: usize = 0;
-    while from + h < v.len() {
-        add_block(v, from, h);
-        from = from + h + h;
-    }
-}
-
-// The parity over all sets within each set, in place, one variable after the other. It is its own inverse.
-fn transform(n: usize, v: &mut [u8])
-    requires { ⌜ Vector n (now v) ⌝ }
-    ensures { λ _. ⌜ now (v .exit) ≡ parities n (now (v .entry)) ⌝ }
-{
+    let mut bits = w;
     let mut k: usize = 0;
     while k < n {
-        add_without(v, k);
+        let next = bits.raised(k);
+        bits = next;
         k += 1;
     }
+    bits
 }
 
-// The bytes of a vector at t EXOR p, for each t.
-fn copy_moved(out: &mut [u8], bytes: &[u8], p: usize)
-    requires { ⌜ ((t : ℕ) → t < length (now out) → bitXor t p < length (now bytes)) ⌝ }
-    ensures { λ _. ⌜ now (out .exit) ≡ listBelow (length (now (out .entry))) (λ t. byteAt (now (bytes .entry)) (bitXor t p)) ⌝ }
+// The pass down of variable k, where p has it.
+fn turned_at(p: usize, k: usize, w: Packed) -> Packed
+    requires { ⌜ k < 64 ⌝ }
+    ensures { λ r. ⌜ r ≡ turned p k w ⌝ }
 {
-    let mut t: usize = 0;
-    while t < out.len() {
-        out[t] = bytes[t ^ p];
-        t += 1;
+    if (p >> k) % 2 == 0 {
+        return w;
     }
+    w.lowered(k)
 }
 
-// The bytes at t and u exchanged, where t is the lower.
-fn exchange(v: &mut [u8], t: usize, u: usize)
-    requires { ⌜ (t < length (now v)) × (u < length (now v)) ⌝ }
-    ensures { λ _. ⌜ now (v .exit) ≡ exchanged (now (v .entry)) t u ⌝ }
+// The pass down of each variable of p: from the coefficients under any polarity, those with p's variables turned in it.
+fn turned_by(n: usize, p: usize, w: Packed) -> Packed
+    requires { ⌜ n ≤ 64 ⌝ }
+    ensures { λ r. ⌜ r ≡ passed (turned p) n w ⌝ }
 {
-    if t < u {
-        let x = v[t];
-        v[t] = v[u];
-        v[u] = x;
+    let mut bits = w;
+    let mut k: usize = 0;
+    while k < n {
+        let next = turned_at(p, k, bits);
+        bits = next;
+        k += 1;
     }
+    bits
 }
 
-// The same move in place, pair by pair.
-fn move_by(v: &mut [u8], p: usize)
-    requires { ⌜ ((t : ℕ) → t < length (now v) → bitXor t p < length (now v)) ⌝ }
-    ensures { λ _. ⌜ now (v .exit) ≡ moved p (now (v .entry)) ⌝ }
+// The bits of the coefficients of a vector under p; or, back, of the vector of such coefficients.
+fn transformed_bits(back: bool, n: usize, bytes: &[u8], p: usize) -> Packed
+    requires { ⌜ Vector n (now bytes) × (p < 2 ^ n) ⌝ }
+    ensures { λ r. ⌜ Shows n (transformed back n p (byteAt (now (bytes .entry)))) r ⌝ }
 {
-    let mut t: usize = 0;
-    while t < v.len() {
-        exchange(v, t, t ^ p);
-        t += 1;
+    let w = Packed::of(bytes);
+    if back {
+        return raised_below(n, turned_by(n, p, w));
     }
-}
-
-// The coefficients under p of a vector, into a buffer as long.
-pub(crate) fn put_coefficients(n: usize, bytes: &[u8], p: usize, out: &mut [u8])
-    requires { ⌜ Ready n (now bytes) p (now out) ⌝ }
-    ensures { λ _. ⌜ now (out .exit) ≡ coefficientVector n p (now (bytes .entry)) ⌝ }
-{
-    copy_moved(out, bytes, p);
-    transform(n, out);
-}
-
-// The vector of coefficients under p, into a buffer as long: the transform once more, and then the move.
-fn put_vector(n: usize, bytes: &[u8], p: usize, out: &mut [u8])
-    requires { ⌜ Ready n (now bytes) p (now out) ⌝ }
-    ensures { λ _. ⌜ now (out .exit) ≡ vectorBack n p (now (bytes .entry)) ⌝ }
-{
-    put_coefficients(n, bytes, 0, out);
-    move_by(out, p);
+    turned_by(n, p, raised_below(n, w))
 }
 
 // Refusals 1, 14, 15 and 5 of a vector, a polarity and a buffer of so many bytes, or the vector's length.
@@ -124,18 +84,27 @@ fn check_room(n: usize, bytes: &[u8], p: u64, room: usize) -> Counted
     }
 }
 
+// Either call: the bytes go to the front of the buffer where every test passes.
+fn transform(back: bool, n: usize, bytes: &[u8], p: u64, out: &mut [u8]) -> Counted
+    ensures { λ r. ⌜ counted r ≡ coefficientsOutcome n (now (bytes .entry)) p (length (now (out .entry))) ⌝ }
+    ensures { λ _. ⌜ now (out .exit) ≡ afterCall (coefficientsOutcome n (now (bytes .entry)) p (length (now (out .entry)))) (listBelow (2 ^ n) (transformed back n p (byteAt (now (bytes .entry)))) ++ drop (2 ^ n) (now (out .entry))) (now (out .entry)) ⌝ }
+{
+    match check_room(n, bytes, p, out.len()) {
+        Counted::Refused(r) => Counted::Refused(r),
+        Counted::Count(m) => {
+            let bits = transformed_bits(back, n, bytes, p as usize);
+            bits.put(&mut out[..m]);
+            Counted::Count(m)
+        }
+    }
+}
+
 // The coefficients of a truth vector under a polarity.
 pub fn coefficients(n: usize, vector: &[u8], p: u64, out: &mut [u8]) -> Counted
     ensures { λ r. ⌜ counted r ≡ coefficientsOutcome n (now (vector .entry)) p (length (now (out .entry))) ⌝ }
     ensures { λ _. ⌜ now (out .exit) ≡ coefficientsAfter n (now (vector .entry)) p (now (out .entry)) ⌝ }
 {
-    match check_room(n, vector, p, out.len()) {
-        Counted::Refused(r) => Counted::Refused(r),
-        Counted::Count(m) => {
-            put_coefficients(n, vector, p as usize, &mut out[..m]);
-            Counted::Count(m)
-        }
-    }
+    transform(false, n, vector, p, out)
 }
 
 // The truth vector of coefficients under a polarity.
@@ -143,11 +112,5 @@ pub fn vector_back(n: usize, coefficients: &[u8], p: u64, out: &mut [u8]) -> Cou
     ensures { λ r. ⌜ counted r ≡ coefficientsOutcome n (now (coefficients .entry)) p (length (now (out .entry))) ⌝ }
     ensures { λ _. ⌜ now (out .exit) ≡ backAfter n (now (coefficients .entry)) p (now (out .entry)) ⌝ }
 {
-    match check_room(n, coefficients, p, out.len()) {
-        Counted::Refused(r) => Counted::Refused(r),
-        Counted::Count(m) => {
-            put_vector(n, coefficients, p as usize, &mut out[..m]);
-            Counted::Count(m)
-        }
-    }
+    transform(true, n, coefficients, p, out)
 }

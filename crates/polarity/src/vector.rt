@@ -6,9 +6,6 @@ ghost use Rattle.bits.specs.Sums.{firstBad};
 ghost use Rattle.records.specs.Answers.{counted};
 ghost use Rattle.polarity.specs.Vectors.{isBit, checkVector};
 
-// Variables of a vector, at most.
-pub const MOST_VARIABLES: usize = 8;
-
 // The lowest byte above 1, or the length.
 fn first_bad(bytes: &[u8]) -> usize
     ensures { λ r. ⌜ r ≡ firstBad isBit (now (bytes .entry)) ⌝ }
@@ -30,7 +27,7 @@ fn first_bad(bytes: &[u8]) -> usize
 pub fn check_vector(n: usize, bytes: &[u8]) -> Counted
     ensures { λ r. ⌜ counted r ≡ checkVector n (now (bytes .entry)) ⌝ }
 {
-    if MOST_VARIABLES < n {
+    if cube::value::VECTOR_VARIABLES < n {
         return Counted::Refused(Refusal::new(1, 0));
     }
     let m: usize = 1 << n;

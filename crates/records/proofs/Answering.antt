@@ -9,7 +9,7 @@ use lib.Dec.{eqb}
 use lib.ListN.{length, getD}
 use borrow.Author.Tests.{eqb-true, eq-eqb, ne-eqb}
 use Rattle.bits.specs.Sums.{All, firstBad}
-use Rattle.bits.proofs.Sums.{first-none}
+use Rattle.bits.proofs.Sums.{first-none, none-first}
 use Rattle.records.specs.declared.Refusal.{Refusal}
 use Rattle.records.specs.declared.Counted.{Counted}
 use Rattle.records.specs.declared.Counted.the-variants as counted-is
@@ -25,6 +25,13 @@ accepted-values e = cc
 pub refused-same : {r s : Refusal} → refused r ≡ refused s → r ≡ s
 refused-same e = cc
 
+-- a chain at a test that passes, and at one that fails
+pub unless-passes : (t : Bool) (number place : ℕ) (o : Outcome) → t ≡ true → unless t number place o ≡ o
+unless-passes t number place o e = ap (λ (b : Bool). unless b number place o) e
+
+pub unless-fails : (t : Bool) (number place : ℕ) (o : Outcome) → t ≡ false → unless t number place o ≡ refused (refusal number place)
+unless-fails t number place o e = ap (λ (b : Bool). unless b number place o) e
+
 -- a test of an accepted chain passed, and what came after it was accepted
 pub unless-accepted : (t : Bool) (number place : ℕ) (o : Outcome) (v : List ℕ) → unless t number place o ≡ accepted v → (t ≡ true) × (o ≡ accepted v)
 unless-accepted true number place o v e = (refl, e)
@@ -37,15 +44,19 @@ unless-at-accepted test number l o v e =
     let p = unless-accepted (eqb (firstBad test l) (length l)) number (firstBad test l) o v e in
     (first-none test l (eqb-true _ _ (p .0)), p .1)
 
+-- where every element passes, so does the test
+pub unless-at-passes : {A : Type 0} (test : A → Bool) (number : ℕ) (l : List A) (o : Outcome) → All (λ x. test x ≡ true) l → unlessAt test number l o ≡ o
+unless-at-passes test number l o a = unless-passes _ number (firstBad test l) o (eq-eqb _ _ (none-first test l a))
+
 -- the place that a search found: an element that fails, or the length
 module _ {A : Type 0} (test : A → Bool) (number : ℕ) (l : List A) (o : Outcome) (bad : ℕ) (is : bad ≡ firstBad test l) where
   pub unless-at-refused : (bad ≡ length l → ⊥) → refused (refusal number bad) ≡ unlessAt test number l o
   unless-at-refused h =
       ap (λ (p : ℕ). refused (refusal number p)) is
-      ∙ sym (ap (λ (t : Bool). unless t number (firstBad test l) o) (ne-eqb _ _ (λ q. h (is ∙ q))))
+      ∙ sym (unless-fails _ number (firstBad test l) o (ne-eqb _ _ (λ q. h (is ∙ q))))
 
   pub unless-at-passed : bad ≡ length l → o ≡ unlessAt test number l o
-  unless-at-passed h = sym (ap (λ (t : Bool). unless t number (firstBad test l) o) (eq-eqb _ _ (sym is ∙ h)))
+  unless-at-passed h = sym (unless-passes _ number (firstBad test l) o (eq-eqb _ _ (sym is ∙ h)))
 
 -- an accepted call that tested something else first
 pub record Both (o rest : Outcome) (v : List ℕ) : Type 0 where

@@ -11,12 +11,14 @@ use Rattle.records.proofs.clear.Kinds as clear-kinds
 use Rattle.records.proofs.clear.Reads as clear-reads
 use Rattle.records.proofs.fill.Kinds as fill-kinds
 use Rattle.records.proofs.fill.Reads as fill-reads
-use Rattle.records.proofs.words.word.Kinds as word-kinds
-use Rattle.records.proofs.words.word.Reads as word-reads
-use Rattle.records.proofs.words.low.Kinds as low-kinds
-use Rattle.records.proofs.words.low.Reads as low-reads
-use Rattle.records.proofs.words.high.Kinds as high-kinds
-use Rattle.records.proofs.words.high.Reads as high-reads
+use Rattle.records.proofs.numbers.number2_at.Kinds as number2-at-kinds
+use Rattle.records.proofs.numbers.number2_at.Reads as number2-at-reads
+use Rattle.records.proofs.numbers.number4_at.Kinds as number4-at-kinds
+use Rattle.records.proofs.numbers.number4_at.Reads as number4-at-reads
+use Rattle.records.proofs.numbers.put_number2.Kinds as put-number2-kinds
+use Rattle.records.proofs.numbers.put_number2.Reads as put-number2-reads
+use Rattle.records.proofs.numbers.put_number4.Kinds as put-number4-kinds
+use Rattle.records.proofs.numbers.put_number4.Reads as put-number4-reads
 
 pub new-determined : Determined 0 new-kinds.ps new-kinds.r new-reads.Learnt
 new-determined κs a z z′ ws ws′ p q = (same p q, refl)
@@ -27,11 +29,14 @@ clear-determined κs a z z′ ws ws′ p q = (refl, ap (λ (b : List ℕ). (b, t
 pub fill-determined : Determined 2 fill-kinds.ps fill-kinds.r fill-reads.Learnt
 fill-determined κs a z z′ ws ws′ p q = (refl, ap (λ (b : List ℕ). (b, (tt, tt))) (same p q))
 
-pub word-determined : Determined 0 word-kinds.ps word-kinds.r word-reads.Learnt
-word-determined κs a z z′ ws ws′ p q = (same p q, refl)
+pub number2-at-determined : Determined 1 number2-at-kinds.ps number2-at-kinds.r number2-at-reads.Learnt
+number2-at-determined κs a z z′ ws ws′ p q = (same p q, refl)
 
-pub low-determined : Determined 0 low-kinds.ps low-kinds.r low-reads.Learnt
-low-determined κs a z z′ ws ws′ p q = (same p q, refl)
+pub number4-at-determined : Determined 1 number4-at-kinds.ps number4-at-kinds.r number4-at-reads.Learnt
+number4-at-determined κs a z z′ ws ws′ p q = (same p q, refl)
 
-pub high-determined : Determined 0 high-kinds.ps high-kinds.r high-reads.Learnt
-high-determined κs a z z′ ws ws′ p q = (same p q, refl)
+pub put-number2-determined : Determined 1 put-number2-kinds.ps put-number2-kinds.r put-number2-reads.Learnt
+put-number2-determined κs a z z′ ws ws′ p q = (refl, ap (λ (b : List ℕ). (b, (tt, (tt, tt)))) (same p q))
+
+pub put-number4-determined : Determined 1 put-number4-kinds.ps put-number4-kinds.r put-number4-reads.Learnt
+put-number4-determined κs a z z′ ws ws′ p q = (refl, ap (λ (b : List ℕ). (b, (tt, (tt, tt)))) (same p q))

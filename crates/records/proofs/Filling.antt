@@ -3,6 +3,7 @@
 use mathlib.Core.Path.{_≡_, refl, sym, ap, ap₂, _∙_, subst}
 use mathlib.Core.Bool.{Bool, true, false, cond}
 use Prim.Native.Nat.{ℕ, zero, suc, _+_, _-_, _≤_, _<_}
+use native.Mathlib.Nat.{sub-zero, zero-sub, suc-sub-suc}
 use native.Mathlib.Numerals.{add-one}
 use native.Mathlib.Omega.{arith}
 use mathlib.Core.List.{List, _++_, append-assoc, append-nil}
@@ -49,6 +50,11 @@ zeros-at (suc n) (suc i) = zeros-at n i
 
 pub length-zeros : (n : ℕ) → length (zeros n) ≡ n
 length-zeros n = length-replicate n 0
+
+pub drop-zeros : (k n : ℕ) → drop {A = ℕ} k (zeros n) ≡ zeros (n - k)
+drop-zeros zero n = ap zeros (sym (sub-zero n))
+drop-zeros (suc k) zero = ap zeros (sym (zero-sub (suc k)))
+drop-zeros (suc k) (suc n) = drop-zeros k n ∙ ap zeros (sym (suc-sub-suc n k))
 
 pub length-filled : (size : ℕ) (s : List ℕ) → length s ≤ size → length (filled size s) ≡ size
 unfolding filled

@@ -2,10 +2,10 @@
 -- Assumes nothing.
 use mathlib.Core.Path.{_≡_, refl, sym, ap, ap₂, _∙_, subst}
 use mathlib.Core.Bool.{Bool, true, false, cond}
-use Prim.Native.Nat.{ℕ, suc, _+_, _*_, _/_, _≤_, _<_}
-use native.Mathlib.Nat.{mul-suc, mul-comm, le-trans, mul-le-mul-left, le-div-iff-mul-le, div-mul-le-self, min-le-left, min-le-right, add-zero, add-suc, suc-add, mul-zero}
+use Prim.Native.Nat.{ℕ, suc, _+_, _-_, _*_, _/_, _≤_, _<_}
+use native.Mathlib.Nat.{mul-suc, mul-comm, le-trans, mul-le-mul-left, le-div-iff-mul-le, div-mul-le-self, min-le-left, min-le-right, add-zero, add-suc, suc-add, mul-zero, mul-div-right, div-one}
 use native.Mathlib.Omega.{arith}
-use mathlib.Core.List.{List, [], _∷_, _++_, append-assoc}
+use mathlib.Core.List.{List, [], _∷_, _++_, append-assoc, append-nil}
 use lib.Dec.{ltb}
 use lib.ListN.{length, drop, getD, set, replicate, length-append, length-replicate, length-drop, List·getD-eq-default}
 use lib.Seq.{sets, length-sets, sets-eq, drop-drop}
@@ -77,6 +77,14 @@ module _ {A : Type 0} (C : Codec A) where
   unfolding capacityOf
   capacity-most limit n = min-le-right (n / C .width) limit
 
+-- bytes are records of one byte, so that what holds of any kind of record holds of them
+abbrev pub bytes : Codec ℕ
+bytes = record { width = 1; enc = λ x. x ∷ []; read = λ b i. getD b i 0; none = 0 }
+
+pub list-bytes : (b : List ℕ) → listOf bytes b ≡ b
+unfolding listOf records
+list-bytes b = sym (is-listBelow 0 b (length b / 1) (λ i. getD b i 0) (sym (div-one (length b))) (λ i h. refl))
+
 -- ---- a buffer that holds a list
 
 module _ {A : Type 0} (C : Codec A) (K : Lawful C) where
@@ -146,6 +154,16 @@ module _ {A : Type 0} (C : Codec A) (K : Lawful C) where
   pub image-holds : (n : ℕ) (l : List A) → C .width * length l ≤ n → Holds C (image C n l) l
   unfolding Holds image
   image-holds n l h = ap (λ (k : ℕ). filled k (flat (C .enc) l)) (sym (length-image (C .enc) (C .width) (K .len) n l h))
+
+  -- the records of the bytes of a list are the list
+  pub list-flat : (l : List A) → listOf C (flat (C .enc) l) ≡ l
+  unfolding listOf Holds image filled
+  list-flat l =
+      let b : List ℕ = flat (C .enc) l in
+      let size : length b ≡ C .width * length l = length-flat (C .enc) (C .width) (K .len) l in
+      let none : length b - length b ≡ 0 = omega arith in
+      ap (λ (k : ℕ). records C k b) (ap (λ (n : ℕ). n / C .width) size ∙ mul-div-right (length l) (K .wide))
+      ∙ holds-records b l (sym (ap (λ (k : ℕ). b ++ replicate k 0) none ∙ append-nil b))
 
 -- ---- a list written from a place on
 

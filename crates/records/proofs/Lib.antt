@@ -1,7 +1,8 @@
-pub mod WordLaws
+pub mod NumberLaws
 pub mod Filling
 pub mod Images
 pub mod Holding
+pub mod FieldLaws
 pub mod Looking
 pub mod Counting
 pub mod Answering

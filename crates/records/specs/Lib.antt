@@ -1,4 +1,5 @@
-pub mod Words
+pub mod Numbers
 pub mod Places
 pub mod Records
+pub mod Fields
 pub mod Answers

@@ -1,5 +1,5 @@
-// Records of fixed width end to end in a lent buffer: their words, clearing and filling; and the refusal that every call answers with.
-pub mod words;
+// Records of fixed width end to end in a lent buffer: their numbers, clearing and filling; and the refusal that every call answers with.
+pub mod numbers;
 
 ghost use mathlib.Core.Path.{_≡_};
 ghost use lib.ListN.{length};

@@ -5,7 +5,6 @@ pub mod Counting
 pub mod Codec
 pub mod Stopping
 pub mod Reading
-pub mod Running
-pub mod Undoing
-pub mod RunLaws
+pub mod Filled
+pub mod Outcomes
 pub mod Determined

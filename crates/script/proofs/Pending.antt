@@ -20,7 +20,7 @@ use Rattle.orders.specs.Codes.{exchange}
 use Rattle.orders.specs.Orders.{orderCount, noOrder, image, follow, inverse, letterOrder}
 use Rattle.orders.proofs.CodeLaws.{exchange-permutes}
 use Rattle.orders.proofs.OrderLaws.{image-permutes, follow-lt, inverse-lt, image-follow, inverse-following, image-none, inverse-none, letter-lt, image-letter, letter-inverse}
-use Rattle.steps.specs.Steps.{Step, drop, join, split, turn, L, Fits, exchanged, reordered}
+use Rattle.steps.specs.Steps.{Step, drop, join, split, turn, L, Allowed, exchanged, reordered}
 use Rattle.steps.proofs.Linear.{exchanged-moved, reordered-moved, code-moved, code-moved-other, reordered-good}
 use Rattle.steps.proofs.Kept.{takenBack, taken-back-good}
 use Rattle.script.specs.Run.{unstep, undo}
@@ -42,8 +42,8 @@ unstep-map (L v b) l = refl
 pub undo-map : (xs : List Step) (l : List Cube) → undo xs l ≡ map (undone xs) l
 undo-map xs l = undo-by-map unstep takenBack unstep-map xs l
 
-pub undone-good : (n : ℕ) (xs : List Step) → All (Fits n) xs → (c : Cube) → Good n c → Good n (undone xs c)
-undone-good n xs h c g = undone-by-good takenBack (Good n) (Fits n) (taken-back-good n) xs h c g
+pub undone-good : (n : ℕ) (xs : List Step) → All (Allowed n) xs → (c : Cube) → Good n c → Good n (undone xs c)
+undone-good n xs h c g = undone-by-good takenBack (Good n) (Allowed n) (taken-back-good n) xs h c g
 
 -- ---- the pending orders are orders, as many as before
 
@@ -73,21 +73,13 @@ unfolding pend
 pend-orders [] os a = a
 pend-orders (x ∷ xs) os a = pend-orders xs (pendStep os x) (pend-step-orders os x a)
 
-pub pend-length : (xs : List Step) (os : List ℕ) → length (pend os xs) ≡ length os
-unfolding pend
-pend-length [] os = refl
-pend-length (x ∷ xs) os = pend-length xs (pendStep os x) ∙ pend-step-length os x
-
 none-orders : (k : ℕ) → All IsOrder (replicate k noOrder)
 none-orders zero = tt
 none-orders (suc k) = (omega arith, none-orders k)
 
--- from none pending: every order is one of the six, and there is one for each of the sixteen variables
+-- from none pending: every order is one of the six
 pub pending-orders : (xs : List Step) → All (λ o. o < orderCount) (pend nonePending xs)
 pending-orders xs = pend-orders xs nonePending (none-orders mostVariables)
-
-pub pending-length : (xs : List Step) → length (pend nonePending xs) ≡ mostVariables
-pending-length xs = pend-length xs nonePending
 
 -- ---- the pending orders taken back, variable by variable
 
@@ -144,7 +136,7 @@ back-letter o b x ho hb hx =
     ∙ ap (λ (q : ℕ). image q x) (sym (inverse-following o (letterOrder b) ho (letter-lt b)))
 
 -- one step more is pending
-pend-step-code : (n : ℕ) (x : Step) → Fits n x → (os : List ℕ) → All IsOrder os → n ≤ length os → (c : Cube) (k : ℕ)
+pend-step-code : (n : ℕ) (x : Step) → Allowed n x → (os : List ℕ) → All IsOrder os → n ≤ length os → (c : Cube) (k : ℕ)
     → image (inverse (getD os k noOrder)) (code (takenBack x c) k) ≡ image (inverse (getD (pendStep os x) k noOrder)) (code c k)
 pend-step-code n (drop i j) h os a l c k = refl
 pend-step-code n (join i j) h os a l c k = refl
@@ -166,7 +158,7 @@ pend-step-code n (L v b) h os a l c k =
     r : ℕ
     r = follow o (letterOrder b)
 
-pend-code : (n : ℕ) (xs : List Step) → All (Fits n) xs → (os : List ℕ) → All IsOrder os → n ≤ length os → (c : Cube) (k : ℕ)
+pend-code : (n : ℕ) (xs : List Step) → All (Allowed n) xs → (os : List ℕ) → All IsOrder os → n ≤ length os → (c : Cube) (k : ℕ)
     → image (inverse (getD os k noOrder)) (code (undone xs c) k) ≡ image (inverse (getD (pend os xs) k noOrder)) (code c k)
 unfolding undoneBy pend
 pend-code n [] h os a l c k = refl
@@ -178,7 +170,7 @@ pend-code n (x ∷ xs) h os a l c k =
 back-none : (k x : ℕ) → x < 3 → image (inverse (getD nonePending k noOrder)) x ≡ x
 back-none k x h = ap (λ (o : ℕ). image (inverse o) x) (sym (zeros-at mostVariables k)) ∙ ap (λ (o : ℕ). image o x) inverse-none ∙ image-none x h
 
-module _ (n : ℕ) (few : n ≤ mostVariables) (xs : List Step) (fits : All (Fits n) xs) where
+module _ (n : ℕ) (few : n ≤ mostVariables) (xs : List Step) (fits : All (Allowed n) xs) where
   pub undone-restored : (c : Cube) → Good n c → undone xs c ≡ restored n (pend nonePending xs) c
   undone-restored c g =
       let os = pend nonePending xs in

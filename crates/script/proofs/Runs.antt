@@ -1,12 +1,12 @@
 -- A run of any kind of steps on any kind of record that ends: its list is fine, and every fair weight has the sum it had. One induction over the script, for
--- all fair weights. Cubes and shared records are its two instances.
+-- all fair weights. Value uses it for cubes, which are fine where they are good, and for linear weights.
 -- Assumes nothing.
 use mathlib.Core.Path.{_≡_, refl, sym, ap, _∙_, subst}
 use mathlib.Core.Bool.{Bool}
 use mathlib.Core.List.{List, [], _∷_, map}
 use Prim.Native.Nat.{ℕ, suc, max}
 use native.Mathlib.Omega.{arith}
-use lib.ListN.{length, length-map}
+use lib.ListN.{length}
 use Rattle.bits.specs.Sums.{sum, All}
 use Rattle.bits.proofs.Sums.{sum-map, all-map, map-same, map-map}
 use Rattle.steps.specs.Moves.{After, stop, next}
@@ -64,11 +64,11 @@ unfolding undoBy undoneBy
 undo-by-map un back h [] l = map-same l
 undo-by-map un back h (x ∷ xs) l = h x (undoBy un xs l) ∙ ap (map (back x)) (undo-by-map un back h xs l) ∙ map-map (back x) (undoneBy back xs) l
 
-pub undone-by-good : {A X : Type 0} (back : X → A → A) (Fine : A → Type 0) (Fits : X → Type 0) → ((x : X) → Fits x → (c : A) → Fine c → Fine (back x c))
-    → (xs : List X) → All Fits xs → (c : A) → Fine c → Fine (undoneBy back xs c)
+pub undone-by-good : {A X : Type 0} (back : X → A → A) (Fine : A → Type 0) (Allowed : X → Type 0) → ((x : X) → Allowed x → (c : A) → Fine c → Fine (back x c))
+    → (xs : List X) → All Allowed xs → (c : A) → Fine c → Fine (undoneBy back xs c)
 unfolding undoneBy
-undone-by-good back Fine Fits h [] f c g = g
-undone-by-good back Fine Fits h (x ∷ xs) f c g = h x (f .0) (undoneBy back xs c) (undone-by-good back Fine Fits h xs (f .1) c g)
+undone-by-good back Fine Allowed h [] f c g = g
+undone-by-good back Fine Allowed h (x ∷ xs) f c g = h x (f .0) (undoneBy back xs c) (undone-by-good back Fine Allowed h xs (f .1) c g)
 
 -- ---- fine lists stay fine, and every fair weight keeps its sum, up to the undoing
 
@@ -78,15 +78,15 @@ pub record KeptBy {A : Type 0} (back : A → A) (Fine : A → Type 0) (Fair : (A
 
 -- steps that keep them, one by one
 pub record Keeping {A X : Type 0} (σ : X → List A → After A) (un : X → List A → List A) (back : X → A → A) (Fine : A → Type 0) (Fair : (A → Bool) → Type 0)
-    (Fits : X → Type 0) : Type 0 where
+    (Allowed : X → Type 0) : Type 0 where
   pub undone : (x : X) (l : List A) → un x l ≡ map (back x) l
-  pub good : (x : X) → Fits x → (c : A) → Fine c → Fine (back x c)
-  pub fair : (x : X) → Fits x → (w : A → Bool) → Fair w → Fair (λ c. w (back x c))
-  pub kept : (x : X) (l m : List A) → Fits x → All Fine l → σ x l ≡ next m → KeptBy (back x) Fine Fair l m
+  pub good : (x : X) → Allowed x → (c : A) → Fine c → Fine (back x c)
+  pub fair : (x : X) → Allowed x → (w : A → Bool) → Fair w → Fair (λ c. w (back x c))
+  pub kept : (x : X) (l m : List A) → Allowed x → All Fine l → σ x l ≡ next m → KeptBy (back x) Fine Fair l m
 
 module _ {A X : Type 0} (σ : X → List A → After A) (un : X → List A → List A) (back : X → A → A) (Fine : A → Type 0) (Fair : (A → Bool) → Type 0)
-    (Fits : X → Type 0) (k : Keeping σ un back Fine Fair Fits) where
-  pub steps-end-by : (s peak : ℕ) (xs : List X) (l m : List A) (p : ℕ) → All Fits xs → All Fine l → stepsFrom σ s peak xs l ≡ ended m p
+    (Allowed : X → Type 0) (k : Keeping σ un back Fine Fair Allowed) where
+  pub steps-end-by : (s peak : ℕ) (xs : List X) (l m : List A) (p : ℕ) → All Allowed xs → All Fine l → stepsFrom σ s peak xs l ≡ ended m p
       → KeptBy (undoneBy back xs) Fine Fair l m
   unfolding stepsFrom undoneBy
   steps-end-by s peak [] l m p h a e = subst (λ (r : List A). KeptBy (undoneBy back []) Fine Fair l r) (ended-list e) (record { good = a; sums = λ w fair. refl })
@@ -97,12 +97,12 @@ module _ {A X : Type 0} (σ : X → List A → After A) (un : X → List A → L
       record { good = t .good; sums = λ w fair. t .sums (λ c. w (back x c)) (k .fair x (h .0) w fair) ∙ q .sums w fair }
 
   -- a whole run
-  pub run-by-kept : (xs : List X) (l m : List A) (peak : ℕ) → All Fits xs → All Fine l → runBy σ un xs l ≡ ended m peak → KeptBy (λ c. c) Fine Fair l m
+  pub run-by-kept : (xs : List X) (l m : List A) (peak : ℕ) → All Allowed xs → All Fine l → runBy σ un xs l ≡ ended m peak → KeptBy (λ c. c) Fine Fair l m
   run-by-kept xs l m peak h a e =
       let f = finished-by σ un xs l m peak e in
       let t = steps-end-by 0 (length l) xs l (f .last) peak h a (f .steps) in
       let is : m ≡ map (undoneBy back xs) (f .last) = f .list ∙ undo-by-map un back (k .undone) xs (f .last) in
       record {
-        good = subst (All Fine) (sym is) (all-map Fine Fine (undoneBy back xs) (undone-by-good back Fine Fits (k .good) xs h) (f .last) (t .good));
+        good = subst (All Fine) (sym is) (all-map Fine Fine (undoneBy back xs) (undone-by-good back Fine Allowed (k .good) xs h) (f .last) (t .good));
         sums = λ w fair. ap (sum w) is ∙ sum-map w (undoneBy back xs) (f .last) ∙ t .sums w fair;
       }

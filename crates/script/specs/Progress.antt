@@ -1,26 +1,45 @@
--- How far the steps of a run went: what the inner functions of `run` answer one another.
+-- Inside: how far the steps of a run went, which the inner functions of `run` answer one another.
 -- Assumes nothing.
 use Rattle.cube.specs.declared.Cube.{Cube}
-use Prim.Native.Nat.{ℕ}
+use Prim.Native.Nat.{ℕ, max}
 use mathlib.Core.Bool.{true, false}
 use mathlib.Core.Path.{_≡_}
 use mathlib.Core.List.{List}
 use lib.ListN.{length}
-use Rattle.records.specs.Records.{records}
+use Rattle.records.specs.Records.{records, image, zeros}
 use Rattle.cube.specs.Lists.{cubes}
 use Rattle.records.specs.Answers.{Outcome, accepted}
+use Rattle.steps.specs.Moves.{After, stop, next}
 use Rattle.steps.specs.Steps.{Step, step}
 use Rattle.steps.specs.Calls.{Ready}
 use Rattle.script.specs.declared.Finished.{Finished}
 use Rattle.script.specs.declared.Progress.{Progress}
 use Rattle.script.specs.Run.{Ran, stopped, ended, stepsFrom}
-use Rattle.script.specs.Pending.{nonePending, pend}
+use Rattle.script.specs.Pending.{nonePending, pendStep, pend}
 use Rattle.script.specs.Calls.{ranWork, ranOutcome, runOf, finished}
 
--- what is answered of the steps, with what is pending after them
+-- so many records, the greatest count met so far, and what is pending
+abbrev pub standing : ℕ → ℕ → List ℕ → Progress
+standing count peak pending = record { done = true; number = 0; place = 0; count = count; peak = peak; pending = pending }
+
+-- refused by a number at a step
+abbrev pub halted : ℕ → ℕ → Progress
+halted number step = record { done = false; number = number; place = step; count = 0; peak = 0; pending = nonePending }
+
+-- one step more, x, of number k
+abbrev pub advanced : ℕ → Step → Progress → After Cube → Progress
+advanced k x p (stop number) = halted number k
+advanced k x p (next l) = standing (length l) (max (p .peak) (length l)) (pendStep (p .pending) x)
+
+-- and the work buffer after it
+abbrev pub workAdvanced : List ℕ → After Cube → List ℕ
+workAdvanced work (stop number) = zeros (length work)
+workAdvanced work (next l) = image cubes (length work) l
+
+-- all steps, with what is pending after them
 abbrev pub progressOf : Ran Cube → List ℕ → Progress
-progressOf (stopped number step) pending = record { done = false; number = number; place = step; count = 0; peak = 0; pending = nonePending }
-progressOf (ended l peak) pending = record { done = true; number = 0; place = 0; count = length l; peak = peak; pending = pending }
+progressOf (stopped number step) pending = halted number step
+progressOf (ended l peak) pending = standing (length l) peak pending
 
 -- the steps xs done from `first` records on: the answer r, and the work buffer after it
 pub record Stepping (n cap first : ℕ) (xs : List Step) (work work′ : List ℕ) (r : Progress) : Type 0 where

@@ -1,8 +1,10 @@
--- A run of a script, and the undoing of its L steps. Document 01, "The steps of a script".
+-- A run of a script, and the undoing of its L steps, for any kind of record A and of step X, by what one step does; and for cubes. Document 01, "The steps
+-- of a script".
 -- Assumes nothing.
-use Prim.Native.Nat.{ℕ, suc, max}
+use Prim.Native.Nat.{ℕ, suc, _+_, _<_, max}
+use mathlib.Core.Path.{_≡_}
 use mathlib.Core.List.{List, [], _∷_, map}
-use lib.ListN.{length}
+use lib.ListN.{length, getD, take}
 use Rattle.cube.specs.declared.Cube.{Cube}
 use Rattle.steps.specs.Moves.{After, stop, next}
 use Rattle.steps.specs.Steps.{Step, drop, join, split, turn, L, step, exchanged}
@@ -12,7 +14,6 @@ pub data Ran (A : Type 0) : Type 0 where
   stopped : ℕ → ℕ → Ran A
   ended : List A → ℕ → Ran A
 
--- steps of any kind X on lists of any kind of record A, by what one step does
 -- what follows step s
 abbrev pub onward : {A : Type 0} → ℕ → (List A → Ran A) → After A → Ran A
 onward s go (stop r) = stopped r s
@@ -29,6 +30,7 @@ module _ {A X : Type 0} where
   undoBy un [] l = l
   undoBy un (x ∷ xs) l = un x (undoBy un xs l)
 
+-- "when the last step is done"
 abbrev pub finishBy : {A : Type 0} → (List A → List A) → Ran A → Ran A
 finishBy un (stopped r s) = stopped r s
 finishBy un (ended l peak) = ended (un l) peak
@@ -36,6 +38,18 @@ finishBy un (ended l peak) = ended (un l) peak
 -- a run: "The peak is the greatest count met, the first included"
 abbrev pub runBy : {A X : Type 0} → (X → List A → After A) → (X → List A → List A) → List X → List A → Ran A
 runBy σ un xs l = finishBy (undoBy un xs) (stepsFrom σ 0 (length l) xs l)
+
+-- the steps xs from the list l, numbered from s on, are refused by r at step k: "then steps in turn"
+pub record RefusedBy {A X : Type 0} (σ : X → List A → After A) (none : X) (s q : ℕ) (xs : List X) (l : List A) (r k : ℕ) : Type 0 where
+  pub place : ℕ
+  pub number : k ≡ s + place
+  pub within : place < length xs
+  pub between : List A
+  pub peak : ℕ
+  -- the steps before it are done
+  pub before : stepsFrom σ s q (take place xs) l ≡ ended between peak
+  -- the step there is refused
+  pub here : σ (getD xs place none) between ≡ stop r
 
 -- ---- cubes
 
@@ -55,3 +69,6 @@ finish xs r = finishBy (undo xs) r
 
 unfoldable pub run : ℕ → ℕ → List Step → List Cube → Ran Cube
 run n cap xs l = runBy (step n cap) unstep xs l
+
+abbrev pub Refused : (n cap s q : ℕ) (xs : List Step) (l : List Cube) (r k : ℕ) → Type 0
+Refused n cap = RefusedBy (step n cap) (drop 0 0)

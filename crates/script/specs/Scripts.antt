@@ -1,13 +1,13 @@
 -- The records of a script. Document 01, "The steps of a script": "A step is 8 bytes: operation, variable v, place i (2 bytes, little-endian), place j
 -- (2 bytes, little-endian), literal, zero. Fields that an operation does not use are zero."
 -- Assumes nothing.
-use Prim.Native.Nat.{ℕ, _+_, _*_}
+use Prim.Native.Nat.{ℕ, _%_}
 use mathlib.Core.Bool.{Bool, true, false, _&&_, _||_}
-use mathlib.Core.List.{List, [], _∷_, _++_, map}
+use mathlib.Core.List.{List, [], _∷_, map}
 use lib.Dec.{eqb, ltb, leb}
 use lib.ListN.{getD}
-use Rattle.records.specs.Words.{word, wordAt}
 use Rattle.records.specs.Records.{Codec, listOf}
+use Rattle.records.specs.Fields.{byFields}
 use Rattle.steps.specs.declared.StepRecord.{StepRecord}
 use Rattle.steps.specs.Steps.{Step, drop, join, split, turn, L, meaning}
 
@@ -18,20 +18,20 @@ mostSteps = 1024
 abbrev pub stepWidth : ℕ
 stepWidth = 8
 
+-- one byte, one, two, two, one and one, each number little-endian
 abbrev pub stepRecords : Codec StepRecord
-stepRecords = record {
-  width = stepWidth;
-  enc = λ r. r .op ∷ r .v ∷ (word (r .i) ++ (word (r .j) ++ (r .literal ∷ r .zero ∷ [])));
-  read = λ b k. record {
-    op = getD b (stepWidth * k) 0;
-    v = getD b (stepWidth * k + 1) 0;
-    i = wordAt b (stepWidth * k + 2);
-    j = wordAt b (stepWidth * k + 4);
-    literal = getD b (stepWidth * k + 6) 0;
-    zero = getD b (stepWidth * k + 7) 0;
-  };
-  none = record { op = 0; v = 0; i = 0; j = 0; literal = 0; zero = 0 };
-}
+stepRecords =
+    byFields (1 ∷ 1 ∷ 2 ∷ 2 ∷ 1 ∷ 1 ∷ [])
+    (λ r. r .op ∷ r .v ∷ r .i ∷ r .j ∷ r .literal ∷ r .zero ∷ [])
+    (λ xs. record { op = getD xs 0 0; v = getD xs 1 0; i = getD xs 2 0; j = getD xs 3 0; literal = getD xs 4 0; zero = getD xs 5 0 })
+
+-- how many places two bytes can name
+abbrev pub placeSize : ℕ
+placeSize = 65536
+
+-- what of a step fits its record
+abbrev pub narrowStep : StepRecord → StepRecord
+narrowStep r = record { op = r .op; v = r .v; i = r .i % placeSize; j = r .j % placeSize; literal = r .literal; zero = r .zero }
 
 -- which fields an operation uses (document 01's table, column "uses"): 1 drop, 2 join, 3 split, 4 turn, 5 L
 abbrev pub known : ℕ → Bool
@@ -64,7 +64,7 @@ fits n r =
     && (field (usesLiteral (r .op)) (leb (r .literal) 1) (r .literal)
     && eqb (r .zero) 0))))
 
--- the record of a step
+-- the record of a step: what a script that was made is written by. No contract here needs it; calls that make scripts do
 unfoldable pub recordOf : Step → StepRecord
 recordOf (drop i j) = record { op = 1; v = 0; i = i; j = j; literal = 0; zero = 0 }
 recordOf (join i j) = record { op = 2; v = 0; i = i; j = j; literal = 0; zero = 0 }

@@ -1,55 +1,18 @@
-// The records of a script, and their check: refusals 7, 8 and 9.
+// The check of a script: refusals 7, 8 and 9.
+pub use crate::record::STEP_WIDTH;
+pub use crate::record::step_at;
 use records::Counted;
 use records::Refusal;
 use steps::StepRecord;
 ghost use mathlib.Core.Path.{_≡_};
-ghost use lib.ListN.{getD};
 ghost use Rattle.bits.specs.Sums.{firstBad};
-ghost use Rattle.records.specs.Words.{wordOf};
 ghost use Rattle.records.specs.Records.{listOf};
 ghost use Rattle.records.specs.Answers.{counted};
 ghost use Rattle.script.specs.Scripts.{stepRecords, fits};
 ghost use Rattle.script.specs.Calls.{checkScript};
 
-// Bytes of a step's record.
-pub const STEP_WIDTH: usize = 8;
-
 // Steps of a script, at most.
 pub const MOST_STEPS: usize = 1024;
-
-// The number of two bytes, as a place.
-fn place(low: u8, high: u8) -> usize
-    ensures { λ r. ⌜ r ≡ wordOf low high ⌝ }
-{
-    records::words::word(low, high) as usize
-}
-
-// The record of step k, or one that is all zero past the end.
-pub fn step_at(script: &[u8], k: usize) -> StepRecord
-    ensures { λ r. ⌜ r ≡ getD (listOf stepRecords (now (script .entry))) k (stepRecords .none) ⌝ }
-{
-    if script.len() / STEP_WIDTH <= k {
-        return StepRecord {
-            op: 0,
-            v: 0,
-            i: 0,
-            j: 0,
-            literal: 0,
-            zero: 0,
-        };
-    }
-    let at = STEP_WIDTH * k;
-    let i = place(script[at + 2], script[at + 3]);
-    let j = place(script[at + 4], script[at + 5]);
-    StepRecord {
-        op: script[at],
-        v: script[at + 1],
-        i,
-        j,
-        literal: script[at + 6],
-        zero: script[at + 7],
-    }
-}
 
 // Whether a step passes rule 9 over n variables: a row for each operation, and what it doesn't use is zero.
 fn fits(n: usize, x: StepRecord) -> bool

@@ -1,7 +1,9 @@
 // Running a script on a list of cubes, in a lent work buffer.
 pub mod check;
+pub mod record;
 pub mod run;
 
+use cube::list::MOST_VARIABLES;
 use records::Refusal;
 
 // What a run answers: the count and the peak, or a refusal.
@@ -10,12 +12,12 @@ pub enum Finished {
     Refused(Refusal),
 }
 
-// How far the steps went: to the end, with the count, the peak and an order pending for each variable; or to a refusal.
+// How far the steps went: where the run stands, with the count, the peak and an order pending for each variable; or to a refusal.
 pub struct Progress {
     pub done: bool,
     pub number: u8,
     pub place: usize,
     pub count: usize,
     pub peak: usize,
-    pub pending: [u8; 16],
+    pub pending: [u8; MOST_VARIABLES],
 }

@@ -2,14 +2,16 @@
 use crate::Finished;
 use crate::Progress;
 use crate::check;
+use cube::list::MOST_VARIABLES;
 use records::Counted;
 use records::Refusal;
 use steps::StepRecord;
 use steps::Stepped;
+use steps::perform::larger;
 ghost use mathlib.Core.Path.{_≡_};
 ghost use mathlib.Core.Bool.{true};
 ghost use mathlib.Core.List.{map};
-ghost use Prim.Native.Nat.{_≤_, _<_, max};
+ghost use Prim.Native.Nat.{_≤_, _<_};
 ghost use lib.ListN.{length};
 ghost use Rattle.bits.specs.Sums.{All};
 ghost use Rattle.records.specs.Records.{Held, records, listOf, image};
@@ -17,27 +19,18 @@ ghost use Rattle.records.specs.Answers.{counted};
 ghost use Rattle.cube.specs.Cubes.{Good};
 ghost use Rattle.cube.specs.Lists.{cubes, mostVariables};
 ghost use Rattle.orders.specs.Orders.{orderCount, inverse};
-ghost use Rattle.steps.specs.Steps.{meaning, reordered};
-ghost use Rattle.steps.specs.Calls.{Ready};
+ghost use Rattle.steps.specs.Steps.{meaning, reordered, step};
+ghost use Rattle.steps.specs.Calls.{Ready, Known};
 ghost use Rattle.script.specs.Pending.{pendStep, restored};
 ghost use Rattle.script.specs.Scripts.{stepRecords, fits, stepsOf};
-ghost use Rattle.script.specs.Progress.{Stepping, Passed, Answered};
+ghost use Rattle.script.specs.Progress.{advanced, workAdvanced, Stepping, Passed, Answered};
 ghost use Rattle.script.specs.Calls.{checkRun, runOutcome, runAfter, finished};
 
 // No order is pending at any variable.
-const NONE_PENDING: [u8; 16] = [0; 16];
-
-fn larger(a: usize, b: usize) -> usize
-    ensures { λ r. ⌜ r ≡ max a b ⌝ }
-{
-    if a < b {
-        return b;
-    }
-    a
-}
+pub const NONE_PENDING: [u8; MOST_VARIABLES] = [0; MOST_VARIABLES];
 
 // What is pending after one more step: the order of an L step follows that of its variable.
-fn pended(pending: [u8; 16], x: StepRecord) -> [u8; 16]
+pub fn pended(pending: [u8; MOST_VARIABLES], x: StepRecord) -> [u8; MOST_VARIABLES]
     ensures { λ r. ⌜ r ≡ pendStep pending (meaning x) ⌝ }
 {
     let op = x.op;
@@ -45,13 +38,55 @@ fn pended(pending: [u8; 16], x: StepRecord) -> [u8; 16]
     if op < 5 {
         return pending;
     }
-    if 16 <= v {
+    if MOST_VARIABLES <= v {
         return pending;
     }
     let mut next = pending;
     let before = next[v];
     next[v] = orders::follow(before, orders::letter_order(x.literal));
     next
+}
+
+// The step x, of number k, done from where the run stands; a refusal clears the work buffer.
+pub fn advance(
+    work: &mut [u8],
+    n: usize,
+    cap: usize,
+    k: usize,
+    x: StepRecord,
+    at: Progress,
+) -> Progress
+    requires { ⌜ Ready n (at .count) cap (now work) ⌝ }
+    requires { ⌜ Known n x ⌝ }
+    ensures { λ r. ⌜ r ≡ advanced k (meaning x) at (step n cap (meaning x) (records cubes (at .count) (now (work .entry)))) ⌝ }
+    ensures { λ _. ⌜ now (work .exit) ≡ workAdvanced (now (work .entry)) (step n cap (meaning x) (records cubes (at .count) (now (work .entry)))) ⌝ }
+{
+    match steps::step::do_step(work, n, at.count, cap, x) {
+        Stepped::Refused(number) => {
+            records::clear(work);
+            Progress {
+                done: false,
+                number,
+                place: k,
+                count: 0,
+                peak: 0,
+                pending: NONE_PENDING,
+            }
+        }
+        Stepped::Count(count) => {
+            let peak = larger(at.peak, count);
+            let before = at.pending;
+            let pending = pended(before, x);
+            Progress {
+                done: true,
+                number: 0,
+                place: 0,
+                count,
+                peak,
+                pending,
+            }
+        }
+    }
 }
 
 // The steps of a script in turn, on the first records of the work buffer; a refusal clears it.
@@ -61,42 +96,26 @@ fn run_steps(work: &mut [u8], n: usize, first: usize, cap: usize, script: &[u8])
     ensures { λ r. ⌜ Stepping n cap first (stepsOf (now (script .entry))) (now (work .entry)) (now (work .exit)) r ⌝ }
 {
     let steps = script.len() / check::STEP_WIDTH;
-    let mut count = first;
-    let mut peak = first;
-    let mut pending = [0u8; 16];
-    let mut k = 0;
-    while k < steps {
-        let x = check::step_at(script, k);
-        let stepped = steps::step::do_step(work, n, count, cap, x);
-        match stepped {
-            Stepped::Refused(number) => {
-                records::clear(work);
-                return Progress {
-                    done: false,
-                    number,
-                    place: k,
-                    count: 0,
-                    peak: 0,
-                    pending: [0u8; 16],
-                };
-            }
-            Stepped::Count(next) => {
-                count = next;
-            }
-        }
-        peak = larger(peak, count);
-        let after = pended(pending, x);
-        pending = after;
-        k += 1;
-    }
-    Progress {
+    let mut at = Progress {
         done: true,
         number: 0,
         place: 0,
-        count,
-        peak,
-        pending,
+        count: first,
+        peak: first,
+        pending: NONE_PENDING,
+    };
+    let mut k = 0;
+    while k < steps {
+        let x = check::step_at(script, k);
+        let next = advance(work, n, cap, k, x, at);
+        let done = next.done;
+        if !done {
+            return next;
+        }
+        at = next;
+        k += 1;
     }
+    at
 }
 
 // The order o, pending at the variable v, taken back in every record; nothing to do where it is no order.
@@ -113,7 +132,7 @@ fn undo_at(work: &mut [u8], count: usize, v: u8, o: u8)
 }
 
 // What is pending at the n variables taken back in every record.
-fn undo(work: &mut [u8], n: usize, count: usize, pending: [u8; 16])
+pub fn undo(work: &mut [u8], n: usize, count: usize, pending: [u8; MOST_VARIABLES])
     requires { ⌜ Held cubes count (now work) ⌝ }
     requires { ⌜ All (Good mostVariables) (records cubes count (now work)) ⌝ }
     requires { ⌜ n ≤ mostVariables ⌝ }
@@ -128,7 +147,7 @@ fn undo(work: &mut [u8], n: usize, count: usize, pending: [u8; 16])
     }
 }
 
-// Refusals 1 to 5, 7, 8 and 9, or the count of the list's records.
+// Refusals 1 to 5, 7, 8 and 9, or the number of the script's steps.
 fn check_run(n: usize, list: &[u8], script: &[u8], size: usize) -> Counted
     ensures { λ r. ⌜ counted r ≡ checkRun n (now (list .entry)) (now (script .entry)) size ⌝ }
 {

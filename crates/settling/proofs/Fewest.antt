@@ -3,32 +3,65 @@
 use mathlib.Core.Path.{_≡_, refl, sym, _∙_, subst}
 use mathlib.Core.Bool.{Bool, true, false, cond}
 use mathlib.Core.List.{List}
-use Prim.Native.Nat.{ℕ, _^_, _≤_, _<_}
-use borrow.Author.Tests.{leb-true, le-leb}
+use Prim.Native.Nat.{ℕ, _^_, _≤_, _<_, zero-le}
+use native.Mathlib.Nat.{le-trans, le-refl, le-of-lt}
+use borrow.Author.Tests.{leb-true, le-leb, ltb-true, ltb-false}
 use lib.Bits.{bitXor, xor-lt}
 use lib.Dec.{leb, ltb}
 use lib.ListN.{length}
 use Rattle.bits.proofs.Below.{getD-listBelow}
 use Rattle.cube.specs.declared.Cube.{Cube}
 use Rattle.cube.specs.Lists.{vectorVariables, listValue, truthVector}
-use Rattle.polarity.specs.Forms.{coefficient, formList, size, rank}
+use Rattle.polarity.specs.Forms.{coefficient, formList, size, countsOf, rank}
 use Rattle.polarity.specs.Vectors.{byteAt}
 use Rattle.polarity.proofs.Listing.{form-cong}
 use Rattle.polarity.proofs.Parities.{parity-cong}
 use Rattle.polarity.proofs.Theorems.{form-has-the-value, best-has-fewest}
 use Rattle.settling.specs.Candidates.{bestOf, bestForm, better, burnedList}
 use Rattle.settling.proofs.Forming.{truth-vector-is}
-use Rattle.settling.proofs.SettleLaws.{better-le-later}
 
--- ---- the candidates
+-- ---- the list to burn has the least rank
+
+better-least-earlier : (earlier later : List Cube) → rank (better earlier later) ≤ rank earlier
+better-least-earlier earlier later = go (ltb (rank later) (rank earlier)) refl
+  where
+    go : (b : Bool) → ltb (rank later) (rank earlier) ≡ b → rank (cond b later earlier) ≤ rank earlier
+    go true e = le-of-lt (ltb-true (rank later) (rank earlier) e)
+    go false e = le-refl (rank earlier)
+
+better-least-later : (earlier later : List Cube) → rank (better earlier later) ≤ rank later
+better-least-later earlier later = go (ltb (rank later) (rank earlier)) refl
+  where
+    go : (b : Bool) → ltb (rank later) (rank earlier) ≡ b → rank (cond b later earlier) ≤ rank later
+    go true e = le-refl (rank later)
+    go false e = ltb-false (rank later) (rank earlier) e
 
 module _ (n : ℕ) (result given : List Cube) where
-  -- for few variables it has no more products than the form of the best polarity
-  pub burned-form : n ≤ vectorVariables → length (burnedList n result given) ≤ length (bestForm n given)
+  -- no greater than the best of the first two has
+  least-of-two : rank (burnedList n result given) ≤ rank (better result given)
   unfolding burnedList
+  least-of-two = go (leb n vectorVariables)
+    where
+      go : (b : Bool) → rank (cond b (better (better result given) (bestForm n given)) (better result given)) ≤ rank (better result given)
+      go true = better-least-earlier (better result given) (bestForm n given)
+      go false = le-refl (rank (better result given))
+
+  -- A choice goes by the number of products, so it has no more than the given list has ..
+  pub burned-le-given : length (burnedList n result given) ≤ length given
+  unfolding countsOf
+  burned-le-given = le-trans least-of-two (better-least-later result given)
+
+  -- .. nor than the list the script ends in ..
+  pub burned-le-result : length (burnedList n result given) ≤ length result
+  unfolding countsOf
+  burned-le-result = le-trans least-of-two (better-least-earlier result given)
+
+  -- .. nor, for few variables, than the form of the best polarity.
+  pub burned-form : n ≤ vectorVariables → length (burnedList n result given) ≤ length (bestForm n given)
+  unfolding burnedList countsOf
   burned-form h =
-      subst (λ (b : Bool). length (cond b (better (better result given) (bestForm n given)) (better result given)) ≤ length (bestForm n given))
-      (sym (le-leb n vectorVariables h)) (better-le-later (better result given) (bestForm n given))
+      subst (λ (b : Bool). rank (cond b (better (better result given) (bestForm n given)) (better result given)) ≤ rank (bestForm n given))
+      (sym (le-leb n vectorVariables h)) (better-least-later (better result given) (bestForm n given))
 
   -- it is one of them
   pub burned-one : (P : List Cube → Type 0) → P result → P given → (n ≤ vectorVariables → P (bestForm n given)) → P (burnedList n result given)
@@ -67,4 +100,4 @@ module _ (n : ℕ) (given : List Cube) (few : n ≤ vectorVariables) where
   unfolding bestForm
   best-form-least p h =
       subst (λ (l : List Cube). size n (bestOf n given) (byteAt (truthVector n given)) ≤ length l) (form-of p h)
-      (best-has-fewest n (byteAt (truthVector n given)) .fewest p h)
+      (best-has-fewest n (byteAt (truthVector n given)) .fewest p zero-le h)

@@ -1,13 +1,4 @@
-pub mod Winning
 pub mod Forming
-pub mod Written
-pub mod SettleLaws
-pub mod Settling
-pub mod Determined
 pub mod Fewest
-pub mod Calling
-pub mod DemandOne
-pub mod WritesNothing
-pub mod DemandTwo
-pub mod DemandThree
-pub mod Examples
+pub mod Determined
+pub mod Outcomes

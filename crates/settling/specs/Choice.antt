@@ -1,78 +1,92 @@
--- What the functions inside settle promise one another: which candidate wins, and the list of a winner.
+-- Inside: what the functions within settle promise one another, of the choice and of what is burned. None of it is needed to read the call.
 -- Assumes nothing.
 use mathlib.Core.Path.{_≡_}
-use mathlib.Core.Bool.{Bool, true, false}
+use mathlib.Core.Bool.{cond}
 use mathlib.Core.List.{List}
-use Prim.Native.Nat.{ℕ, _/_, _%_, _^_, _≤_, _<_}
+use Prim.Native.Nat.{ℕ, _%_, _^_, _≤_, _<_}
 use lib.Dec.{ltb}
-use lib.ListN.{length}
-use Rattle.records.specs.Records.{Held, records, image}
+use lib.ListN.{length, take}
+use Rattle.records.specs.Records.{image}
 use Rattle.cube.specs.declared.Cube.{Cube}
-use Rattle.cube.specs.Lists.{cubes, cubesOf, cubeCapacity, recordWidth, mostVariables}
+use Rattle.cube.specs.Lists.{cubes, cubesOf, cubeCapacity, recordWidth, mostVariables, vectorVariables, truthVector}
 use Rattle.cube.specs.Calls.{checkList}
-use Rattle.polarity.specs.Forms.{formList}
+use Rattle.polarity.specs.declared.Counts.{Counts}
+use Rattle.polarity.specs.Forms.{formList, countsOf, rankOf, rank}
 use Rattle.polarity.specs.Vectors.{byteAt, Vector}
 use Rattle.script.specs.Progress.{Passed}
+use Rattle.settling.specs.declared.BestForm.{BestForm}
 use Rattle.settling.specs.declared.Burning.{Burning}
-use Rattle.settling.specs.declared.Fixed.{Fixed}
-use Rattle.settling.specs.declared.Fixed.the-variants as fixed-is
-use Rattle.settling.specs.declared.Winner.{Winner}
-use Rattle.settling.specs.declared.Winner.the-variants as winner-is
+use Rattle.settling.specs.declared.Candidate.{Candidate}
+use Rattle.settling.specs.declared.Origin.{Origin}
+use Rattle.settling.specs.declared.Origin.the-variants as origin-is
 use Rattle.settling.specs.Candidates.{burnedList, fixedOf}
 
--- a later candidate is better than an earlier one, by their numbers of products
-abbrev pub isBetter : ℕ → ℕ → Bool
-isBetter later earlier = ltb later earlier
+-- ---- the choice
 
-abbrev pub pick : Bool → Winner → Winner → Winner
-pick true a b = a
-pick false a b = b
+abbrev pub candidateOf : Counts → Origin → Candidate
+candidateOf counts origin = record { rank = rankOf counts; origin = origin }
 
--- the winner, from the numbers of products
-unfoldable pub winnerOf : ℕ → ℕ → Fixed → Winner
-winnerOf script given fixed-is.Absent = pick (isBetter given script) winner-is.Given winner-is.Script
-winnerOf script given (fixed-is.Polarity p size) =
-    pick (isBetter given script)
-    (pick (isBetter size given) (winner-is.Form p) winner-is.Given)
-    (pick (isBetter size script) (winner-is.Form p) winner-is.Script)
+-- the better of two candidates, ties to the earlier
+abbrev pub betterOf : Candidate → Candidate → Candidate
+betterOf earlier later = cond (ltb (later .rank) (earlier .rank)) later earlier
 
--- its list, with the truth vector of the given list
-abbrev pub winnerList : ℕ → List ℕ → List Cube → List Cube → Winner → List Cube
-winnerList n vector result given winner-is.Script = result
-winnerList n vector result given winner-is.Given = given
-winnerList n vector result given (winner-is.Form p) = formList n p (byteAt vector)
+-- the list that an origin names, with the script's result and the given list
+abbrev pub listFrom : ℕ → List Cube → List Cube → Origin → List Cube
+listFrom n result given origin-is.Script = result
+listFrom n result given origin-is.Given = given
+listFrom n result given (origin-is.Form p) = formList n p (byteAt (truthVector n given))
 
--- what a form that wins needs
-pub record Formable (n p : ℕ) (vector coefficients : List ℕ) : Type 0 where
-  pub vector-is : Vector n vector
+-- there is such a form
+abbrev pub Named : ℕ → Origin → Type 0
+Named n origin-is.Script = Unit {0}
+Named n origin-is.Given = Unit {0}
+Named n (origin-is.Form p) = (n ≤ vectorVariables) × (p < 2 ^ n)
+
+-- a candidate stands for a list: it has the list's rank, and its origin names the list
+pub record Stands (n : ℕ) (result given l : List Cube) (c : Candidate) : Type 0 where
+  pub rank-is : c .rank ≡ rank l
+  pub list-is : listFrom n result given (c .origin) ≡ l
+  pub named : Named n (c .origin)
+
+-- the counts of the form under p of the vector at the front of a buffer, whose size is known
+abbrev pub FormCounts : List ℕ → ℕ → ℕ → Counts → Type 0
+FormCounts v p size r =
+    (n : ℕ) → Vector n (take (2 ^ n) v) → p < 2 ^ n → size ≡ length (formList n p (byteAt (take (2 ^ n) v))) → r ≡ countsOf (formList n p (byteAt (take (2 ^ n) v)))
+
+-- the best polarity of a list's function, with its truth vector
+pub record FormIs (n : ℕ) (given : List Cube) (f : BestForm) : Type 0 where
+  pub fixed : f .fixed ≡ fixedOf n given
+  pub vector : n ≤ vectorVariables → take (2 ^ n) (f .vector) ≡ truthVector n given
+
+-- ---- what is burned
+
+-- a list fills the front of the output buffer, zeros after it, and its count is answered
+pub record BurnedIs (l : List Cube) (out out′ : List ℕ) (r : ℕ) : Type 0 where
+  pub answer : r ≡ length l
+  pub buffer : out′ ≡ image cubes (length out) l
+
+-- a form of the vector at the front of a buffer, for which an output of so many bytes has room
+pub record FormFits (n : ℕ) (v : List ℕ) (p out : ℕ) : Type 0 where
+  pub vector : Vector n (take (2 ^ n) v)
   pub polarity : p < 2 ^ n
-  pub long : length coefficients ≡ 2 ^ n
+  pub room : length (formList n p (byteAt (take (2 ^ n) v))) ≤ cubeCapacity out
 
-abbrev pub FormNeeds : ℕ → List ℕ → List ℕ → Winner → Type 0
-FormNeeds n vector coefficients winner-is.Script = Unit {0}
-FormNeeds n vector coefficients winner-is.Given = Unit {0}
-FormNeeds n vector coefficients (winner-is.Form p) = Formable n p vector coefficients
+-- both lists are whole, the vector is the given list's, and the list that the origin names has room
+pub record Burnable (n : ℕ) (list result : List ℕ) (best : BestForm) (origin : Origin) (out : ℕ) : Type 0 where
+  pub list-whole : length list % recordWidth ≡ 0
+  pub result-whole : length result % recordWidth ≡ 0
+  pub best-is : FormIs n (cubesOf list) best
+  pub named : Named n origin
+  pub room : length (listFrom n (cubesOf result) (cubesOf list) origin) ≤ cubeCapacity out
 
--- the work buffer holds the script's result, the list is whole, and the winner's list has room
-pub record Burnable (n count : ℕ) (list work vector coefficients out : List ℕ) (w : Winner) : Type 0 where
-  pub held : Held cubes count work
-  pub whole : length list % recordWidth ≡ 0
-  pub room : length (winnerList n vector (records cubes count work) (cubesOf list) w) ≤ cubeCapacity (length out)
-  pub form : FormNeeds n vector coefficients w
-
--- the work buffer holds the script's result, and the given list is accepted and fits the output
-pub record Burns (n count : ℕ) (list work out : List ℕ) : Type 0 where
-  pub held : Held cubes count work
+-- the script's result is whole, and the given list is accepted and fits the output
+pub record Burns (n : ℕ) (list result : List ℕ) (out : ℕ) : Type 0 where
+  pub whole : length result % recordWidth ≡ 0
   pub passed : Passed (checkList mostVariables n list)
-  pub room : length list / recordWidth ≤ cubeCapacity (length out)
+  pub room : length (cubesOf list) ≤ cubeCapacity out
 
 -- the list to burn fills the front of the output buffer, zeros after it
 pub record BurningIs (n : ℕ) (result given : List Cube) (out out′ : List ℕ) (r : Burning) : Type 0 where
   pub fixed : r .fixed ≡ fixedOf n given
   pub burned : r .burned ≡ length (burnedList n result given)
   pub buffer : out′ ≡ image cubes (length out) (burnedList n result given)
-
--- the winner's list fills the front of the output buffer, zeros after it, and its count is answered
-pub record BurnedIs (l : List Cube) (out out′ : List ℕ) (r : ℕ) : Type 0 where
-  pub answer : r ≡ length l
-  pub buffer : out′ ≡ image cubes (length out) l

@@ -1,4 +1,3 @@
 pub mod Candidates
 pub mod Choice
 pub mod Calls
-pub mod Marked

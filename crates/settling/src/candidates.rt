@@ -1,55 +1,92 @@
-// The candidates: the best polarity of the given list's function, the choice, and the list that is burned.
+// The candidates, and the choice among them.
+use crate::BestForm;
+use crate::Candidate;
 use crate::Fixed;
-use crate::Winner;
+use crate::Origin;
 use polarity::Best;
-use records::Counted;
+use polarity::Counts;
+use polarity::form;
 ghost use mathlib.Core.Path.{_≡_};
-ghost use Prim.Native.Nat.{_^_, _<_, _≤_};
+ghost use Prim.Native.Nat.{_^_, _<_};
 ghost use lib.ListN.{length};
-ghost use Rattle.records.specs.Records.{records};
-ghost use Rattle.cube.specs.Lists.{cubes, cubesOf, cubeCapacity, truthVector, vectorVariables};
+ghost use Rattle.cube.specs.Lists.{cubesOf, mostVariables, truthVector, vectorVariables};
 ghost use Rattle.cube.specs.Calls.{checkList};
-ghost use Rattle.polarity.specs.Forms.{formList};
-ghost use Rattle.polarity.specs.Vectors.{byteAt, Vector};
+ghost use Rattle.polarity.specs.Forms.{countsOf};
 ghost use Rattle.script.specs.Progress.{Passed};
-ghost use Rattle.settling.specs.Candidates.{fixedOf};
-ghost use Rattle.settling.specs.Choice.{isBetter, winnerOf, winnerList, Burnable, BurnedIs};
+ghost use Rattle.settling.specs.Candidates.{burnedList, fixedOf};
+ghost use Rattle.settling.specs.Choice.{candidateOf, betterOf, Stands, FormCounts, FormIs};
 
-// A later candidate is better than an earlier one only with fewer products.
-fn is_better(later: usize, earlier: usize) -> bool
-    ensures { λ r. ⌜ r ≡ isBetter later earlier ⌝ }
+// The better of two candidates; ties go to the earlier.
+fn better(earlier: Candidate, later: Candidate) -> Candidate
+    ensures { λ r. ⌜ r ≡ betterOf earlier later ⌝ }
 {
-    later < earlier
+    if later.rank < earlier.rank {
+        return later;
+    }
+    earlier
 }
 
-// Which candidate is burned, from the numbers of products; ties go to the earlier.
-pub(crate) fn winner(script: usize, given: usize, fixed: Fixed) -> Winner
-    ensures { λ r. ⌜ r ≡ winnerOf script given fixed ⌝ }
+// The candidate of a list that has these counts.
+fn candidate(counts: Counts, origin: Origin) -> Candidate
+    ensures { λ r. ⌜ r ≡ candidateOf counts origin ⌝ }
 {
+    Candidate {
+        rank: form::rank(counts),
+        origin,
+    }
+}
+
+// The products of a list, and whether one of them has no literal.
+fn count_list(list: &[u8]) -> Counts
+    ensures { λ r. ⌜ r ≡ countsOf (cubesOf (now (list .entry))) ⌝ }
+{
+    let count = list.len() / cube::list::RECORD_WIDTH;
+    let mut bare: usize = 0;
+    let mut i: usize = 0;
+    while i < count {
+        let c = cube::list::cube_at(list, i);
+        bare += (c.seen == 0) as usize;
+        i += 1;
+    }
+    Counts {
+        products: count,
+        constant: 0 < bare,
+    }
+}
+
+// The products of a vector's form under p, and whether one of them has no literal: its coefficient is the byte at p.
+fn count_form(vector: [u8; 256], p: usize, size: usize) -> Counts
+    requires { ⌜ p < 256 ⌝ }
+    ensures { λ r. ⌜ FormCounts vector p size r ⌝ }
+{
+    let bare = vector[p];
+    Counts {
+        products: size,
+        constant: bare != 0,
+    }
+}
+
+// The candidate that is burned: each in turn against the best before it.
+pub(crate) fn choose(n: usize, list: &[u8], result: &[u8], best: BestForm) -> Candidate
+    requires { ⌜ FormIs n (cubesOf (now list)) best ⌝ }
+    ensures { λ r. ⌜ Stands n (cubesOf (now (result .entry))) (cubesOf (now (list .entry))) (burnedList n (cubesOf (now (result .entry))) (cubesOf (now (list .entry)))) r ⌝ }
+{
+    let script = candidate(count_list(result), Origin::Script);
+    let given = candidate(count_list(list), Origin::Given);
+    let two = better(script, given);
+    let fixed = best.fixed;
+    let vector = best.vector;
     match fixed {
-        Fixed::Absent => {
-            if is_better(given, script) {
-                return Winner::Given;
-            }
-            Winner::Script
-        }
-        Fixed::Polarity(p, size) => {
-            if is_better(given, script) {
-                if is_better(size, given) {
-                    return Winner::Form(p);
-                }
-                return Winner::Given;
-            }
-            if is_better(size, script) {
-                return Winner::Form(p);
-            }
-            Winner::Script
-        }
+        Fixed::Absent => two,
+        Fixed::Polarity(p, size) => better(
+            two,
+            candidate(count_form(vector, p, size), Origin::Form(p)),
+        ),
     }
 }
 
 // The best polarity of the given list's function, whose truth vector is written.
-pub(crate) fn best_of(n: usize, list: &[u8], vector: &mut [u8]) -> Fixed
+fn best_of(n: usize, list: &[u8], vector: &mut [u8]) -> Fixed
     requires { ⌜ Passed (checkList vectorVariables n (now list)) ⌝ }
     requires { ⌜ length (now vector) ≡ 2 ^ n ⌝ }
     ensures { λ r. ⌜ r ≡ fixedOf n (cubesOf (now (list .entry))) ⌝ }
@@ -62,46 +99,19 @@ pub(crate) fn best_of(n: usize, list: &[u8], vector: &mut [u8]) -> Fixed
     }
 }
 
-// The form of a vector under p, and zeros after it; its coefficients are left in a buffer as long as the vector.
-fn put_form(n: usize, vector: &[u8], p: usize, coefficients: &mut [u8], out: &mut [u8]) -> usize
-    requires { ⌜ Vector n (now vector) ⌝ }
-    requires { ⌜ p < 2 ^ n ⌝ }
-    requires { ⌜ length (now coefficients) ≡ 2 ^ n ⌝ }
-    requires { ⌜ length (formList n p (byteAt (now vector))) ≤ cubeCapacity (length (now out)) ⌝ }
-    ensures { λ r. ⌜ BurnedIs (formList n p (byteAt (now (vector .entry)))) (now (out .entry)) (now (out .exit)) r ⌝ }
+// The best polarity of the given list's function, with the truth vector, where there are at most 8 variables.
+pub(crate) fn best_form(n: usize, list: &[u8]) -> BestForm
+    requires { ⌜ Passed (checkList mostVariables n (now list)) ⌝ }
+    ensures { λ r. ⌜ FormIs n (cubesOf (now (list .entry))) r ⌝ }
 {
-    polarity::transform::coefficients(n, vector, p as u64, coefficients);
-    records::clear(out);
-    match polarity::form::write_form(n, coefficients, p as u64, out) {
-        Counted::Count(count) => count,
-        Counted::Refused(_) => 0,
+    let mut vector = [0u8; 256];
+    if cube::value::VECTOR_VARIABLES < n {
+        return BestForm {
+            fixed: Fixed::Absent,
+            vector,
+        };
     }
-}
-
-// The winner's list, and zeros after it.
-pub(crate) fn burn(
-    n: usize,
-    list: &[u8],
-    work: &[u8],
-    count: usize,
-    w: Winner,
-    vector: &[u8],
-    coefficients: &mut [u8],
-    out: &mut [u8],
-) -> usize
-    requires { ⌜ Burnable n count (now list) (now work) (now vector) (now coefficients) (now out) w ⌝ }
-    ensures { λ r. ⌜ BurnedIs (winnerList n (now (vector .entry)) (records cubes count (now (work .entry))) (cubesOf (now (list .entry))) w) (now (out .entry)) (now (out .exit)) r ⌝ }
-{
-    match w {
-        Winner::Script => {
-            let end = cube::list::RECORD_WIDTH * count;
-            records::fill(out, &work[..end]);
-            count
-        }
-        Winner::Given => {
-            records::fill(out, list);
-            list.len() / cube::list::RECORD_WIDTH
-        }
-        Winner::Form(p) => put_form(n, vector, p, coefficients, out),
-    }
+    let size: usize = 1 << n;
+    let fixed = best_of(n, list, &mut vector[..size]);
+    BestForm { fixed, vector }
 }

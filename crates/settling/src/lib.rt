@@ -1,4 +1,5 @@
 // Settling a map: given list plus script in, list to burn out.
+pub mod burn;
 pub mod candidates;
 pub mod settle;
 
@@ -31,9 +32,21 @@ pub enum Settled {
     Refused(Refusal),
 }
 
-// Which candidate is burned.
-pub enum Winner {
+// Where a candidate's list comes from: the script, the caller, or the form of a polarity.
+pub enum Origin {
     Script,
     Given,
     Form(usize),
+}
+
+// A candidate: what the choice goes by, and where its list comes from.
+pub struct Candidate {
+    pub rank: usize,
+    pub origin: Origin,
+}
+
+// The best polarity and its size, and for at most 8 variables the truth vector of which it is the best.
+pub struct BestForm {
+    pub fixed: Fixed,
+    pub vector: [u8; 256],
 }

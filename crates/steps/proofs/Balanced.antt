@@ -3,7 +3,8 @@
 use mathlib.Core.Path.{_≡_, refl, sym, ap, _∙_, subst}
 use mathlib.Core.Bool.{Bool}
 use mathlib.Core.List.{List, map}
-use Prim.Native.Nat.{ℕ, _+_, _<_}
+use Prim.Native.Nat.{ℕ, _+_, _≤_, _<_}
+use native.Mathlib.Nat.{lt-of-lt-of-le}
 use native.Mathlib.Omega.{arith}
 use lib.ListN.{length, getD}
 use Rattle.bits.specs.Sums.{_⊕_, sum, All}
@@ -76,6 +77,25 @@ module _ {A : Type 0} (d : A) (l m : List A) (room i j : ℕ) where
   applied-count (splits x y) p e = omega (arith, ap length (next-same e), length-split-at l i x y)
   applied-count (turns x y) p e = omega (arith, ap length (next-same e), length-turn-at l i j x y)
 
+-- ---- more room, and less asked of what is written
+
+module _ {A : Type 0} where
+  pub placed-more : (count cap room i j : ℕ) (m : Move A) → cap ≤ room → Placed count cap i j m → Placed count room i j m
+  unfolding Placed
+  placed-more count cap room i j (refuse number) h p = p
+  placed-more count cap room i j drops h p = p
+  placed-more count cap room i j (joins y) h p = p
+  placed-more count cap room i j (splits y z) h p = record { inside = p .inside; more = lt-of-lt-of-le (p .more) h }
+  placed-more count cap room i j (turns y z) h p = p
+
+  pub writes-more : (P Q : A → Type 0) → ((x : A) → P x → Q x) → (m : Move A) → Writes P m → Writes Q m
+  unfolding Writes
+  writes-more P Q h (refuse number) w = w
+  writes-more P Q h drops w = w
+  writes-more P Q h (joins y) w = h y w
+  writes-more P Q h (splits y z) w = (h y (w .0), h z (w .1))
+  writes-more P Q h (turns y z) w = (h y (w .0), h z (w .1))
+
 -- ---- sound moves
 
 -- a move at the places i and j, of so many and with so much room, where a and b stand: its places are there, what it writes is fine, and it is balanced
@@ -96,7 +116,7 @@ module _ {A : Type 0} (Fine : A → Type 0) (Fair : (A → Bool) → Type 0) whe
   sound-made d l m room i j x s a e =
       (applied-all d l m room i j Fine x (s .places) (s .good) a e, λ w fair. applied-sum d l m room i j w x (s .places) (s .balanced w fair) e)
 
--- ---- a move of records that carry others
+-- ---- a move of records that carry others: cubes carry cubes moved by an order; and request Nine, whose products carry a cube, waits for the laws of soundness
 
 module _ {A B : Type 0} (f : A → B) where
   abbrev pub mapAfter : After A → After B

@@ -17,7 +17,7 @@ use Rattle.cube.proofs.Apart.{apart-one, Two, apart-two, two-swap}
 use Rattle.orders.specs.Codes.{third}
 use Rattle.orders.proofs.CodeLaws.{third-lt, Permutes}
 use Rattle.steps.specs.Moves.{Move, refuse, joins, turns, applied, mapMove}
-use Rattle.steps.specs.Steps.{Step, drop, join, split, turn, L, cubeAt, thirdAt, twoPlaces, dropped, dropMove, joined, joinMove, turned, turnMove, step}
+use Rattle.steps.specs.Steps.{Step, drop, join, split, turn, L, cubeAt, thirdAt, atTwoPlaces, dropped, dropMove, joined, joinMove, turned, turnMove, step}
 use Rattle.steps.proofs.Linear.{moved, code-moved, code-moved-other, moved-put-same, moved-put-other}
 use Rattle.steps.proofs.Places.{two-tests, get-map}
 use Rattle.steps.proofs.Balanced.{mapAfter, applied-map}
@@ -114,10 +114,10 @@ module _ (σ : ℕ → ℕ) (s : Permutes σ) (u : ℕ) where
   -- the tests for two places, and then what is decided of the cubes there
   two-moved : (l : List Cube) (i j : ℕ) (f : Cube → Cube → Move Cube)
       → ((a b : Cube) → f (moved σ u a) (moved σ u b) ≡ mapMove (moved σ u) (f a b))
-      → twoPlaces (length (map (moved σ u) l)) i j (f (cubeAt (map (moved σ u) l) i) (cubeAt (map (moved σ u) l) j))
-      ≡ mapMove (moved σ u) (twoPlaces (length l) i j (f (cubeAt l i) (cubeAt l j)))
+      → atTwoPlaces (length (map (moved σ u) l)) i j (f (cubeAt (map (moved σ u) l) i) (cubeAt (map (moved σ u) l) j))
+      ≡ mapMove (moved σ u) (atTwoPlaces (length l) i j (f (cubeAt l i) (cubeAt l j)))
   two-moved l i j f h =
-      ap (λ (k : ℕ). twoPlaces k i j (f (cubeAt (map (moved σ u) l) i) (cubeAt (map (moved σ u) l) j))) (length-map l (moved σ u))
+      ap (λ (k : ℕ). atTwoPlaces k i j (f (cubeAt (map (moved σ u) l) i) (cubeAt (map (moved σ u) l) j))) (length-map l (moved σ u))
       ∙ two-tests (length l) i j
       (λ x y. cond x (cond y (refuse 11) (f (cubeAt (map (moved σ u) l) i) (cubeAt (map (moved σ u) l) j))) (refuse 10)
       ≡ mapMove (moved σ u) (cond x (cond y (refuse 11) (f (cubeAt l i) (cubeAt l j))) (refuse 10)))

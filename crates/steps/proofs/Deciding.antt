@@ -25,7 +25,7 @@ use Rattle.orders.specs.Codes.{third, thirdOf, lower, higher}
 use Rattle.orders.proofs.CodeLaws.{third-of-codes}
 use Rattle.steps.specs.declared.Change.the-variants as change-is
 use Rattle.steps.specs.Moves.{Move, refuse, drops, joins, splits, turns}
-use Rattle.steps.specs.Steps.{thirdAt, twoPlaces, dropped, dropMove, joined, joinMove, splitMove, turned, turnMove}
+use Rattle.steps.specs.Steps.{thirdAt, atTwoPlaces, dropped, dropMove, joined, joinMove, splitMove, turned, turnMove}
 use Rattle.steps.specs.Changes.{moveOf, placesNumber}
 use Rattle.steps.proofs.Places.{two-tests}
 
@@ -58,13 +58,13 @@ module _ (count i j : ℕ) where
   places-fine hi hj ne = simp (lt-ltb i count hi, lt-ltb j count hj, ne-eqb i j ne)
 
   module _ {A : Type 0} (p : ℕ) (e : p ≡ placesNumber count i j) (m : Move A) where
-    pub number-refused : (p ≡ 0 → ⊥) → refuse p ≡ twoPlaces count i j m
+    pub number-refused : (p ≡ 0 → ⊥) → refuse p ≡ atTwoPlaces count i j m
     unfolding placesNumber
     number-refused ne =
         two-tests count i j (λ t u. p ≡ cond t (cond u 11 0) 10 → refuse p ≡ cond t (cond u (refuse 11) m) (refuse 10))
         (λ u h q. ap refuse q) (λ h f q. ap refuse q) (λ two q. absurd (ne q)) e
 
-    pub number-passed : p ≡ 0 → m ≡ twoPlaces count i j m
+    pub number-passed : p ≡ 0 → m ≡ atTwoPlaces count i j m
     unfolding placesNumber
     number-passed z =
         two-tests count i j (λ t u. _≡_ {A = ℕ} 0 (cond t (cond u 11 0) 10) → m ≡ cond t (cond u (refuse 11) m) (refuse 10))
@@ -131,12 +131,14 @@ only : (x v u : ℕ) → u < 32 → x ≡ 2 ^ u → v ≡ trailingZeros 32 x →
 only x v u l e f = f ∙ ap (trailingZeros 32) e ∙ lowest-pow u l
 
 pub third-made : (c d r : Cube) (v x y z : ℕ) → x ≡ code c v → y ≡ code d v → z ≡ thirdOf x y → r ≡ withCode c v z
-    → r ≡ withCode c v (third (code c v) (code d v))
+    → r ≡ withCode c v (thirdOf (code c v) (code d v))
 third-made c d r v x y z ex ey ez er =
-    er ∙ ap (withCode c v) (ez ∙ ap₂ thirdOf ex ey ∙ third-of-codes (code c v) (code d v) (code-lt c v) (code-lt d v))
+    er ∙ ap (withCode c v) (ez ∙ ap₂ thirdOf ex ey)
 
-third-put : (c d x : Cube) (v u : ℕ) → u < 32 → v ≡ u → x ≡ withCode c v (third (code c v) (code d v)) → x ≡ thirdAt c d u
-third-put c d x v u l e f = f ∙ ap (λ (w : ℕ). withCode c w (third (code c w) (code d w))) e ∙ with-put c u (third (code c u) (code d u)) l
+third-put : (c d x : Cube) (v u : ℕ) → u < 32 → v ≡ u → code d u ≢ code c u → x ≡ withCode c v (thirdOf (code c v) (code d v)) → x ≡ thirdAt c d u
+third-put c d x v u l e ne f =
+    f ∙ ap (λ (w : ℕ). withCode c w (thirdOf (code c w) (code d w))) e
+    ∙ ap (withCode c u) (third-of-codes (code c u) (code d u) (code-lt c u) (code-lt d u) ne) ∙ with-put c u (third (code c u) (code d u)) l
 
 -- ---- the decisions at two places
 
@@ -154,7 +156,7 @@ module _ (n count i j p : ℕ) (a b : Cube) (e : p ≡ placesNumber count i j) w
   turn-places v ne = number-refused count i j p e (turned a b v (apart n a b)) ne
 
   module _ (z : p ≡ 0) (g : Good n a) (h : Good n b) (s : ℕ) (es : s ≡ differing a b) where
-    passed : {m r : Move Cube} → r ≡ m → r ≡ twoPlaces count i j m
+    passed : {m r : Move Cube} → r ≡ m → r ≡ atTwoPlaces count i j m
     passed {m} {r} f = f ∙ number-passed count i j p e m z
 
     many : (l : List ℕ) → apart n a b ≡ l → length l ≡ ones s
@@ -189,7 +191,7 @@ module _ (n count i j p : ℕ) (a b : Cube) (e : p ≡ placesNumber count i j) w
         go (v ∷ []) el = absurd (ne (sym (many (v ∷ []) el)))
         go (v ∷ u ∷ l) el = refl
 
-    pub join-third : n ≤ mostVariables → ones s ≡ 1 → (v : ℕ) → v ≡ trailingZeros 32 s → (c : Cube) → c ≡ withCode a v (third (code a v) (code b v))
+    pub join-third : n ≤ mostVariables → ones s ≡ 1 → (v : ℕ) → v ≡ trailingZeros 32 s → (c : Cube) → c ≡ withCode a v (thirdOf (code a v) (code b v))
         → moveOf (change-is.Join c) ≡ joinMove n count i j a b
     unfolding moveOf joinMove
     join-third few q v ev c ec = passed (go (apart n a b) refl)
@@ -198,7 +200,7 @@ module _ (n count i j p : ℕ) (a b : Cube) (e : p ≡ placesNumber count i j) w
         go [] el = absurd (omega (arith, many [] el))
         go (u ∷ []) el =
             let l : u < 32 = omega (arith, apart-one n a b u el .0) in
-            ap joins (third-put a b c v u l (only s v u l (es ∙ one-set n a b g h u el) ev) ec)
+            ap joins (third-put a b c v u l (only s v u l (es ∙ one-set n a b g h u el) ev) (apart-one n a b u el .1) ec)
         go (u ∷ w ∷ l) el = absurd (omega (arith, many (u ∷ w ∷ l) el))
 
     -- turn
@@ -231,7 +233,7 @@ module _ (n count i j p : ℕ) (a b : Cube) (e : p ≡ placesNumber count i j) w
           go (p ∷ q ∷ r ∷ l) el = refl
 
       pub turn-both : n ≤ mostVariables → ones s ≡ 2 → (t : ℕ) → t ≡ bit s v → (t ≡ 0 → ⊥) → (m : ℕ) → m ≡ 2 ^ v → (u : ℕ) → u ≡ trailingZeros 32 (bitXor s m)
-          → (c d : Cube) → c ≡ withCode a v (third (code a v) (code b v)) → d ≡ withCode b u (third (code b u) (code a u))
+          → (c d : Cube) → c ≡ withCode a v (thirdOf (code a v) (code b v)) → d ≡ withCode b u (thirdOf (code b u) (code a u))
           → moveOf (change-is.Turn c d) ≡ turnMove n count v i j a b
       unfolding moveOf turnMove
       turn-both few two t et ne m em u eu c d ec ed = passed (go (apart n a b) refl)
@@ -241,7 +243,7 @@ module _ (n count i j p : ℕ) (a b : Cube) (e : p ≡ placesNumber count i j) w
               let lp : p < 32 = omega (arith, w .p-lt) in
               let lq : q < 32 = omega (arith, w .q-lt) in
               let rest : bitXor s m ≡ 2 ^ q = ap₂ bitXor es (em ∙ ap (λ (k : ℕ). 2 ^ k) e) ∙ other-set n a b g h p q w in
-              ap₂ turns (third-put a b c v p lp e ec) (third-put b a d u q lq (only (bitXor s m) u q lq rest eu) ed)
+              ap₂ turns (third-put a b c v p lp e (w .at-p) ec) (third-put b a d u q lq (only (bitXor s m) u q lq rest eu) (λ z. w .at-q (sym z)) ed)
 
           pick : (p q : ℕ) → Two n a b p q → Dec (v ≡ p) → Dec (v ≡ q) → turns c d ≡ turned a b v (p ∷ q ∷ [])
           pick p q w (yes e) y = made p q w e ∙ sym (simp (eq-eqb v p e))

@@ -1,14 +1,55 @@
 -- Two outcomes that satisfy the contract of a public function of this crate are equal.
 -- Assumes nothing.
-use mathlib.Core.Path.{refl, ap}
+use mathlib.Core.Path.{_≡_, refl, ap}
 use mathlib.Core.List.{List}
 use Prim.Native.Nat.{ℕ}
 use Rattle.bits.specs.Outcomes.{Determined}
-use Rattle.bits.proofs.Determined.{same}
+use Rattle.bits.proofs.Determined.{same, same-told}
+use Rattle.cube.specs.declared.Cube.{Cube}
+use Rattle.steps.specs.declared.Change.{Change}
+use Rattle.steps.specs.declared.Change.the-variants as change-is
+use Rattle.steps.specs.Moves.{Move, refuse, drops, joins, splits, turns}
+use Rattle.steps.specs.Changes.{moveOf}
+use Rattle.steps.proofs.decide.two_places.Kinds as two-places-kinds
+use Rattle.steps.proofs.decide.two_places.Reads as two-places-reads
+use Rattle.steps.proofs.decide.decide.Kinds as decide-kinds
+use Rattle.steps.proofs.decide.decide.Reads as decide-reads
+use Rattle.steps.proofs.perform.smaller.Kinds as smaller-kinds
+use Rattle.steps.proofs.perform.smaller.Reads as smaller-reads
+use Rattle.steps.proofs.perform.larger.Kinds as larger-kinds
+use Rattle.steps.proofs.perform.larger.Reads as larger-reads
 use Rattle.steps.proofs.reorder.reorder.Kinds as reorder-kinds
 use Rattle.steps.proofs.reorder.reorder.Reads as reorder-reads
 use Rattle.steps.proofs.step.do_step.Kinds as do-step-kinds
 use Rattle.steps.proofs.step.do_step.Reads as do-step-reads
+
+-- the change that a move is, read back
+changeOf : Move Cube → Change
+changeOf (refuse number) = change-is.Refuse number
+changeOf drops = change-is.Drop
+changeOf (joins c) = change-is.Join c
+changeOf (splits c d) = change-is.Split c d
+changeOf (turns c d) = change-is.Turn c d
+
+change-known : (change : Change) → changeOf (moveOf change) ≡ change
+unfolding changeOf moveOf
+change-known (change-is.Refuse number) = refl
+change-known change-is.Drop = refl
+change-known (change-is.Join c) = refl
+change-known (change-is.Split c d) = refl
+change-known (change-is.Turn c d) = refl
+
+pub two-places-determined : Determined 0 two-places-kinds.ps two-places-kinds.r two-places-reads.Learnt
+two-places-determined κs a z z′ ws ws′ p q = (same p q, refl)
+
+pub decide-determined : Determined 0 decide-kinds.ps decide-kinds.r decide-reads.Learnt
+decide-determined κs a z z′ ws ws′ p q = (same-told moveOf changeOf change-known (p .is) (q .is), refl)
+
+pub smaller-determined : Determined 0 smaller-kinds.ps smaller-kinds.r smaller-reads.Learnt
+smaller-determined κs a z z′ ws ws′ p q = (same p q, refl)
+
+pub larger-determined : Determined 0 larger-kinds.ps larger-kinds.r larger-reads.Learnt
+larger-determined κs a z z′ ws ws′ p q = (same p q, refl)
 
 pub reorder-determined : Determined 1 reorder-kinds.ps reorder-kinds.r reorder-reads.Learnt
 reorder-determined κs a z z′ ws ws′ p q = (refl, ap (λ (b : List ℕ). (b, (tt, (tt, (tt, tt))))) (same p q))

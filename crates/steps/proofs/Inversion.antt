@@ -17,51 +17,11 @@ use Rattle.cube.proofs.Apart.{apart-none, Two, apart-two, two-swap}
 use Rattle.cube.proofs.ListLaws.{good-at}
 use Rattle.orders.specs.Codes.{lower, higher}
 use Rattle.steps.specs.Moves.{Move, refuse, drops, joins, splits, turns, stop, next, applied, dropAt, joinAt, splitAt, turnAt}
-use Rattle.steps.specs.Steps.{Step, drop, join, split, turn, L, cubeAt, thirdAt, twoPlaces, dropped, dropMove, joined, joinMove, splitMove, turned, turnMove, exchanged, step}
-use Rattle.steps.specs.Changes.{TwoPlaces, OnePlace}
+use Rattle.steps.specs.Steps.{Step, drop, join, split, turn, L, cubeAt, thirdAt, atTwoPlaces, dropped, dropMove, joined, joinMove, splitMove, turned, turnMove, exchanged, step}
+use Rattle.steps.specs.Effects.{TwoPlaces, DropDone, JoinDone, SplitDone, TurnDone, TwoRefused, outside, same, unfit, SplitRefused, full}
+use Rattle.steps.specs.Changes.{OnePlace}
 use Rattle.steps.proofs.Places.{two-tests, one-tests}
 use Rattle.steps.proofs.Balanced.{next-same, stop-same, not-stopped}
-
--- ---- accepted
-
--- drop: two places with equal cubes; both are removed
-pub record Dropped (n i j : ℕ) (l m : List Cube) : Type 0 where
-  pub places : TwoPlaces (length l) i j
-  pub differ : apart n (cubeAt l i) (cubeAt l j) ≡ []
-  pub list : m ≡ dropAt one l i j
-
--- join: two places whose cubes differ in v alone; i gets the third there, and j is removed
-pub record Joined (n i j : ℕ) (l m : List Cube) : Type 0 where
-  pub places : TwoPlaces (length l) i j
-  pub v : ℕ
-  pub differ : apart n (cubeAt l i) (cubeAt l j) ≡ v ∷ []
-  pub list : m ≡ joinAt one l i j (thirdAt (cubeAt l i) (cubeAt l j) v)
-
--- split: a place, and room for one more; the lower of the codes that i does not have at v stays, the higher is appended
-pub record Split (cap v i : ℕ) (l m : List Cube) : Type 0 where
-  pub place : i < length l
-  pub room : length l < cap
-  pub list : m ≡ splitAt l i (put (cubeAt l i) v (lower (code (cubeAt l i) v))) (put (cubeAt l i) v (higher (code (cubeAt l i) v)))
-
--- turn: two places whose cubes differ in v and u alone; i gets the third at v, j the third at u
-pub record Turned (n v i j : ℕ) (l m : List Cube) : Type 0 where
-  pub places : TwoPlaces (length l) i j
-  pub u : ℕ
-  pub differ : (apart n (cubeAt l i) (cubeAt l j) ≡ v ∷ u ∷ []) ⊎ (apart n (cubeAt l i) (cubeAt l j) ≡ u ∷ v ∷ [])
-  pub list : m ≡ turnAt l i j (thirdAt (cubeAt l i) (cubeAt l j) v) (thirdAt (cubeAt l j) (cubeAt l i) u)
-
--- ---- refused
-
--- a step with two cubes is refused by 10, 11 or 12; `Unfit` says that the cubes are not as it needs
-pub data TwoRefused (count i j : ℕ) (Unfit : Type 0) : ℕ → Type 0 where
-  outside : (count ≤ i) ⊎ (count ≤ j) → TwoRefused count i j Unfit 10
-  same : i < count → i ≡ j → TwoRefused count i j Unfit 11
-  unfit : TwoPlaces count i j → Unfit → TwoRefused count i j Unfit 12
-
--- a split is refused by 10 or 13
-pub data SplitRefused (count cap i : ℕ) : ℕ → Type 0 where
-  outside : count ≤ i → SplitRefused count cap i 10
-  full : i < count → cap ≤ count → SplitRefused count cap i 13
 
 cons-nil : {A : Type 0} {x : A} {l : List A} → x ∷ l ≡ [] → ⊥
 cons-nil e = let z : _≡_ {A = ℕ} 0 1 = cc in omega arith
@@ -76,11 +36,11 @@ head-same e = cc
 
 module _ (count i j : ℕ) where
   -- two places pass their tests
-  pub two-passed : {A : Type 0} (x : Move A) → TwoPlaces count i j → twoPlaces count i j x ≡ x
+  pub two-passed : {A : Type 0} (x : Move A) → TwoPlaces count i j → atTwoPlaces count i j x ≡ x
   two-passed x p = simp (lt-ltb i count (p .first), lt-ltb j count (p .second), ne-eqb i j (p .unlike))
 
   pub two-by : {A : Type 0} (P : Move A → Type 0) (Unfit : Type 0) (x : Move A)
-      → ((r : ℕ) → TwoRefused count i j Unfit r → P (refuse r)) → (TwoPlaces count i j → P x) → P (twoPlaces count i j x)
+      → ((r : ℕ) → TwoRefused count i j Unfit r → P (refuse r)) → (TwoPlaces count i j → P x) → P (atTwoPlaces count i j x)
   two-by P U x stops goes =
       two-tests count i j (λ s t. P (cond s (cond t (refuse 11) x) (refuse 10))) (λ u h. stops 10 (outside h)) (λ h e. stops 11 (same h e)) goes
 
@@ -167,13 +127,13 @@ module _ (n cap i j : ℕ) (l : List Cube) where
   abbrev b : Cube
   b = cubeAt l j
 
-  pub drop-accepted : (m : List Cube) → step n cap (drop i j) l ≡ next m → Dropped n i j l m
+  pub drop-accepted : (m : List Cube) → step n cap (drop i j) l ≡ next m → DropDone n i j l m
   unfolding step applied
   drop-accepted m =
-      drop-by (length l) i j (Next i j l m (Dropped n i j l m)) n a b (λ r t e. absurd (not-stopped e))
+      drop-by (length l) i j (Next i j l m (DropDone n i j l m)) n a b (λ r t e. absurd (not-stopped e))
       (λ p f e. record { places = p; differ = f; list = sym (next-same e) })
 
-  pub drop-accepts : (m : List Cube) → Dropped n i j l m → step n cap (drop i j) l ≡ next m
+  pub drop-accepts : (m : List Cube) → DropDone n i j l m → step n cap (drop i j) l ≡ next m
   unfolding step dropMove applied
   drop-accepts m r = ap (applied one i j l) (two-passed (length l) i j (dropped (apart n a b)) (r .places) ∙ ap dropped (r .differ)) ∙ ap next (sym (r .list))
 
@@ -183,13 +143,13 @@ module _ (n cap i j : ℕ) (l : List Cube) where
       drop-by (length l) i j (Stop i j l r (TwoRefused (length l) i j (apart n a b ≢ []) r)) n a b
       (λ k t e. subst (TwoRefused (length l) i j (apart n a b ≢ [])) (stop-same {A = Cube} e) t) (λ p f e. absurd (not-stopped (sym e)))
 
-  pub join-accepted : (m : List Cube) → step n cap (join i j) l ≡ next m → Joined n i j l m
+  pub join-accepted : (m : List Cube) → step n cap (join i j) l ≡ next m → JoinDone n i j l m
   unfolding step applied
   join-accepted m =
-      join-by (length l) i j (Next i j l m (Joined n i j l m)) n a b (λ r t e. absurd (not-stopped e))
+      join-by (length l) i j (Next i j l m (JoinDone n i j l m)) n a b (λ r t e. absurd (not-stopped e))
       (λ p v f e. record { places = p; v = v; differ = f; list = sym (next-same e) })
 
-  pub join-accepts : (m : List Cube) → Joined n i j l m → step n cap (join i j) l ≡ next m
+  pub join-accepts : (m : List Cube) → JoinDone n i j l m → step n cap (join i j) l ≡ next m
   unfolding step joinMove applied
   join-accepts m r =
       ap (applied one i j l) (two-passed (length l) i j (joined a b (apart n a b)) (r .places) ∙ ap (joined a b) (r .differ)) ∙ ap next (sym (r .list))
@@ -207,13 +167,13 @@ module _ (n cap v i j : ℕ) (l : List Cube) where
   abbrev d : Cube
   d = cubeAt l j
 
-  pub turn-accepted : (m : List Cube) → step n cap (turn v i j) l ≡ next m → Turned n v i j l m
+  pub turn-accepted : (m : List Cube) → step n cap (turn v i j) l ≡ next m → TurnDone n v i j l m
   unfolding step applied
   turn-accepted m =
-      turn-by (length l) i j (Next i j l m (Turned n v i j l m)) n c d v (λ r t e. absurd (not-stopped e))
+      turn-by (length l) i j (Next i j l m (TurnDone n v i j l m)) n c d v (λ r t e. absurd (not-stopped e))
       (λ p u f e. record { places = p; u = u; differ = f; list = sym (next-same e) })
 
-  pub turn-accepts : (m : List Cube) → Turned n v i j l m → step n cap (turn v i j) l ≡ next m
+  pub turn-accepts : (m : List Cube) → TurnDone n v i j l m → step n cap (turn v i j) l ≡ next m
   unfolding step turnMove applied
   turn-accepts m r =
       ap (applied one i j l) (two-passed (length l) i j (turned c d v (apart n c d)) (r .places) ∙ turned-made n c d v (r .u) (r .differ))
@@ -228,17 +188,17 @@ module _ (n cap v i j : ℕ) (l : List Cube) where
       (λ p u f e. absurd (not-stopped (sym e)))
 
   -- the cubes differ in v and u alone
-  pub turn-two : (m : List Cube) (t : Turned n v i j l m) → Two n (cubeAt l i) (cubeAt l j) v (t .u)
+  pub turn-two : (m : List Cube) (t : TurnDone n v i j l m) → Two n (cubeAt l i) (cubeAt l j) v (t .u)
   turn-two m t = two-of n c d v (t .u) (t .differ)
 
 module _ (n cap v i : ℕ) (l : List Cube) where
-  pub split-accepted : (m : List Cube) → step n cap (split v i) l ≡ next m → Split cap v i l m
+  pub split-accepted : (m : List Cube) → step n cap (split v i) l ≡ next m → SplitDone cap v i l m
   unfolding step applied
   split-accepted m =
-      split-by (length l) cap v i (Next i 0 l m (Split cap v i l m)) (cubeAt l i) (λ r t e. absurd (not-stopped e))
+      split-by (length l) cap v i (Next i 0 l m (SplitDone cap v i l m)) (cubeAt l i) (λ r t e. absurd (not-stopped e))
       (λ p e. record { place = p .inside; room = p .more; list = sym (next-same e) })
 
-  pub split-accepts : (m : List Cube) → Split cap v i l m → step n cap (split v i) l ≡ next m
+  pub split-accepts : (m : List Cube) → SplitDone cap v i l m → step n cap (split v i) l ≡ next m
   unfolding step splitMove applied
   split-accepts m r = simp (lt-ltb i (length l) (r .place), lt-ltb (length l) cap (r .room)) (ap next (sym (r .list)))
 
@@ -275,6 +235,6 @@ step-refused n cap (L v b) l r e = absurd (not-stopped (sym e ∙ L-accepted n c
 -- ---- what good cubes add
 
 -- cubes that are dropped are equal
-pub drop-equal : (n i j : ℕ) (l m : List Cube) → All (Good n) l → Dropped n i j l m → cubeAt l i ≡ cubeAt l j
+pub drop-equal : (n i j : ℕ) (l m : List Cube) → All (Good n) l → DropDone n i j l m → cubeAt l i ≡ cubeAt l j
 drop-equal n i j l m a r =
     cube-ext n (cubeAt l i) (cubeAt l j) (good-at n l a i) (good-at n l a j) (apart-none n (cubeAt l i) (cubeAt l j) (r .differ))

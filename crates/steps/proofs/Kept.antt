@@ -14,7 +14,8 @@ use Rattle.cube.specs.Cubes.{one, Good, holds}
 use Rattle.cube.specs.Lists.{trues, listValue}
 use Rattle.cube.proofs.ListLaws.{good-at}
 use Rattle.steps.specs.Moves.{Move, drops, joins, splits, turns, next, applied}
-use Rattle.steps.specs.Steps.{Step, drop, join, split, turn, L, Fits, cubeAt, thirdAt, exchanged, step, isSplit, isJoin, isDrop}
+use Rattle.steps.specs.Steps.{Step, drop, join, split, turn, L, Allowed, cubeAt, thirdAt, exchanged, step, isSplit, isJoin, isDrop}
+use Rattle.steps.specs.Effects.{IsRewrite}
 use Rattle.steps.specs.Changes.{Placed}
 use Rattle.steps.proofs.Linear.{Linear, holds-linear, exchanged-good, exchanged-linear, exchanged-list-twice}
 use Rattle.steps.proofs.Balanced.{next-same, applied-count, sound-made}
@@ -30,14 +31,14 @@ takenBack (split v i) c = c
 takenBack (turn v i j) c = c
 takenBack (L v b) c = exchanged v b c
 
-pub taken-back-good : (n : ℕ) (x : Step) → Fits n x → (c : Cube) → Good n c → Good n (takenBack x c)
+pub taken-back-good : (n : ℕ) (x : Step) → Allowed n x → (c : Cube) → Good n c → Good n (takenBack x c)
 taken-back-good n (drop i j) h c g = g
 taken-back-good n (join i j) h c g = g
 taken-back-good n (split v i) h c g = g
 taken-back-good n (turn v i j) h c g = g
 taken-back-good n (L v b) h c g = exchanged-good n v b (h .0) (h .1) c g
 
-pub taken-back-linear : (n : ℕ) (x : Step) → Fits n x → (w : Cube → Bool) → Linear n w → Linear n (λ c. w (takenBack x c))
+pub taken-back-linear : (n : ℕ) (x : Step) → Allowed n x → (w : Cube → Bool) → Linear n w → Linear n (λ c. w (takenBack x c))
 taken-back-linear n (drop i j) h w lin = lin
 taken-back-linear n (join i j) h w lin = lin
 taken-back-linear n (split v i) h w lin = lin
@@ -49,7 +50,6 @@ taken-back-linear n (L v b) h w lin = exchanged-linear n v b (h .0) (h .1) w lin
 pub record Kept (n : ℕ) (x : Step) (l m : List Cube) : Type 0 where
   pub good : All (Good n) m
   pub sums : (w : Cube → Bool) → Linear n w → sum (λ c. w (takenBack x c)) m ≡ sum w l
-  pub count : length m + isJoin x + 2 * isDrop x ≡ length l + isSplit x
 
 pub step-count : (n cap : ℕ) (x : Step) (l m : List Cube) → step n cap x l ≡ next m → length m + isJoin x + 2 * isDrop x ≡ length l + isSplit x
 unfolding step applied Placed
@@ -68,27 +68,26 @@ step-count n cap (turn v i j) l m e =
 step-count n cap (L v b) l m e = omega (arith, ap length (next-same e), length-map l (exchanged v b))
 
 module _ (n cap : ℕ) (l m : List Cube) (a : All (Good n) l) where
-  pub step-kept : (x : Step) → Fits n x → step n cap x l ≡ next m → Kept n x l m
+  pub step-kept : (x : Step) → Allowed n x → step n cap x l ≡ next m → Kept n x l m
   unfolding step
   step-kept (drop i j) h e =
       let t = sound-made (Good n) (Linear n) one l m cap i j _ (drop-sound n (length l) cap i j (cubeAt l i) (cubeAt l j) (good-at n l a i) (good-at n l a j)) a e in
-      record { good = t .0; sums = t .1; count = step-count n cap (drop i j) l m e }
+      record { good = t .0; sums = t .1 }
   step-kept (join i j) h e =
       let t = sound-made (Good n) (Linear n) one l m cap i j _ (join-sound n (length l) cap i j (cubeAt l i) (cubeAt l j) (good-at n l a i) (good-at n l a j)) a e in
-      record { good = t .0; sums = t .1; count = step-count n cap (join i j) l m e }
+      record { good = t .0; sums = t .1 }
   step-kept (split v i) h e =
       let t = sound-made (Good n) (Linear n) one l m cap i 0 _ (split-sound n (length l) cap i 0 (cubeAt l i) (cubeAt l 0) v (good-at n l a i) h) a e in
-      record { good = t .0; sums = t .1; count = step-count n cap (split v i) l m e }
+      record { good = t .0; sums = t .1 }
   step-kept (turn v i j) h e =
       let t = sound-made (Good n) (Linear n) one l m cap i j _ (turn-sound n (length l) cap i j (cubeAt l i) (cubeAt l j) (good-at n l a i) (good-at n l a j) v) a e in
-      record { good = t .0; sums = t .1; count = step-count n cap (turn v i j) l m e }
+      record { good = t .0; sums = t .1 }
   step-kept (L v b) h e = record {
     good = subst (All (Good n)) (next-same e) (all-map (Good n) (Good n) (exchanged v b) (exchanged-good n v b (h .0) (h .1)) l a);
     sums = λ w lin.
         ap (sum (λ c. w (exchanged v b c))) (sym (next-same e))
         ∙ sym (sum-map w (exchanged v b) (map (exchanged v b) l))
         ∙ ap (sum w) (exchanged-list-twice n v b (h .0) (h .1) l a);
-    count = step-count n cap (L v b) l m e;
   }
 
 -- ---- values
@@ -102,15 +101,8 @@ pub sum-of-value : (n : ℕ) (l m : List Cube) (a : ℕ) → listValue n m a ≡
 unfolding listValue trues
 sum-of-value n l m a e = one-injective _ _ (sym (tally-sum (λ c. holds n c a) m) ∙ e ∙ tally-sum (λ c. holds n c a) l)
 
--- drop, join, split and turn: the steps that keep the function
-abbrev pub IsRewrite : Step → Type 0
-IsRewrite (drop i j) = Unit {0}
-IsRewrite (join i j) = Unit {0}
-IsRewrite (split v i) = Unit {0}
-IsRewrite (turn v i j) = Unit {0}
-IsRewrite (L v b) = ⊥
-
-pub rewrite-value : (n cap : ℕ) (x : Step) → IsRewrite x → Fits n x → (l m : List Cube) → All (Good n) l → step n cap x l ≡ next m
+-- a rewrite keeps the function
+pub rewrite-value : (n cap : ℕ) (x : Step) → IsRewrite x → Allowed n x → (l m : List Cube) → All (Good n) l → step n cap x l ≡ next m
     → (a : ℕ) → listValue n m a ≡ listValue n l a
 rewrite-value n cap x r h l m g e a = value-of-sum n l m a (go x r (step-kept n cap l m g x h e .sums (λ c. holds n c a) (holds-linear n a)))
   where

@@ -11,7 +11,5 @@ pub mod Commute
 pub mod Deciding
 pub mod Making
 pub mod Performing
-pub mod Masks
-pub mod Reordering
 pub mod Stepping
 pub mod Determined

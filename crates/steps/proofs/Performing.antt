@@ -3,24 +3,23 @@
 use mathlib.Core.Path.{_≡_, refl, sym, ap, ap₂, _∙_, subst}
 use mathlib.Core.List.{List, [], _∷_, _++_}
 use Prim.Native.Nat.{ℕ, suc, _+_, _-_, _*_, _/_, _≤_, _<_, max, min}
-use native.Mathlib.Nat.{le-trans, mul-le-mul-left, mul-suc, mod-eq-of-lt}
-use native.Mathlib.Decide.{decLt}
+use native.Mathlib.Nat.{le-trans, mul-le-mul-left, mul-suc}
 use native.Mathlib.Omega.{arith}
 use lib.ListN.{length, getD, set, length-set, List·getD-eq-default}
 use Rattle.records.specs.Places.{removeAt}
 use Rattle.records.specs.Records.{Codec, stored, records, listOf, image, Holds, Held}
-use Rattle.records.specs.Words.{wordAt, wordSize}
 use Rattle.records.proofs.Images.{length-image, length-remove}
-use Rattle.records.proofs.Holding.{Lawful, length-records, getD-records, list-at, list-past, length-stored, place-room, held-fits, held-place, holds-store, holds-push, holds-remove, holds-held, holds-records, image-holds}
+use Rattle.records.proofs.Holding.{Lawful, length-records, getD-records, list-at, length-stored, place-room, held-fits, held-place, holds-store, holds-push, holds-remove, holds-held, holds-records, image-holds}
 use Rattle.cube.specs.declared.Cube.{Cube}
 use Rattle.cube.specs.Cubes.{one}
-use Rattle.cube.specs.Lists.{cubes, cubesOf, narrow, recordWidth}
+use Rattle.cube.specs.Lists.{cubes, narrow, recordWidth}
 use Rattle.cube.proofs.ListLaws.{lawful}
 use Rattle.steps.specs.declared.Change.{Change}
 use Rattle.steps.specs.declared.Change.the-variants as change-is
 use Rattle.steps.specs.declared.Stepped.the-variants as stepped-is
-use Rattle.steps.specs.Moves.{After, next, applied, dropAt, joinAt, splitAt, turnAt}
-use Rattle.steps.specs.Changes.{moveOf, TwoPlaces, OnePlace, Placed, Writes, Narrow, Done}
+use Rattle.steps.specs.Moves.{Move, refuse, drops, joins, splits, turns, After, next, applied, dropAt, joinAt, splitAt, turnAt}
+use Rattle.steps.specs.Effects.{TwoPlaces}
+use Rattle.steps.specs.Changes.{moveOf, OnePlace, Placed, Writes, Narrow, DoneBy}
 use Rattle.steps.proofs.Places.{length-drop-at, length-join-at, length-split-at, length-turn-at}
 
 -- ---- a place looked at
@@ -140,128 +139,130 @@ module _ {A : Type 0} (C : Codec A) (K : Lawful C) where
         (stored-long k j b₁ b₂ y h₁ (p .second) e₂ ∙ stored-long k i b b₁ x h (p .first) e₁)
         (subst (λ (l : List A). Holds C b₂ (set l j y)) (stored-records k i b b₁ x h (p .first) e₁) (stored-holds k j b₁ b₂ y h₁ (p .second) e₂))
 
+-- ---- what the places of a move say, and what it writes
+
+module _ {A : Type 0} (k room i j : ℕ) (m : Move A) (p : Placed k room i j m) where
+  pub drop-in : m ≡ drops → TwoPlaces k i j
+  unfolding Placed
+  drop-in e = subst (Placed k room i j) e p
+
+  pub join-in : (x : A) → m ≡ joins x → TwoPlaces k i j
+  unfolding Placed
+  join-in x e = subst (Placed k room i j) e p
+
+  pub split-in : (x y : A) → m ≡ splits x y → OnePlace k room i
+  unfolding Placed
+  split-in x y e = subst (Placed k room i j) e p
+
+  pub turn-in : (x y : A) → m ≡ turns x y → TwoPlaces k i j
+  unfolding Placed
+  turn-in x y e = subst (Placed k room i j) e p
+
+module _ {A : Type 0} (P : A → Type 0) (m : Move A) (w : Writes P m) where
+  join-writes : (x : A) → m ≡ joins x → P x
+  unfolding Writes
+  join-writes x e = subst (Writes P) e w
+
+  split-writes : (x y : A) → m ≡ splits x y → P x × P y
+  unfolding Writes
+  split-writes x y e = subst (Writes P) e w
+
+  turn-writes : (x y : A) → m ≡ turns x y → P x × P y
+  unfolding Writes
+  turn-writes x y e = subst (Writes P) e w
+
+-- ---- a move m made to the k records of a buffer b, return by return; of each record that is stored, all of it fits
+
+module _ {A : Type 0} (C : Codec A) (K : Lawful C) (k i j : ℕ) (b : List ℕ) (m : Move A) where
+  made-next : (b′ : List ℕ) (l : List A) (count : ℕ) → applied (C .none) i j (records C k b) m ≡ next l → b′ ≡ image C (length b) l → length l ≡ count
+      → DoneBy C b b′ (applied (C .none) i j (records C k b) m) (stepped-is.Count count)
+  made-next b′ l count p q r = subst (λ (e : After A). DoneBy C b b′ e (stepped-is.Count count)) (sym p) (record { answer = ap stepped-is.Count (sym r); buffer = q })
+
+  pub made-refuse : (number : ℕ) → m ≡ refuse number → DoneBy C b b (applied (C .none) i j (records C k b) m) (stepped-is.Refused number)
+  unfolding applied
+  made-refuse number e =
+      subst (λ (t : Move A). DoneBy C b b (applied (C .none) i j (records C k b) t) (stepped-is.Refused number)) (sym e) (record { answer = refl; buffer = refl })
+
+  pub made-drop : m ≡ drops → Held C k b → (hi lo : ℕ) → hi ≡ max i j → lo ≡ min i j
+      → (b₁ b₂ : List ℕ) → b₁ ≡ image C (length b) (removeAt (C .none) (records C k b) hi) → b₂ ≡ image C (length b₁) (removeAt (C .none) (records C (k - 1) b₁) lo)
+      → DoneBy C b b₂ (applied (C .none) i j (records C k b) m) (stepped-is.Count (k - 2))
+  unfolding applied
+  made-drop e h hi lo ehi elo b₁ b₂ e₁ e₂ =
+      made-next b₂ (dropAt (C .none) (records C k b) i j) (k - 2) (ap (applied (C .none) i j (records C k b)) e)
+      (dropped-image C K k i j b h hi lo ehi elo b₁ b₂ e₁ e₂)
+      (length-drop-at (C .none) (records C k b) i j ∙ ap (λ (n : ℕ). n - 2) (length-records C k b))
+
+  module _ (Fit : A → Type 0) (fit : A → A) (fits : (x : A) → Fit x → fit x ≡ x) (p : Placed k (length b / C .width) i j m) (w : Writes Fit m) where
+    pub held-join : (x : A) → m ≡ joins x → Held C k b → (b₁ : List ℕ) → b₁ ≡ stored C b i (fit x) → Held C k b₁
+    held-join x e h b₁ e₁ = stored-held C K k i b b₁ (fit x) h (join-in k (length b / C .width) i j m p x e .first) e₁
+
+    pub made-join : (x : A) → m ≡ joins x → Held C k b → (b₁ b₂ : List ℕ) → b₁ ≡ stored C b i (fit x)
+        → b₂ ≡ image C (length b₁) (removeAt (C .none) (records C k b₁) j) → DoneBy C b b₂ (applied (C .none) i j (records C k b) m) (stepped-is.Count (k - 1))
+    unfolding applied
+    made-join x e h b₁ b₂ e₁ e₂ =
+        made-next b₂ (joinAt (C .none) (records C k b) i j x) (k - 1) (ap (applied (C .none) i j (records C k b)) e)
+        (joined-image C K k i j b h (join-in k (length b / C .width) i j m p x e .first) x b₁ b₂
+        (e₁ ∙ ap (stored C b i) (fits x (join-writes Fit m w x e))) e₂)
+        (length-join-at (C .none) (records C k b) i j x ∙ ap (λ (n : ℕ). n - 1) (length-records C k b))
+
+    pub made-split : (x y : A) → m ≡ splits x y → Held C k b → (b₁ b₂ : List ℕ) → b₁ ≡ stored C b i (fit x) → b₂ ≡ stored C b₁ k (fit y)
+        → DoneBy C b b₂ (applied (C .none) i j (records C k b) m) (stepped-is.Count (k + 1))
+    unfolding applied
+    made-split x y e h b₁ b₂ e₁ e₂ =
+        let all = split-writes Fit m w x y e in
+        made-next b₂ (splitAt (records C k b) i x y) (k + 1) (ap (applied (C .none) i j (records C k b)) e)
+        (split-image C K k i j b h (split-in k (length b / C .width) i j m p x y e) x y b₁ b₂ (e₁ ∙ ap (stored C b i) (fits x (all .0))) (e₂ ∙ ap (stored C b₁ k) (fits y (all .1))))
+        (length-split-at (records C k b) i x y ∙ ap (λ (n : ℕ). n + 1) (length-records C k b))
+
+    pub made-turn : (x y : A) → m ≡ turns x y → Held C k b → (b₁ b₂ : List ℕ) → b₁ ≡ stored C b i (fit x) → b₂ ≡ stored C b₁ j (fit y)
+        → DoneBy C b b₂ (applied (C .none) i j (records C k b) m) (stepped-is.Count k)
+    unfolding applied
+    made-turn x y e h b₁ b₂ e₁ e₂ =
+        let all = turn-writes Fit m w x y e in
+        made-next b₂ (turnAt (records C k b) i j x y) k (ap (applied (C .none) i j (records C k b)) e)
+        (turned-image C K k i j b h (turn-in k (length b / C .width) i j m p x y e) x y b₁ b₂ (e₁ ∙ ap (stored C b i) (fits x (all .0))) (e₂ ∙ ap (stored C b₁ j) (fits y (all .1))))
+        (length-turn-at (records C k b) i j x y ∙ length-records C k b)
+
 -- ---- cubes in the work buffer
 
--- what is read from bytes fits its record
-pub narrow-read : (b : List ℕ) (i : ℕ) (c : Cube) → ((k : ℕ) → getD b k 0 < 256) → c ≡ getD (cubesOf b) i one → narrow c ≡ c
-narrow-read b i c small e = subst (λ (t : Cube). narrow t ≡ t) (sym e) (go (decLt i (length b / recordWidth)))
-  where
-    word-lt : (p : ℕ) → wordAt b p < wordSize
-    word-lt p = omega (arith, small p, small (p + 1))
+pub narrow-fits : (c : Cube) → Narrow c → narrow c ≡ c
+unfolding Narrow
+narrow-fits c h = h
 
-    go : Dec (i < length b / recordWidth) → narrow (getD (cubesOf b) i one) ≡ getD (cubesOf b) i one
-    go (yes l) =
-        rw (list-at cubes b i one l)
-        (λ k. record { seen = mod-eq-of-lt (word-lt (recordWidth * i)) k; value = mod-eq-of-lt (word-lt (recordWidth * i + 2)) k })
-    go (no l) = rw (list-past cubes b i one (omega arith)) refl
+-- a change of cubes, as a move
+module _ (change : Change) where
+  pub refuse-move : (number : ℕ) → change ≡ change-is.Refuse number → moveOf change ≡ refuse number
+  unfolding moveOf
+  refuse-move number e = ap moveOf e
 
--- an accepted step
-done-next : (b b′ : List ℕ) (e : After Cube) (l : List Cube) (k : ℕ) → e ≡ next l → b′ ≡ image cubes (length b) l → length l ≡ k → Done b b′ e (stepped-is.Count k)
-done-next b b′ e l k p q r =
-    subst (λ (f : After Cube). Done b b′ f (stepped-is.Count k)) (sym p) (record { answer = ap stepped-is.Count (sym r); buffer = q })
+  pub drop-move : change ≡ change-is.Drop → moveOf change ≡ drops
+  unfolding moveOf
+  drop-move e = ap moveOf e
 
-module _ (k i j : ℕ) (b : List ℕ) (change : Change) where
-  abbrev after : Change → After Cube
-  after t = applied one i j (records cubes k b) (moveOf t)
+  pub join-move : (c : Cube) → change ≡ change-is.Join c → moveOf change ≡ joins c
+  unfolding moveOf
+  join-move c e = ap moveOf e
 
-  pub perform-refuse : (number : ℕ) → change ≡ change-is.Refuse number → Done b b (after change) (stepped-is.Refused number)
-  unfolding moveOf applied
-  perform-refuse number e =
-      subst (λ (t : Change). Done b b (after t) (stepped-is.Refused number)) (sym e) (record { answer = refl; buffer = refl })
+  pub split-move : (c d : Cube) → change ≡ change-is.Split c d → moveOf change ≡ splits c d
+  unfolding moveOf
+  split-move c d e = ap moveOf e
 
-  module _ (p : Placed k (length b / recordWidth) i j (moveOf change)) where
-    -- both removed
+  pub turn-move : (c d : Cube) → change ≡ change-is.Turn c d → moveOf change ≡ turns c d
+  unfolding moveOf
+  turn-move c d e = ap moveOf e
 
-    module _ (e : change ≡ change-is.Drop) where
-      pub drop-in : TwoPlaces k i j
-      unfolding moveOf Placed
-      drop-in = subst (λ (t : Change). Placed k (length b / recordWidth) i j (moveOf t)) e p
+-- a join of cubes
+module _ (k i j : ℕ) (b : List ℕ) (change : Change) (p : Placed k (length b / recordWidth) i j (moveOf change)) (w : Writes Narrow (moveOf change))
+    (c : Cube) (e : change ≡ change-is.Join c) where
+  pub join-below : j < k
+  join-below = join-in k (length b / recordWidth) i j (moveOf change) p c (join-move change c e) .second
 
-      pub drop-smaller : (m : ℕ) → m ≡ min i j → m < k - 1
-      drop-smaller m q = let t : TwoPlaces k i j = drop-in in omega (arith, t .first, t .second, t .unlike)
+  pub join-one : 1 ≤ k
+  join-one = omega (arith, join-below)
 
-      pub drop-one : 1 ≤ k
-      drop-one = let t : TwoPlaces k i j = drop-in in omega (arith, t .first)
+  pub join-held : Held cubes k b → (b₁ : List ℕ) → b₁ ≡ stored cubes b i (narrow c) → Held cubes k b₁
+  join-held = held-join cubes lawful k i j b (moveOf change) Narrow narrow narrow-fits p w c (join-move change c e)
 
-      pub drop-two : 2 ≤ k
-      drop-two = let t : TwoPlaces k i j = drop-in in omega (arith, t .first, t .second, t .unlike)
-
-      pub perform-drop : Held cubes k b → (hi lo : ℕ) → hi ≡ max i j → lo ≡ min i j
-          → (b₁ b₂ : List ℕ) → b₁ ≡ image cubes (length b) (removeAt one (records cubes k b) hi)
-          → b₂ ≡ image cubes (length b₁) (removeAt one (records cubes (k - 1) b₁) lo)
-          → Done b b₂ (after change) (stepped-is.Count (k - 2))
-      unfolding moveOf applied
-      perform-drop h hi lo ehi elo b₁ b₂ e₁ e₂ =
-          done-next b b₂ (after change) (dropAt one (records cubes k b) i j) (k - 2) (ap after e)
-          (dropped-image cubes lawful k i j b h hi lo ehi elo b₁ b₂ e₁ e₂)
-          (length-drop-at one (records cubes k b) i j ∙ ap (λ (n : ℕ). n - 2) (length-records cubes k b))
-
-    module _ (w : Writes Narrow (moveOf change)) where
-      -- one record for two
-
-      module _ (c : Cube) (e : change ≡ change-is.Join c) where
-        join-in : TwoPlaces k i j
-        unfolding moveOf Placed
-        join-in = subst (λ (t : Change). Placed k (length b / recordWidth) i j (moveOf t)) e p
-
-        join-fits : narrow c ≡ c
-        unfolding moveOf Writes Narrow
-        join-fits = subst (λ (t : Change). Writes Narrow (moveOf t)) e w
-
-        pub join-one : 1 ≤ k
-        join-one = let t : TwoPlaces k i j = join-in in omega (arith, t .first)
-
-        pub join-below : j < k
-        join-below = join-in .second
-
-        pub join-held : Held cubes k b → (b₁ : List ℕ) → b₁ ≡ stored cubes b i (narrow c) → Held cubes k b₁
-        join-held h b₁ e₁ = stored-held cubes lawful k i b b₁ (narrow c) h (join-in .first) e₁
-
-        pub perform-join : Held cubes k b → (b₁ b₂ : List ℕ) → b₁ ≡ stored cubes b i (narrow c)
-            → b₂ ≡ image cubes (length b₁) (removeAt one (records cubes k b₁) j) → Done b b₂ (after change) (stepped-is.Count (k - 1))
-        unfolding moveOf applied
-        perform-join h b₁ b₂ e₁ e₂ =
-            done-next b b₂ (after change) (joinAt one (records cubes k b) i j c) (k - 1) (ap after e)
-            (joined-image cubes lawful k i j b h (join-in .first) c b₁ b₂ (e₁ ∙ ap (stored cubes b i) join-fits) e₂)
-            (length-join-at one (records cubes k b) i j c ∙ ap (λ (n : ℕ). n - 1) (length-records cubes k b))
-
-      -- two records for one
-
-      module _ (c d : Cube) (e : change ≡ change-is.Split c d) where
-        split-in : OnePlace k (length b / recordWidth) i
-        unfolding moveOf Placed
-        split-in = subst (λ (t : Change). Placed k (length b / recordWidth) i j (moveOf t)) e p
-
-        split-fits : (narrow c ≡ c) × (narrow d ≡ d)
-        unfolding moveOf Writes Narrow
-        split-fits = subst (λ (t : Change). Writes Narrow (moveOf t)) e w
-
-        pub split-room : k < length b / recordWidth
-        split-room = split-in .more
-
-        pub perform-split : Held cubes k b → (b₁ b₂ : List ℕ) → b₁ ≡ stored cubes b i (narrow c) → b₂ ≡ stored cubes b₁ k (narrow d)
-            → Done b b₂ (after change) (stepped-is.Count (k + 1))
-        unfolding moveOf applied
-        perform-split h b₁ b₂ e₁ e₂ =
-            done-next b b₂ (after change) (splitAt (records cubes k b) i c d) (k + 1) (ap after e)
-            (split-image cubes lawful k i j b h split-in c d b₁ b₂ (e₁ ∙ ap (stored cubes b i) (split-fits .0)) (e₂ ∙ ap (stored cubes b₁ k) (split-fits .1)))
-            (length-split-at (records cubes k b) i c d ∙ ap (λ (n : ℕ). n + 1) (length-records cubes k b))
-
-      -- two records for two
-
-      module _ (c d : Cube) (e : change ≡ change-is.Turn c d) where
-        turn-in : TwoPlaces k i j
-        unfolding moveOf Placed
-        turn-in = subst (λ (t : Change). Placed k (length b / recordWidth) i j (moveOf t)) e p
-
-        turn-fits : (narrow c ≡ c) × (narrow d ≡ d)
-        unfolding moveOf Writes Narrow
-        turn-fits = subst (λ (t : Change). Writes Narrow (moveOf t)) e w
-
-        pub perform-turn : Held cubes k b → (b₁ b₂ : List ℕ) → b₁ ≡ stored cubes b i (narrow c) → b₂ ≡ stored cubes b₁ j (narrow d)
-            → Done b b₂ (after change) (stepped-is.Count k)
-        unfolding moveOf applied
-        perform-turn h b₁ b₂ e₁ e₂ =
-            done-next b b₂ (after change) (turnAt (records cubes k b) i j c d) k (ap after e)
-            (turned-image cubes lawful k i j b h turn-in c d b₁ b₂ (e₁ ∙ ap (stored cubes b i) (turn-fits .0)) (e₂ ∙ ap (stored cubes b₁ j) (turn-fits .1)))
-            (length-turn-at (records cubes k b) i j c d ∙ length-records cubes k b)
+  pub perform-join : Held cubes k b → (b₁ b₂ : List ℕ) → b₁ ≡ stored cubes b i (narrow c) → b₂ ≡ image cubes (length b₁) (removeAt one (records cubes k b₁) j)
+      → DoneBy cubes b b₂ (applied one i j (records cubes k b) (moveOf change)) (stepped-is.Count (k - 1))
+  perform-join = made-join cubes lawful k i j b (moveOf change) Narrow narrow narrow-fits p w c (join-move change c e)

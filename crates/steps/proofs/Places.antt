@@ -19,7 +19,8 @@ use Rattle.bits.proofs.Sums.{sum-snoc, sum-set, all-get, all-set, all-take, all
 use Rattle.records.specs.Places.{removeAt}
 use Rattle.records.proofs.Images.{length-remove}
 use Rattle.steps.specs.Moves.{dropAt, joinAt, splitAt, turnAt}
-use Rattle.steps.specs.Changes.{TwoPlaces, OnePlace}
+use Rattle.steps.specs.Effects.{TwoPlaces}
+use Rattle.steps.specs.Changes.{OnePlace}
 
 -- ---- the tests for places, taken apart: what holds of each outcome holds of the tests
 

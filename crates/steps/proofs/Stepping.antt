@@ -21,13 +21,15 @@ use Rattle.steps.specs.declared.Change.{Change}
 use Rattle.steps.specs.declared.StepRecord.{StepRecord}
 use Rattle.steps.specs.declared.Stepped.{Stepped}
 use Rattle.steps.specs.declared.Stepped.the-variants as stepped-is
-use Rattle.steps.specs.Moves.{Move, refuse, drops, joins, splits, turns, After, next, applied}
-use Rattle.steps.specs.Steps.{Step, drop, join, split, turn, L, Fits, meaning, exchanged, reordered, step}
+use Rattle.steps.specs.Moves.{After, next, applied}
+use Rattle.steps.specs.Steps.{Step, drop, join, split, turn, L, Allowed, meaning, exchanged, reordered, step, decision}
 use Rattle.steps.specs.Calls.{Ready, Known, workStepped}
 use Rattle.steps.specs.Changes.{moveOf, Placed, Writes, Narrow, Decided, Done}
+use Rattle.steps.proofs.Balanced.{placed-more, writes-more}
+use Rattle.steps.proofs.Decisions.{Sound}
 use Rattle.steps.proofs.Inversion.{split-accepted}
 use Rattle.steps.proofs.Kept.{step-count, step-kept}
-use Rattle.steps.proofs.Making.{means, means-fits}
+use Rattle.steps.proofs.Making.{means, means-fits, decision-made, decision-sound}
 
 -- ---- L
 
@@ -71,34 +73,27 @@ module _ (n count cap : ℕ) (b : List ℕ) (ready : Ready n count cap b) where
 
   -- ---- a drop, join, split or turn
 
-  module _ (x : StepRecord) (c d : Cube) (change : Change) (made : Decided n count cap x c d change) where
-    placed-more : (i j room : ℕ) (m : Move Cube) → cap ≤ room → Placed count cap i j m → Placed count room i j m
-    unfolding Placed
-    placed-more i j room (refuse number) h p = tt {0}
-    placed-more i j room drops h p = p
-    placed-more i j room (joins y) h p = p
-    placed-more i j room (splits y z) h p = record { inside = p .inside; more = lt-of-lt-of-le (p .more) h }
-    placed-more i j room (turns y z) h p = p
+  module _ (x : StepRecord) (known : Known n x) (low : x .op < 5) (c d : Cube) (ec : c ≡ getD (records cubes count b) (x .i) one)
+      (ed : d ≡ getD (records cubes count b) (x .j) one) (change : Change) (made : Decided n count cap x c d change) where
+    sound : Sound n count cap (x .i) (x .j) c d (moveOf change)
+    sound =
+        subst (Sound n count cap (x .i) (x .j) c d) (sym (made .is))
+        (decision-sound n cap x low count c d (look-good (x .i) c ec) (look-good (x .j) d ed) known)
 
     pub step-placed : Placed count (length b / recordWidth) (x .i) (x .j) (moveOf change)
-    step-placed = placed-more (x .i) (x .j) (length b / recordWidth) (moveOf change) (omega (arith, ready .room)) (made .placed)
-
-    writes-narrow : (m : Move Cube) → Writes (Good n) m → Writes Narrow m
-    unfolding Writes Narrow
-    writes-narrow (refuse number) w = tt {0}
-    writes-narrow drops w = tt {0}
-    writes-narrow (joins y) w = good-narrow n y (ready .few) w
-    writes-narrow (splits y z) w = (good-narrow n y (ready .few) (w .0), good-narrow n z (ready .few) (w .1))
-    writes-narrow (turns y z) w = (good-narrow n y (ready .few) (w .0), good-narrow n z (ready .few) (w .1))
+    step-placed = placed-more count cap (length b / recordWidth) (x .i) (x .j) (moveOf change) (omega (arith, ready .room)) (sound .places)
 
     pub step-narrow : Writes Narrow (moveOf change)
-    step-narrow = writes-narrow (moveOf change) (made .good)
+    unfolding Narrow
+    step-narrow = writes-more (Good n) Narrow (λ y g. good-narrow n y (ready .few) g) (moveOf change) (sound .good)
 
-    pub step-done : c ≡ getD (records cubes count b) (x .i) one → d ≡ getD (records cubes count b) (x .j) one → (b′ : List ℕ) (r : Stepped)
-        → Done b b′ (applied one (x .i) (x .j) (records cubes count b) (moveOf change)) r
+    pub step-done : (b′ : List ℕ) (r : Stepped) → Done b b′ (applied one (x .i) (x .j) (records cubes count b) (moveOf change)) r
         → Done b b′ (step n cap (meaning x) (records cubes count b)) r
-    step-done ec ed b′ r done =
-        subst (λ (e : After Cube). Done b b′ e r) (sym (made .makes (records cubes count b) (length-records cubes count b) ec ed)) done
+    step-done b′ r done =
+        let l : List Cube = records cubes count b in
+        subst (λ (e : After Cube). Done b b′ e r)
+        (ap (applied one (x .i) (x .j) l) (made .is ∙ (λ t. decision n (sym (length-records cubes count b) t) cap (meaning x) (ec t) (ed t)))
+        ∙ sym (decision-made n cap x low l)) done
 
 -- ---- the next list fits the buffer, which is then ready for the next step
 
@@ -134,7 +129,7 @@ module _ (n count cap : ℕ) (b b′ : List ℕ) (x : Step) (m : List Cube) (rea
   step-long = ap length step-image ∙ length-image (cubes .enc) recordWidth (lawful .len) (length b) m step-room
 
   -- and it is ready for the next step
-  pub ready-onward : Fits n x → Ready n (length m) cap b′
+  pub ready-onward : Allowed n x → Ready n (length m) cap b′
   ready-onward fits = record {
     held = holds-held cubes lawful b′ m step-holds;
     good = subst (All (Good n)) (sym step-records) (step-kept n cap (records cubes count b) m (ready .good) x fits e .good);

@@ -19,16 +19,9 @@ use Rattle.cube.proofs.Codes.{code-lt, code-same, code-other, put-self}
 use Rattle.orders.specs.Codes.{exchange}
 use Rattle.orders.proofs.CodeLaws.{exchange-lt}
 use Rattle.steps.specs.Steps.{exchanged}
+use Rattle.steps.specs.Rules.{Same, Transformed}
 use Rattle.steps.proofs.Linear.{all-one, moved, moved-comm, exchanged-list-twice}
 use Rattle.steps.proofs.Kept.{value-of-sum, sum-of-value}
-use Rattle.steps.proofs.Rules.{absent, Same}
-
--- definition 4.1: "obtained by deleting the literal r from any term containing it and adding it to every term containing neither r nor r̄"; r is the literal
--- of the variable v with code b
-pub record Transformed (v b : ℕ) (c d : Cube) : Type 0 where
-  pub deletes : code c v ≡ b → d ≡ put c v absent
-  pub adds : code c v ≡ absent → d ≡ put c v b
-  pub leaves : code c v ≢ b → code c v ≢ absent → d ≡ c
 
 module _ (n v b : ℕ) (hv : v < n) (hb : b < 2) where
   pub definition-4-1 : (c : Cube) → Good n c → Transformed v b c (exchanged v b c)
@@ -39,11 +32,11 @@ module _ (n v b : ℕ) (hv : v < n) (hb : b < 2) where
     leaves = λ p q. ap (put c v) (simp (ne-eqb (code c v) b p, ne-eqb (code c v) 2 q)) ∙ put-self n c v g hv;
   }
 
-  -- "each transformation is its own inverse"
+  -- 000: it is its own inverse
   pub own-inverse : (f : List Cube) → All (Good n) f → map (exchanged v b) (map (exchanged v b) f) ≡ f
   own-inverse f a = exchanged-list-twice n v b hv hb f a
 
--- "it is commutative for literals corresponding to different variables"
+-- 000: two at different variables commute
 pub commutes : (u v a b : ℕ) → u ≢ v → (f : List Cube) → map (exchanged v b) (map (exchanged u a) f) ≡ map (exchanged u a) (map (exchanged v b) f)
 unfolding exchanged moved
 commutes u v a b d f =
@@ -100,7 +93,7 @@ module _ (n v b : ℕ) (hv : v < n) (hb : b < 2) where
       ∙ ap₂ (λ (x y : Bool). x ⊕ (not (eqb (bit a v) b) && y)) (sum-of-value n g f a (h a)) (sum-of-value n g f (flipped a v) (h (flipped a v)))
       ∙ sym (sum-exchanged g a))
 
-  -- "f ≡ g iff [r] ⊙ f ≡ [r] ⊙ g"
+  -- f ≡ g just where [r] ⊙ f ≡ [r] ⊙ g
   pub corollary-4-3 : (f g : List Cube) → All (Good n) f → All (Good n) g
       → (Same n f g → Same n (map (exchanged v b) f) (map (exchanged v b) g)) × (Same n (map (exchanged v b) f) (map (exchanged v b) g) → Same n f g)
   corollary-4-3 f g p q = (

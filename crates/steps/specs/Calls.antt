@@ -4,7 +4,7 @@ use Prim.Native.Nat.{ℕ, _*_, _≤_}
 use mathlib.Core.List.{List}
 use lib.ListN.{length}
 use Rattle.bits.specs.Sums.{All}
-use Rattle.records.specs.Records.{Held, records, image}
+use Rattle.records.specs.Records.{Codec, Held, records, image}
 use Rattle.cube.specs.declared.Cube.{Cube}
 use Rattle.cube.specs.Cubes.{Good}
 use Rattle.cube.specs.Lists.{cubes, recordWidth, mostVariables}
@@ -12,7 +12,7 @@ use Rattle.steps.specs.declared.StepRecord.{StepRecord}
 use Rattle.steps.specs.declared.Stepped.{Stepped}
 use Rattle.steps.specs.declared.Stepped.the-variants as stepped-is
 use Rattle.steps.specs.Moves.{After, stop, next}
-use Rattle.steps.specs.Steps.{Fits, meaning}
+use Rattle.steps.specs.Steps.{Allowed, meaning}
 
 -- the work buffer holds `count` good cubes over n variables, zeros after them, and has room for cap
 pub record Ready (n count cap : ℕ) (work : List ℕ) : Type 0 where
@@ -25,14 +25,17 @@ pub record Ready (n count cap : ℕ) (work : List ℕ) : Type 0 where
 pub record Known (n : ℕ) (x : StepRecord) : Type 0 where
   pub least : 1 ≤ x .op
   pub most : x .op ≤ 5
-  pub fits : Fits n (meaning x)
+  pub fits : Allowed n (meaning x)
 
--- the answer of a step
-abbrev pub stepped : After Cube → Stepped
+-- the answer of a step, on any kind of record
+abbrev pub stepped : {A : Type 0} → After A → Stepped
 stepped (stop number) = stepped-is.Refused number
 stepped (next l) = stepped-is.Count (length l)
 
--- the work buffer after it: the next list and zeros after it; refused, it is as it was
+-- the buffer after it: the next list and zeros after it; refused, it is as it was
+abbrev pub steppedBy : {A : Type 0} → Codec A → List ℕ → After A → List ℕ
+steppedBy C work (stop number) = work
+steppedBy C work (next l) = image C (length work) l
+
 abbrev pub workStepped : List ℕ → After Cube → List ℕ
-workStepped work (stop number) = work
-workStepped work (next l) = image cubes (length work) l
+workStepped work e = steppedBy cubes work e

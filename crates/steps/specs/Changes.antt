@@ -1,4 +1,4 @@
--- What the functions of this crate promise one another: a change as a move, the places of a move, and what is done to the work buffer.
+-- Inside: what the functions of this crate promise one another. A change as a move, the places of a move, and what is done to the work buffer.
 -- Assumes nothing.
 use mathlib.Core.Path.{_≡_}
 use mathlib.Core.Bool.{cond, _&&_}
@@ -6,19 +6,20 @@ use mathlib.Core.List.{List}
 use Prim.Native.Nat.{ℕ, _^_, _<_}
 use lib.Bits.{bitXor}
 use lib.Dec.{eqb, ltb}
-use lib.ListN.{length}
+use Rattle.records.specs.Records.{Codec}
 use Rattle.cube.specs.declared.Cube.{Cube}
-use Rattle.cube.specs.Cubes.{Good, one, withCode}
-use Rattle.cube.specs.Lists.{narrow, joined}
+use Rattle.cube.specs.Cubes.{one, withCode}
+use Rattle.cube.specs.CubeRecord.{cubes, narrow, recordNumber}
 use Rattle.orders.specs.Orders.{image}
 use Rattle.steps.specs.declared.Change.{Change}
 use Rattle.steps.specs.declared.Change.the-variants as change-is
 use Rattle.steps.specs.declared.reorder.Masks.{Masks}
 use Rattle.steps.specs.declared.StepRecord.{StepRecord}
 use Rattle.steps.specs.declared.Stepped.{Stepped}
-use Rattle.steps.specs.Moves.{Move, refuse, drops, joins, splits, turns, After, applied}
-use Rattle.steps.specs.Steps.{cubeAt, meaning, decision, step}
-use Rattle.steps.specs.Calls.{stepped, workStepped}
+use Rattle.steps.specs.Moves.{Move, refuse, drops, joins, splits, turns, After}
+use Rattle.steps.specs.Steps.{meaning, decision}
+use Rattle.steps.specs.Effects.{TwoPlaces}
+use Rattle.steps.specs.Calls.{stepped, steppedBy}
 
 -- the move that a change is
 unfoldable pub moveOf : Change → Move Cube
@@ -31,12 +32,6 @@ moveOf (change-is.Turn c d) = turns c d
 -- the number that two places are refused by, 10 or 11, or 0
 unfoldable pub placesNumber : ℕ → ℕ → ℕ → ℕ
 placesNumber count i j = cond (ltb i count && ltb j count) (cond (eqb i j) 11 0) 10
-
--- two places of so many records, and not the same
-pub record TwoPlaces (count i j : ℕ) : Type 0 where
-  pub first : i < count
-  pub second : j < count
-  pub unlike : i ≡ j → ⊥
 
 -- a place of so many records, and room for one record more
 pub record OnePlace (count room i : ℕ) : Type 0 where
@@ -63,18 +58,17 @@ Writes P (turns x y) = P x × P y
 unfoldable pub Narrow : Cube → Type 0
 Narrow c = narrow c ≡ c
 
--- what is decided of a step, from the cubes a and b at its places: the step makes this change, at places of the list, with good cubes
+-- what is decided of a step, from the cubes a and b at its places
 pub record Decided (n count cap : ℕ) (x : StepRecord) (a b : Cube) (change : Change) : Type 0 where
   pub is : moveOf change ≡ decision n count cap (meaning x) a b
-  pub makes : (l : List Cube) → length l ≡ count → a ≡ cubeAt l (x .i) → b ≡ cubeAt l (x .j)
-      → step n cap (meaning x) l ≡ applied one (x .i) (x .j) l (moveOf change)
-  pub placed : Placed count cap (x .i) (x .j) (moveOf change)
-  pub good : Writes (Good n) (moveOf change)
 
--- what a step does: its answer, and the work buffer after it
-pub record Done (work work′ : List ℕ) (e : After Cube) (r : Stepped) : Type 0 where
+-- what a step does, on any kind of record: its answer, and the buffer after it
+pub record DoneBy {A : Type 0} (C : Codec A) (work work′ : List ℕ) (e : After A) (r : Stepped) : Type 0 where
   pub answer : r ≡ stepped e
-  pub buffer : work′ ≡ workStepped work e
+  pub buffer : work′ ≡ steppedBy C work e
+
+abbrev pub Done : (work work′ : List ℕ) (e : After Cube) (r : Stepped) → Type 0
+Done = DoneBy cubes
 
 -- the product of the one literal that the order o makes of the code x, at the variable v
 abbrev pub imageAt : ℕ → ℕ → ℕ → Cube
@@ -83,13 +77,13 @@ imageAt v o x = withCode one v (image o x)
 -- the order o at the variable v, as masks
 unfoldable pub masksAt : ℕ → ℕ → Masks
 masksAt v o = record {
-  own = joined (record {
+  own = recordNumber (record {
     seen = bitXor (bitXor (2 ^ v) (imageAt v o 0 .seen)) (imageAt v o 2 .seen);
     value = bitXor (bitXor (2 ^ v) (imageAt v o 0 .value)) (imageAt v o 1 .value);
   });
-  other = joined (record {
+  other = recordNumber (record {
     seen = bitXor (imageAt v o 0 .seen) (imageAt v o 1 .seen);
     value = bitXor (imageAt v o 0 .value) (imageAt v o 2 .value);
   });
-  always = joined (imageAt v o 2);
+  always = recordNumber (imageAt v o 2);
 }

@@ -1,4 +1,6 @@
 pub mod Moves
 pub mod Steps
+pub mod Effects
+pub mod Rules
 pub mod Calls
 pub mod Changes

@@ -20,12 +20,12 @@ pub data Step : Type 0 where
   L : ℕ → ℕ → Step
 
 -- what refusal 9 leaves: "a used v" below n, "a used literal" at most 1
-abbrev pub Fits : ℕ → Step → Type 0
-Fits n (drop i j) = Unit {0}
-Fits n (join i j) = Unit {0}
-Fits n (split v i) = v < n
-Fits n (turn v i j) = v < n
-Fits n (L v b) = (v < n) × (b < 2)
+abbrev pub Allowed : ℕ → Step → Type 0
+Allowed n (drop i j) = Unit {0}
+Allowed n (join i j) = Unit {0}
+Allowed n (split v i) = v < n
+Allowed n (turn v i j) = v < n
+Allowed n (L v b) = (v < n) × (b < 2)
 
 -- the step of a record, by its operation: 1 drop, 2 join, 3 split, 4 turn, 5 L
 abbrev pub meaningBy : ℕ → StepRecord → Step
@@ -50,8 +50,8 @@ thirdAt c d v = put c v (third (code c v) (code d v))
 -- ---- decisions: from the count, the places and the cubes as they stand
 
 -- 10: "a used i or j not below the present count"; 11: "i equals j in a step with two cubes"
-abbrev pub twoPlaces : {A : Type 0} → ℕ → ℕ → ℕ → Move A → Move A
-twoPlaces count i j m = cond (ltb i count && ltb j count) (cond (eqb i j) (refuse 11) m) (refuse 10)
+abbrev pub atTwoPlaces : {A : Type 0} → ℕ → ℕ → ℕ → Move A → Move A
+atTwoPlaces count i j m = cond (ltb i count && ltb j count) (cond (eqb i j) (refuse 11) m) (refuse 10)
 
 -- drop needs "equal cubes": by the variables in which they differ
 abbrev pub dropped : List ℕ → Move Cube
@@ -59,7 +59,7 @@ dropped [] = drops
 dropped (v ∷ vs) = refuse 12
 
 unfoldable pub dropMove : ℕ → ℕ → ℕ → ℕ → Cube → Cube → Move Cube
-dropMove n count i j a b = twoPlaces count i j (dropped (apart n a b))
+dropMove n count i j a b = atTwoPlaces count i j (dropped (apart n a b))
 
 -- join needs cubes that "differ in exactly one variable": "i gets the third there"
 abbrev pub joined : Cube → Cube → List ℕ → Move Cube
@@ -68,7 +68,7 @@ joined a b (v ∷ []) = joins (thirdAt a b v)
 joined a b (v ∷ u ∷ vs) = refuse 12
 
 unfoldable pub joinMove : ℕ → ℕ → ℕ → ℕ → Cube → Cube → Move Cube
-joinMove n count i j a b = twoPlaces count i j (joined a b (apart n a b))
+joinMove n count i j a b = atTwoPlaces count i j (joined a b (apart n a b))
 
 -- split: 10, then 13: "split with the count at capacity"
 unfoldable pub splitMove : ℕ → ℕ → ℕ → ℕ → Cube → Move Cube
@@ -84,7 +84,7 @@ turned a b v (p ∷ q ∷ []) =
 turned a b v (p ∷ q ∷ r ∷ vs) = refuse 12
 
 unfoldable pub turnMove : ℕ → ℕ → ℕ → ℕ → ℕ → Cube → Cube → Move Cube
-turnMove n count v i j a b = twoPlaces count i j (turned a b v (apart n a b))
+turnMove n count v i j a b = atTwoPlaces count i j (turned a b v (apart n a b))
 
 -- what is decided of a step, from the count and the cubes at its places; an L step decides nothing
 unfoldable pub decision : ℕ → ℕ → ℕ → Step → Cube → Cube → Move Cube
@@ -115,23 +115,19 @@ step n cap (L v b) l = next (map (exchanged v b) l)
 
 -- ---- the kind of a step: 1 for a split, a join, a drop
 
-abbrev pub isSplit : Step → ℕ
-isSplit (drop i j) = 0
-isSplit (join i j) = 0
-isSplit (split v i) = 1
-isSplit (turn v i j) = 0
-isSplit (L v b) = 0
-
-abbrev pub isJoin : Step → ℕ
-isJoin (drop i j) = 0
-isJoin (join i j) = 1
-isJoin (split v i) = 0
-isJoin (turn v i j) = 0
-isJoin (L v b) = 0
+-- a number for each kind: drop, join, split, turn, L
+abbrev pub byKind : ℕ → ℕ → ℕ → ℕ → ℕ → Step → ℕ
+byKind a b c d e (drop i j) = a
+byKind a b c d e (join i j) = b
+byKind a b c d e (split v i) = c
+byKind a b c d e (turn v i j) = d
+byKind a b c d e (L v x) = e
 
 abbrev pub isDrop : Step → ℕ
-isDrop (drop i j) = 1
-isDrop (join i j) = 0
-isDrop (split v i) = 0
-isDrop (turn v i j) = 0
-isDrop (L v b) = 0
+isDrop x = byKind 1 0 0 0 0 x
+
+abbrev pub isJoin : Step → ℕ
+isJoin x = byKind 0 1 0 0 0 x
+
+abbrev pub isSplit : Step → ℕ
+isSplit x = byKind 0 0 1 0 0 x

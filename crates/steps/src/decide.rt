@@ -6,7 +6,7 @@ ghost use mathlib.Core.Path.{_≡_};
 ghost use Prim.Native.Nat.{_^_, _<_, _≤_};
 ghost use Rattle.cube.specs.Cubes.{code, withCode, Good};
 ghost use Rattle.cube.specs.Lists.{mostVariables};
-ghost use Rattle.orders.specs.Codes.{third, lower, higher};
+ghost use Rattle.orders.specs.Codes.{thirdOf, lower, higher};
 ghost use Rattle.steps.specs.Steps.{dropMove, joinMove, splitMove, turnMove};
 ghost use Rattle.steps.specs.Calls.{Known};
 ghost use Rattle.steps.specs.Changes.{moveOf, placesNumber, Decided};
@@ -37,7 +37,7 @@ fn only(v: u32) -> u32
 
 // c with the third of c's and d's codes at v.
 fn third_at(c: Cube, d: Cube, v: u32) -> Cube
-    ensures { λ r. ⌜ r ≡ withCode c v (third (code c v) (code d v)) ⌝ }
+    ensures { λ r. ⌜ r ≡ withCode c v (thirdOf (code c v) (code d v)) ⌝ }
 {
     c.with_code(v, orders::third(c.code_at(v), d.code_at(v)))
 }

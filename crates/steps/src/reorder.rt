@@ -51,12 +51,12 @@ fn recoded(k: Masks, c: Cube) -> Cube
     requires { ⌜ Good mostVariables c ⌝ }
     ensures { λ r. ⌜ ((v o : ℕ) → v < mostVariables → k ≡ masksAt v o → r ≡ reordered v o c) ⌝ }
 {
-    let turned = Cube {
+    let crossed = Cube {
         seen: c.value,
         value: c.seen,
     };
     let x = c.word();
-    let y = turned.word();
+    let y = crossed.word();
     Cube::of_word(x ^ (x & k.own) ^ (y & k.other) ^ k.always)
 }
 

@@ -1,6 +1,6 @@
 -- `packed::full` meets its contract.
 -- Assumes nothing.
-use Rattle.bits.proofs.Packing.{full-fits}
+use Rattle.bits.proofs.packed.Words.{full-fits}
 use borrow.Author.Needs.{needs}
 use Rattle.bits.proofs.packed.full.Statement.{statement}
 use Rattle.bits.proofs.packed.full.Tie as tie

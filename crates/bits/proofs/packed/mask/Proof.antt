@@ -1,12 +1,15 @@
 -- `packed::mask` meets its contract.
 -- Assumes nothing.
-use mathlib.Core.Path.{refl}
+use mathlib.Core.Path.{_≡_, refl, sym, ap, _∙_}
 use Prim.Native.Nat.{ℕ}
 use native.Mathlib.Omega.{arith}
 use Rattle.bits.specs.Packed.{maskOf}
-use Rattle.bits.proofs.Packing.{mask-at}
 use Rattle.bits.proofs.packed.mask.Statement.{statement}
 use Rattle.bits.proofs.packed.mask.Tie as tie
+
+-- a test of the variable, and the mask of the one that it found
+mask-at : (k j m : ℕ) → k ≡ j → m ≡ maskOf j → m ≡ maskOf k
+mask-at k j m e is = is ∙ ap maskOf (sym e)
 
 returns : tie.Need-returns
 unfolding maskOf

@@ -1,7 +1,7 @@
 -- `packed::raise_word` meets its contract.
 -- Assumes nothing.
 use borrow.Author.Needs.{needs}
-use Rattle.bits.proofs.Packing.{half-fits, raise-is}
+use Rattle.bits.proofs.packed.Passes.{half-fits, raise-is}
 use Rattle.bits.proofs.packed.raise_word.Statement.{statement}
 use Rattle.bits.proofs.packed.raise_word.Tie as tie
 
@@ -15,7 +15,7 @@ mask-requires : tie.Need-mask-requires
 mask-requires c κs = search needs
 
 returns : tie.Need-returns
-returns c = search raise-is
+returns c = raise-is _ (search needs) _ _ (c .mask .ensures)
 
 pub raise-word-spec : {M : Type 1} → statement M
 raise-word-spec = tie.close (tie.spec shl-h mask-requires shl-result returns)

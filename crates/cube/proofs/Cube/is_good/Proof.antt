@@ -13,6 +13,9 @@ within-requires c κs = search needs
 returns : tie.Need-returns
 returns c = bad-outside _ _ (sym (c .before .within .ensures) ∙ not-true _ (c .if1 .taken))
 
+cast-if2 : tie.Need-cast-if2
+cast-if2 c = search needs
+
 returns-2 : tie.Need-returns-2
 returns-2 c = good-wide _ _ (sym (c .before .before .within .ensures) ∙ not-false _ (c .before .if1 .left)) (search needs) (c .if2 .taken)
 
@@ -27,4 +30,4 @@ returns-3 c = good-shift _ _ (sym (c .before .before .within .ensures) ∙ not-f
 
 pub is-good-spec : {M : Type 1} → statement M
 is-good-spec =
-    tie.close (tie.spec within-requires returns returns-2 cast-result shr-result returns-3)
+    tie.close (tie.spec within-requires returns cast-if2 returns-2 cast-result shr-result returns-3)

@@ -1,5 +1,6 @@
 -- `list::check_within` meets its contract: each return is the first test that fails.
 -- Assumes nothing.
+use native.Mathlib.Omega.{arith}
 use Rattle.cube.proofs.ListLaws.{check-1, check-2, check-3, check-4, check-0}
 use borrow.Author.Needs.{needs}
 use Rattle.cube.proofs.list.check_within.Statement.{statement}
@@ -21,7 +22,7 @@ new-requires-3 : tie.Need-new-requires-3
 new-requires-3 c κs = search needs
 
 returns-3 : tie.Need-returns-3
-returns-3 c = search check-3
+returns-3 c = check-3 _ _ _ _ (c .new3 .ensures) (omega arith) (omega arith) (omega arith)
 
 first-bad-requires : tie.Need-first-bad-requires
 first-bad-requires c κs = search needs

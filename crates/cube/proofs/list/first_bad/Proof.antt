@@ -1,11 +1,10 @@
--- `list::first_bad` meets its contract: where all are counted none is bad, and the loop keeps `Looking`.
+-- `list::first_bad` meets its contract: the loop keeps `Looking`.
 -- Assumes nothing.
 use Prim.Native.Nat.{_-_, _/_}
 use lib.ListN.{length}
 use borrow.Author.Needs.{needs}
 use Rattle.cube.specs.Cubes.{good}
 use Rattle.cube.specs.Lists.{cubes, recordWidth}
-use Rattle.records.proofs.Counting.{counted-none}
 use Rattle.records.proofs.Looking.{Looking, looking-none, looking-next, found-none, found-bad}
 use Rattle.cube.proofs.list.first_bad.Statement.{statement}
 use Rattle.cube.proofs.list.first_bad.Tie as tie
@@ -15,12 +14,6 @@ Inv-loop n list count i₀ i = Looking cubes (good n) list i
 
 abbrev μ-loop : tie.MeasureT-loop
 μ-loop n list count i₀ i = length list / recordWidth - i
-
-count-good-requires : tie.Need-count-good-requires Inv-loop μ-loop
-count-good-requires c κs = search needs
-
-returns : tie.Need-returns Inv-loop μ-loop
-returns c = counted-none cubes (good _) _ _ (c .before .count-good .ensures) (c .if1 .taken)
 
 loop-holds : tie.Need-loop-holds Inv-loop μ-loop
 loop-holds c = search looking-none
@@ -40,11 +33,11 @@ loop-less c = search needs
 loop-again : tie.Need-loop-again Inv-loop μ-loop
 loop-again c = search looking-next
 
-returns-2 : tie.Need-returns-2 Inv-loop μ-loop
-returns-2 c = found-none cubes (good _) _ _ (c .before .loop .inv) (c .if2 .taken)
+returns : tie.Need-returns Inv-loop μ-loop
+returns c = found-none cubes (good _) _ _ (c .before .loop .inv) (c .if1 .taken)
 
-returns-3 : tie.Need-returns-3 Inv-loop μ-loop
-returns-3 c = search found-bad
+returns-2 : tie.Need-returns-2 Inv-loop μ-loop
+returns-2 c = search found-bad
 
 pub first-bad-spec : {M : Type 1} → statement M
 first-bad-spec =
@@ -52,13 +45,11 @@ first-bad-spec =
     (tie.spec
     Inv-loop
     μ-loop
-    count-good-requires
-    returns
     loop-holds
     cube-at-requires
     is-good-requires
     add-i
     loop-less
     loop-again
-    returns-2
-    returns-3)
+    returns
+    returns-2)

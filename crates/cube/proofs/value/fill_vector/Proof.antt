@@ -1,80 +1,52 @@
--- `value::fill_vector` meets its contract: the loop keeps `Wording`.
+-- `value::fill_vector` meets its contract.
 -- Assumes nothing.
-use Prim.Native.Nat.{_-_, _^_}
-use native.Mathlib.Omega.{arith}
+use mathlib.Core.Path.{sym}
+use lib.Seq.{length-take-le}
 use borrow.Author.Needs.{needs}
-use Rattle.cube.proofs.CallLaws.{vectoring-done}
-use Rattle.cube.proofs.Filling.{Wording, wording-none, wording-more}
-use lib.Pow.{pow-mono}
-use lib.ListN.{length-take, length-drop}
+use Rattle.cube.proofs.Slices.{vector-is}
 use Rattle.cube.proofs.value.fill_vector.Statement.{statement}
 use Rattle.cube.proofs.value.fill_vector.Tie as tie
 
-abbrev Inv-loop : tie.InvT-loop
-Inv-loop n size list out₀ values i₀ a₀ out i a = Wording n list out₀ out size i a
+fill-each-requires : tie.Need-fill-each-requires
+fill-each-requires c κs = let s = c .before .before .before .before in (s .pre .0, ((s .pre .1 .0 .0, c .before .if1 .taken), s .pre .1 .1))
 
-abbrev μ-loop : tie.MeasureT-loop
-μ-loop n size list out₀ values i₀ a₀ out i a = 2 ^ n - a
+returns : tie.Need-returns
+returns c = c .before .before .fill-each .ensures
 
-value-bits-requires : tie.Need-value-bits-requires Inv-loop μ-loop
+value-bits-requires : tie.Need-value-bits-requires
 value-bits-requires c κs = search needs
 
-loop-holds : tie.Need-loop-holds Inv-loop μ-loop
-loop-holds c = wording-none _ _ _ _
+slice-relend-prefix-put : tie.Need-slice-relend-prefix-put
+slice-relend-prefix-put c = search needs
 
-word-end-requires : tie.Need-word-end-requires Inv-loop μ-loop
-word-end-requires c κs = let s = c .before .before .before .before .before in (omega arith, omega (arith, s .pre .1 .0 .0, pow-mono {j = 8} (s .pre .1 .0 .1)))
+slice-aggregate-put : tie.Need-slice-aggregate-put
+slice-aggregate-put c = sym (length-take-le _ _ (c .before .before .before .before .before .pre .1 .1))
 
-word-requires : tie.Need-word-requires Inv-loop μ-loop
-word-requires c κs = search needs
+put-requires : tie.Need-put-requires
+put-requires c κs = search needs
 
-sub-put-bits : tie.Need-sub-put-bits Inv-loop μ-loop
-sub-put-bits c = omega (arith, c .before .word-end .ensures)
+same-length : tie.Need-same-length
+same-length c = search needs
 
-part-put-bits-start : tie.Need-part-put-bits-start Inv-loop μ-loop
-part-put-bits-start c = omega (arith, c .before .word-end .ensures)
+same-length-2 : tie.Need-same-length-2
+same-length-2 c = search needs
 
-part-put-bits-end : tie.Need-part-put-bits-end Inv-loop μ-loop
-part-put-bits-end c = let s = c .before .before .before .before .before .before .before in omega (arith, c .before .word-end .ensures, c .before .before .before .loop .inv .values .size)
-
-put-bits-requires : tie.Need-put-bits-requires Inv-loop μ-loop
-put-bits-requires c κs = simp (length-take, length-drop) (omega (arith, c .before .before .word-end .ensures))
-
-add-i : tie.Need-add-i Inv-loop μ-loop
-add-i c = let l = c .before .before .before .before .before .before .before in omega (arith, l .loop .inv .at)
-
-loop-less : tie.Need-loop-less Inv-loop μ-loop
-loop-less c = omega (arith, c .before .before .before .before .before .word-end .ensures)
-
-loop-again : tie.Need-loop-again Inv-loop μ-loop
-loop-again c =
-    let s = c .before .before .before .before .before .before .before .before .before .before .before in
-    let l = c .before .before .before .before .before .before .before in
-    wording-more _ _ _ _ _ _ _ (l .loop .inv) (s .pre .1 .0 .0) (s .pre .1 .0 .1) (omega (arith, s .pre .1 .0 .0, pow-mono {j = 8} (s .pre .1 .0 .1))) (s .pre .0) (s .pre .1 .1) (c .before .before .before .before .before .before .loop-test .taken)
-    _ (c .before .before .before .before .before .word-end .ensures) _ (l .before .value-bits .ensures) _ (c .before .before .before .before .word .ensures) _ (c .before .before .put-bits .ensures)
-
-same-length : tie.Need-same-length Inv-loop μ-loop
-same-length c = c .before .loop .inv .values .size
-
-returns : tie.Need-returns Inv-loop μ-loop
-returns c = vectoring-done _ _ _ _ _ (c .before .loop .inv .values) (omega arith)
+returns-2 : tie.Need-returns-2
+returns-2 c =
+    let c₄ = c .before .before .before .before in
+    let s = c₄ .before .before .before .before in
+    vector-is _ _ _ _ (s .pre .1 .0 .0) (s .pre .1 .0 .1) (s .pre .0) (s .pre .1 .1) _ (c₄ .value-bits .ensures) _ (c .before .before .put .ensures)
 
 pub fill-vector-spec : {M : Type 1} → statement M
 fill-vector-spec =
     tie.close
     (tie.spec
-    Inv-loop
-    μ-loop
-    value-bits-requires
-    loop-holds
-    word-end-requires
-    word-requires
-    sub-put-bits
-    part-put-bits-start
-    part-put-bits-end
-    put-bits-requires
-    add-i
-    loop-less
-    loop-again
+    fill-each-requires
     same-length
-    returns)
+    returns
+    value-bits-requires
+    slice-relend-prefix-put
+    slice-aggregate-put
+    put-requires
+    same-length-2
+    returns-2)

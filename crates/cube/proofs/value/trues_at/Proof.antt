@@ -27,6 +27,15 @@ cube-at-requires c κs = search needs
 holds-at-requires : tie.Need-holds-at-requires Inv-loop μ-loop
 holds-at-requires c κs = search needs
 
+loop-again : tie.Need-loop-again Inv-loop μ-loop
+loop-again c =
+    let s = c .before .before .before .before .before in
+    let at = c .before .before .before in
+    let true-there = mask-at (s .args .n) (cubesOf (s .args .list .now)) (s .args .a) (at .loop .i) (s .pre .0) (s .pre .1)
+    _ (c .before .cube-at .ensures) (c .holds-at .result) (c .holds-at .ensures .fixed) in
+    counting-next cubes (λ c. holds (s .args .n) c (s .args .a)) _ _ _ (at .loop .inv) (c .before .before .loop-test .taken)
+    _ (c .before .cube-at .ensures) (c .holds-at .result) true-there
+
 cast-t : tie.Need-cast-t Inv-loop μ-loop
 cast-t c = search needs
 
@@ -38,15 +47,6 @@ add-i c = search needs
 
 loop-less : tie.Need-loop-less Inv-loop μ-loop
 loop-less c = search needs
-
-loop-again : tie.Need-loop-again Inv-loop μ-loop
-loop-again c =
-    let s = c .before .before .before .before .before in
-    let at = c .before .before .before in
-    let true-there = mask-at (s .args .n) (cubesOf (s .args .list .now)) (s .args .a) (at .loop .i) (s .pre .0) (s .pre .1)
-    _ (c .before .cube-at .ensures) (c .holds-at .result) (c .holds-at .ensures) in
-    counting-next cubes (λ c. holds (s .args .n) c (s .args .a)) _ _ _ (at .loop .inv) (c .before .before .loop-test .taken)
-    _ (c .before .cube-at .ensures) (c .holds-at .result) true-there
 
 returns : tie.Need-returns Inv-loop μ-loop
 unfolding trues

@@ -1,71 +1,69 @@
--- `line::read` meets its contract: what it answers is some line, and a line gives at most 16 variables.
+-- `line::read` is safe, ends, and counts bytes of its buffer: the measure is how many it has room for.
 -- Assumes nothing.
+use Prim.Native.Nat.{_-_}
+use lib.ListN.{length}
+use Rattle.map_files.proofs.Texts.{counted, Filled, filled-more}
 use borrow.Author.Needs.{needs}
-use Rattle.map_files.proofs.Lines.{read-few}
 use Rattle.map_files.proofs.line.read.Statement.{statement}
 use Rattle.map_files.proofs.line.read.Tie as tie
 
-next-byte-requires : tie.Need-next-byte-requires
+abbrev Inv-loop : tie.InvT-loop
+Inv-loop line₀ k₀ line k = Filled line₀ line k
+
+abbrev μ-loop : tie.MeasureT-loop
+μ-loop line₀ k₀ line k = length line₀ - k
+
+loop-holds : tie.Need-loop-holds Inv-loop μ-loop
+loop-holds c = search needs
+
+next-byte-requires : tie.Need-next-byte-requires Inv-loop μ-loop
 next-byte-requires c κs = search needs
 
-enum-told : tie.Need-enum-told
+enum-told : tie.Need-enum-told Inv-loop μ-loop
 enum-told c = search needs
 
-enum-known-a : tie.Need-enum-known-a
-enum-known-a c = search needs
+same-length : tie.Need-same-length Inv-loop μ-loop
+same-length c = search needs
 
-next-byte-requires-2 : tie.Need-next-byte-requires-2
-next-byte-requires-2 c κs = search needs
+returns : tie.Need-returns Inv-loop μ-loop
+returns c = search (counted, needs)
 
-enum-told-2 : tie.Need-enum-told-2
-enum-told-2 c = search needs
-
-one-requires : tie.Need-one-requires
-one-requires c κs = search needs
-
-enum-known-b : tie.Need-enum-known-b
+enum-known-b : tie.Need-enum-known-b Inv-loop μ-loop
 enum-known-b c = search needs
 
-next-byte-requires-3 : tie.Need-next-byte-requires-3
-next-byte-requires-3 c κs = search needs
+slice-write-line : tie.Need-slice-write-line Inv-loop μ-loop
+slice-write-line c = search needs
 
-enum-told-3 : tie.Need-enum-told-3
-enum-told-3 c = search needs
+add-k : tie.Need-add-k Inv-loop μ-loop
+add-k c = search needs
 
-two-requires : tie.Need-two-requires
-two-requires c κs = search needs
+loop-less : tie.Need-loop-less Inv-loop μ-loop
+loop-less c = search needs
 
-enum-told-4 : tie.Need-enum-told-4
-enum-told-4 c = search needs
+loop-again : tie.Need-loop-again Inv-loop μ-loop
+loop-again c = search (filled-more, needs)
 
-returns : tie.Need-returns
-returns c = search needs
+same-length-2 : tie.Need-same-length-2 Inv-loop μ-loop
+same-length-2 c = search needs
 
-returns-2 : tie.Need-returns-2
-returns-2 c = read-few _ (c .one .ensures)
-
-returns-3 : tie.Need-returns-3
-returns-3 c = read-few _ (c .two .ensures)
-
-returns-4 : tie.Need-returns-4
-returns-4 c = search needs
+returns-2 : tie.Need-returns-2 Inv-loop μ-loop
+returns-2 c = search (counted, needs)
 
 pub read-spec : {M : Type 1} → statement M
 read-spec =
     tie.close
     (tie.spec
+    Inv-loop
+    μ-loop
+    loop-holds
     next-byte-requires
     enum-told
-    enum-known-a
-    next-byte-requires-2
-    enum-told-2
-    one-requires
-    enum-known-b
-    next-byte-requires-3
-    enum-told-3
-    two-requires
-    enum-told-4
+    same-length
     returns
-    returns-2
-    returns-3
-    returns-4)
+    enum-known-b
+    slice-write-line
+    add-k
+    loop-less
+    loop-again
+    same-length-2
+    returns-2)

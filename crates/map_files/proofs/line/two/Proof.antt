@@ -17,14 +17,14 @@ is-digit-requires-2 c κs = search needs
 returns-2 : tie.Need-returns-2
 returns-2 c = search (no-ones, needs)
 
-number-requires : tie.Need-number-requires
-number-requires c κs = search needs
+digit-requires : tie.Need-digit-requires
+digit-requires c κs = search needs
 
 mul-n : tie.Need-mul-n
 mul-n c = search needs
 
-number-requires-2 : tie.Need-number-requires-2
-number-requires-2 c κs = search needs
+digit-requires-2 : tie.Need-digit-requires-2
+digit-requires-2 c κs = search needs
 
 add-n : tie.Need-add-n
 add-n c = search needs
@@ -43,9 +43,9 @@ two-spec =
     returns
     is-digit-requires-2
     returns-2
-    number-requires
+    digit-requires
     mul-n
-    number-requires-2
+    digit-requires-2
     add-n
     returns-3
     returns-4)

@@ -1,8 +1,7 @@
 -- `choose::best_of_eight` meets its contract.
 -- Assumes nothing.
 use mathlib.Core.Path.{refl}
-use native.Mathlib.Omega.{arith}
-use Rattle.polarity.proofs.Choosing.{halves-best}
+use Rattle.polarity.proofs.choose.Search.{halves-are}
 use borrow.Author.Needs.{needs}
 use Rattle.polarity.proofs.choose.best_of_eight.Statement.{statement}
 use Rattle.polarity.proofs.choose.best_of_eight.Tie as tie
@@ -19,14 +18,13 @@ add-best-of-four c = search needs
 best-of-four-requires-2 : tie.Need-best-of-four-requires-2
 best-of-four-requires-2 c κs = search needs
 
-better-requires : tie.Need-better-requires
-better-requires c κs = search needs
+lesser-of-requires : tie.Need-lesser-of-requires
+lesser-of-requires c κs = search needs
 
 returns : tie.Need-returns
 returns c =
-    let s = c .before .before .before .before in
-    halves-best 2 4 (s .args .p) _ _ refl refl (omega arith) (s .args .w) _ (c .before .before .lowered .ensures) _ _ _ _ _ _ _ _ _
-    (c .before .before .before .best-of-four .ensures) (c .before .best-of-four2 .ensures) (c .better .ensures)
+    halves-are 2 4 _ refl _ _ (c .before .before .lowered .ensures) _ _ _
+    (c .before .before .before .best-of-four .ensures) (c .before .best-of-four2 .ensures) (c .lesser-of .ensures)
 
 pub best-of-eight-spec : {M : Type 1} → statement M
 best-of-eight-spec =
@@ -36,5 +34,5 @@ best-of-eight-spec =
     lowered-requires
     add-best-of-four
     best-of-four-requires-2
-    better-requires
+    lesser-of-requires
     returns)

@@ -1,8 +1,7 @@
 -- `choose::best_of_four` meets its contract.
 -- Assumes nothing.
 use mathlib.Core.Path.{refl}
-use native.Mathlib.Omega.{arith}
-use Rattle.polarity.proofs.Choosing.{halves-best}
+use Rattle.polarity.proofs.choose.Search.{halves-are}
 use borrow.Author.Needs.{needs}
 use Rattle.polarity.proofs.choose.best_of_four.Statement.{statement}
 use Rattle.polarity.proofs.choose.best_of_four.Tie as tie
@@ -19,14 +18,13 @@ add-best-of-two c = search needs
 best-of-two-requires-2 : tie.Need-best-of-two-requires-2
 best-of-two-requires-2 c κs = search needs
 
-better-requires : tie.Need-better-requires
-better-requires c κs = search needs
+lesser-of-requires : tie.Need-lesser-of-requires
+lesser-of-requires c κs = search needs
 
 returns : tie.Need-returns
 returns c =
-    let s = c .before .before .before .before in
-    halves-best 1 2 (s .args .p) _ _ refl refl (omega arith) (s .args .w) _ (c .before .before .lowered .ensures) _ _ _ _ _ _ _ _ _
-    (c .before .before .before .best-of-two .ensures) (c .before .best-of-two2 .ensures) (c .better .ensures)
+    halves-are 1 2 _ refl _ _ (c .before .before .lowered .ensures) _ _ _
+    (c .before .before .before .best-of-two .ensures) (c .before .best-of-two2 .ensures) (c .lesser-of .ensures)
 
 pub best-of-four-spec : {M : Type 1} → statement M
 best-of-four-spec =
@@ -36,5 +34,5 @@ best-of-four-spec =
     lowered-requires
     add-best-of-two
     best-of-two-requires-2
-    better-requires
+    lesser-of-requires
     returns)

@@ -1,6 +1,6 @@
 -- `choose::best_of_one` meets its contract.
 -- Assumes nothing.
-use Rattle.polarity.proofs.Choosing.{best-one}
+use Rattle.polarity.proofs.choose.Search.{one-is}
 use borrow.Author.Needs.{needs}
 use Rattle.polarity.proofs.choose.best_of_one.Statement.{statement}
 use Rattle.polarity.proofs.choose.best_of_one.Tie as tie
@@ -12,7 +12,7 @@ rank-requires : tie.Need-rank-requires
 rank-requires c κs = search needs
 
 returns : tie.Need-returns
-returns c = λ n l T. best-one n l _ _ T _ (c .before .counts-of .ensures) _ (c .rank .ensures)
+returns c = one-is _ _ _ _ (c .before .counts-of .ensures) (c .rank .ensures)
 
 pub best-of-one-spec : {M : Type 1} → statement M
 best-of-one-spec = tie.close (tie.spec counts-of-requires rank-requires returns)

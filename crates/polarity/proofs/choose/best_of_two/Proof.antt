@@ -1,8 +1,7 @@
 -- `choose::best_of_two` meets its contract.
 -- Assumes nothing.
 use mathlib.Core.Path.{refl}
-use native.Mathlib.Omega.{arith}
-use Rattle.polarity.proofs.Choosing.{halves-best}
+use Rattle.polarity.proofs.choose.Search.{halves-are}
 use borrow.Author.Needs.{needs}
 use Rattle.polarity.proofs.choose.best_of_two.Statement.{statement}
 use Rattle.polarity.proofs.choose.best_of_two.Tie as tie
@@ -19,14 +18,13 @@ add-best-of-one c = search needs
 best-of-one-requires-2 : tie.Need-best-of-one-requires-2
 best-of-one-requires-2 c κs = search needs
 
-better-requires : tie.Need-better-requires
-better-requires c κs = search needs
+lesser-of-requires : tie.Need-lesser-of-requires
+lesser-of-requires c κs = search needs
 
 returns : tie.Need-returns
 returns c =
-    let s = c .before .before .before .before in
-    halves-best 0 1 (s .args .p) _ _ refl refl (omega arith) (s .args .w) _ (c .before .before .lowered .ensures) _ _ _ _ _ _ _ _ _
-    (c .before .before .before .best-of-one .ensures) (c .before .best-of-one2 .ensures) (c .better .ensures)
+    halves-are 0 1 _ refl _ _ (c .before .before .lowered .ensures) _ _ _
+    (c .before .before .before .best-of-one .ensures) (c .before .best-of-one2 .ensures) (c .lesser-of .ensures)
 
 pub best-of-two-spec : {M : Type 1} → statement M
 best-of-two-spec =
@@ -36,5 +34,5 @@ best-of-two-spec =
     lowered-requires
     add-best-of-one
     best-of-one-requires-2
-    better-requires
+    lesser-of-requires
     returns)

@@ -4,7 +4,8 @@ use mathlib.Core.Path.{_≡_, sym, ap, _∙_}
 use mathlib.Core.List.{[], _∷_}
 use Rattle.records.specs.Answers.{accepted, counted}
 use Rattle.polarity.specs.Vectors.{checkVector}
-use Rattle.polarity.proofs.Choosing.{best-refused, best-vector, best-found}
+use Rattle.polarity.proofs.Checks.{check-accepts}
+use Rattle.polarity.proofs.choose.Search.{best-refused, best-found}
 use borrow.Author.Needs.{needs}
 use Rattle.polarity.proofs.choose.best_polarity.Statement.{statement}
 use Rattle.polarity.proofs.choose.best_polarity.Tie as tie
@@ -23,7 +24,7 @@ enum-told : tie.Need-enum-told
 enum-told c = search needs
 
 find-best-requires : tie.Need-find-best-requires
-find-best-requires c κs = best-vector _ _ _ (told c)
+find-best-requires c κs = check-accepts _ _ _ (told c)
 
 returns : tie.Need-returns
 returns c = best-refused _ _ _ (sym (c .before .before .before .check-vector .ensures) ∙ ap counted (c .before .r .given .1))

@@ -3,7 +3,7 @@
 use native.Mathlib.Omega.{arith}
 use borrow.Author.Needs.{needs}
 use Rattle.polarity.proofs.Checks.{vector-most}
-use Rattle.polarity.proofs.Choosing.{trying-all, best-all}
+use Rattle.polarity.proofs.choose.Search.{best-all}
 use Rattle.polarity.proofs.choose.find_best.Statement.{statement}
 use Rattle.polarity.proofs.choose.find_best.Tie as tie
 
@@ -19,7 +19,7 @@ best-from-requires c κs = let s = c .before .before .before in (search needs, o
 returns : tie.Need-returns
 returns c =
     let s = c .before .before .before .before in
-    best-all _ _ _ _ _ (c .best-from .ensures _ _ (trying-all _ _ (s .pre) _ _ (c .before .before .of .ensures) (c .before .raised-below .ensures)))
+    best-all _ _ (s .pre) _ _ _ (c .before .before .of .ensures) (c .before .raised-below .ensures) (c .best-from .ensures)
 
 pub find-best-spec : {M : Type 1} → statement M
 find-best-spec = tie.close (tie.spec of-requires raised-below-requires best-from-requires returns)

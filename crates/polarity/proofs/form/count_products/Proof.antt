@@ -1,4 +1,4 @@
--- `form::count_products` meets its contract: the loop keeps `Counting`.
+-- `form::count_products` meets its contract: the loop keeps `Tallied`.
 -- Assumes nothing.
 use Prim.Native.Nat.{_-_}
 use native.Mathlib.Omega.{arith}
@@ -6,19 +6,19 @@ use lib.ListN.{length}
 use borrow.Author.Needs.{needs}
 use Rattle.bits.proofs.Bools.{one-lt}
 use Rattle.polarity.specs.Vectors.{byteAt}
-use Rattle.polarity.specs.Passes.{nonzero}
-use Rattle.polarity.proofs.Writing.{Counting, counting-none, counting-more, counting-all}
+use Rattle.polarity.specs.Words.{nonzero}
+use Rattle.polarity.proofs.form.Writing.{Tallied, tallied-none, tallied-more, tallied-all}
 use Rattle.polarity.proofs.form.count_products.Statement.{statement}
 use Rattle.polarity.proofs.form.count_products.Tie as tie
 
 abbrev Inv-loop : tie.InvT-loop
-Inv-loop coefficients products₀ i₀ products i = Counting coefficients products i
+Inv-loop coefficients products₀ i₀ products i = Tallied coefficients products i
 
 abbrev μ-loop : tie.MeasureT-loop
 μ-loop coefficients products₀ i₀ products i = length coefficients - i
 
 loop-holds : tie.Need-loop-holds Inv-loop μ-loop
-loop-holds c = search counting-none
+loop-holds c = search tallied-none
 
 shared-slice-read-products : tie.Need-shared-slice-read-products Inv-loop μ-loop
 shared-slice-read-products c = search needs
@@ -36,13 +36,10 @@ loop-less : tie.Need-loop-less Inv-loop μ-loop
 loop-less c = search needs
 
 loop-again : tie.Need-loop-again Inv-loop μ-loop
-loop-again c = search counting-more
-
-shared-slice-read-t9 : tie.Need-shared-slice-read-t9 Inv-loop μ-loop
-shared-slice-read-t9 c = search needs
+loop-again c = search tallied-more
 
 returns : tie.Need-returns Inv-loop μ-loop
-returns c = search counting-all
+returns c = search tallied-all
 
 pub count-products-spec : {M : Type 1} → statement M
 count-products-spec =
@@ -57,5 +54,4 @@ count-products-spec =
     add-i
     loop-less
     loop-again
-    shared-slice-read-t9
     returns)

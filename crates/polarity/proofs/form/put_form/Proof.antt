@@ -8,7 +8,7 @@ use native.Mathlib.Omega.{arith}
 use lib.ListN.{length}
 use borrow.Author.Needs.{needs}
 use Rattle.polarity.proofs.Checks.{vector-most}
-use Rattle.polarity.proofs.Writing.{Writing, writing-none, writing-zero, writing-more, writing-all}
+use Rattle.polarity.proofs.form.Writing.{Writing, writing-none, writing-zero, writing-more, writing-all}
 use Rattle.polarity.proofs.form.put_form.Statement.{statement}
 use Rattle.polarity.proofs.form.put_form.Tie as tie
 
@@ -56,7 +56,7 @@ loop-again c =
     (c .if1 .came)
 
 same-length : tie.Need-same-length Inv-loop μ-loop
-same-length c = c .before .loop .inv .size
+same-length c = c .before .loop .inv .long
 
 returns : tie.Need-returns Inv-loop μ-loop
 returns c = search writing-all

@@ -1,15 +1,13 @@
 -- `form::write_form` meets its contract: the form's list is written to the front of the buffer where every test passes, and nothing where one fails.
 -- Assumes nothing.
-use mathlib.Core.Path.{_≡_, sym, ap, _∙_, subst}
+use mathlib.Core.Path.{_≡_, sym, ap, _∙_}
 use mathlib.Core.List.{[], _∷_}
-use Prim.Native.Nat.{ℕ, _<_}
 use native.Mathlib.Omega.{arith}
-use lib.Pow.{pow-pos}
 use Rattle.records.specs.Answers.{accepted, counted}
 use Rattle.polarity.specs.Vectors.{Vector, checkVector}
 use Rattle.polarity.specs.Calls.{formAfter}
-use Rattle.polarity.proofs.Checks.{check-accepts, check-size, vector-most, called-refused, called-accepted}
-use Rattle.polarity.proofs.Writing.{form-refused, form-15, form-5, form-0}
+use Rattle.polarity.proofs.Checks.{check-accepts, check-long, vector-most, call-refused, call-accepted}
+use Rattle.polarity.proofs.form.Writing.{form-refused, form-15, form-5, form-0}
 use borrow.Author.Needs.{needs}
 use Rattle.polarity.proofs.form.write_form.Statement.{statement}
 use Rattle.polarity.proofs.form.write_form.Tie as tie
@@ -38,12 +36,10 @@ new-requires c κs = search needs
 
 returns : tie.Need-returns
 unfolding formAfter
-returns c =
-    let r = called-refused _ _ _ _ (form-15 _ _ _ _ _ (told (c .before .before .before)) _ (c .new .ensures) (c .before .if1 .taken)) in
-    (r .says, r .buffer)
+returns c = call-refused _ _ _ _ (form-15 _ _ _ _ _ (told (c .before .before .before)) _ (c .new .ensures) (c .before .if1 .taken))
 
 count-products-requires : tie.Need-count-products-requires
-count-products-requires c κs = let a = c .before .before in subst (λ (x : ℕ). 0 < x) (sym (ok a .long)) (pow-pos (start a .args .n))
+count-products-requires c κs = search needs
 
 capacity-requires : tie.Need-capacity-requires
 capacity-requires c κs = search needs
@@ -55,25 +51,21 @@ returns-2 : tie.Need-returns-2
 unfolding formAfter
 returns-2 c =
     let call = c .before .before .before in
-    let r =
-    called-refused _ _ _ _ (form-5 _ _ _ _ _ (told (call .before .before .before)) (call .before .if1 .left) _ (call .count-products .ensures)
-    _ _ (c .new2 .ensures) (c .before .before .capacity .ensures) (c .before .if2 .taken)) in
-    (r .says, r .buffer)
+    call-refused _ _ _ _ (form-5 _ _ _ _ _ (told (call .before .before .before)) (call .before .if1 .left) _ (call .count-products .ensures)
+    _ _ (c .new2 .ensures) (c .before .before .capacity .ensures) (c .before .if2 .taken))
 
 cast-put-form : tie.Need-cast-put-form
 cast-put-form c =
-    let a = c .before .before .before .before .before in
-    omega (arith, vector-most _ _ (ok a), check-size _ _ _ (told a), c .before .before .before .if1 .left)
+    let low = c .before .before .before in
+    let a = low .before .before in
+    omega (arith, vector-most _ _ (ok a), check-long _ _ _ (told a), low .if1 .left)
 
 put-form-requires : tie.Need-put-form-requires
 put-form-requires c κs = ok (c .before .before .before .before .before .before)
 
 returns-3 : tie.Need-returns-3
 unfolding formAfter
-returns-3 c =
-    let c₃ = c .before .before .before in
-    let r = called-refused _ _ _ _ (form-refused _ _ _ _ _ (sym (c₃ .check-vector .ensures) ∙ ap counted (c .before .r .given .1))) in
-    (r .says, r .buffer)
+returns-3 c = call-refused _ _ _ _ (form-refused _ _ _ _ _ (sym (c .before .before .before .check-vector .ensures) ∙ ap counted (c .before .r .given .1)))
 
 same-length : tie.Need-same-length
 same-length c = search needs
@@ -82,12 +74,9 @@ returns-4 : tie.Need-returns-4
 unfolding formAfter
 returns-4 c =
     let c₄ = c .before .before .before .before in
-    let c₅ = c₄ .before in
-    let call = c₅ .before in
-    let r =
-    called-accepted _ _ _ _ _ (form-0 _ _ _ _ _ (told (call .before .before .before)) (call .before .if1 .left) _ (call .count-products .ensures)
-    _ (c₅ .capacity .ensures) (c₄ .if2 .left)) (c .before .before .put-form .ensures) in
-    (r .says, r .buffer)
+    let call = c₄ .before .before in
+    call-accepted _ _ _ _ _ (form-0 _ _ _ _ _ (told (call .before .before .before)) (call .before .if1 .left) _ (call .count-products .ensures)
+    _ (c₄ .before .capacity .ensures) (c₄ .if2 .left)) (c .before .before .put-form .ensures)
 
 pub write-form-spec : {M : Type 1} → statement M
 write-form-spec =

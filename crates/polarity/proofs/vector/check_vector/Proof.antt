@@ -2,7 +2,7 @@
 -- Assumes nothing.
 use mathlib.Core.Path.{refl}
 use borrow.Author.Needs.{needs}
-use Rattle.polarity.proofs.Checks.{vector-1, vector-14, vector-byte, vector-0}
+use Rattle.polarity.proofs.vector.Tests.{vector-1, vector-14, vector-byte, vector-0}
 use Rattle.polarity.proofs.vector.check_vector.Statement.{statement}
 use Rattle.polarity.proofs.vector.check_vector.Tie as tie
 

@@ -1,20 +1,20 @@
--- `vector::first_bad` meets its contract: the loop keeps `Looking`.
+-- `vector::first_bad` meets its contract: the loop keeps `BitsBefore`.
 -- Assumes nothing.
 use Prim.Native.Nat.{_-_}
 use lib.ListN.{length}
 use borrow.Author.Needs.{needs}
-use Rattle.polarity.proofs.Checks.{Looking, looking-none, looking-next, found-none, found-bad}
+use Rattle.polarity.proofs.vector.Tests.{BitsBefore, before-none, before-next, found-none, found-bad}
 use Rattle.polarity.proofs.vector.first_bad.Statement.{statement}
 use Rattle.polarity.proofs.vector.first_bad.Tie as tie
 
 abbrev Inv-loop : tie.InvT-loop
-Inv-loop bytes i₀ i = Looking bytes i
+Inv-loop bytes i₀ i = BitsBefore bytes i
 
 abbrev μ-loop : tie.MeasureT-loop
 μ-loop bytes i₀ i = length bytes - i
 
 loop-holds : tie.Need-loop-holds Inv-loop μ-loop
-loop-holds c = search looking-none
+loop-holds c = search before-none
 
 shared-slice-read-if2 : tie.Need-shared-slice-read-if2 Inv-loop μ-loop
 shared-slice-read-if2 c = search needs
@@ -26,7 +26,7 @@ loop-less : tie.Need-loop-less Inv-loop μ-loop
 loop-less c = search needs
 
 loop-again : tie.Need-loop-again Inv-loop μ-loop
-loop-again c = search looking-next
+loop-again c = search before-next
 
 returns : tie.Need-returns Inv-loop μ-loop
 returns c = search found-none

@@ -1,8 +1,9 @@
 -- `run::check_run` meets its contract.
 -- Assumes nothing.
 use mathlib.Core.Path.{sym, ap, _∙_}
+use native.Mathlib.Omega.{arith}
 use Rattle.records.specs.Answers.{counted}
-use Rattle.script.proofs.RunLaws.{run-list-refused, run-short, run-script}
+use Rattle.script.proofs.Outcomes.{run-list-refused, run-short, run-script}
 use borrow.Author.Needs.{needs}
 use Rattle.script.proofs.run.check_run.Statement.{statement}
 use Rattle.script.proofs.run.check_run.Tie as tie
@@ -26,7 +27,7 @@ returns : tie.Need-returns
 returns c =
     let c₃ = c .before .before .before in
     let c₅ = c₃ .before .before in
-    run-short _ _ _ _ _ (sym (c₅ .check .ensures) ∙ ap counted (c₃ .enum-told .given .1)) _ (c .before .before .capacity .ensures) _ (c .new .ensures) (c .before .if1 .taken)
+    run-short _ _ _ _ _ (sym (c₅ .check .ensures) ∙ ap counted (c₃ .enum-told .given .1)) _ (c .before .before .capacity .ensures) _ (c .new .ensures) (omega (arith, c .before .if1 .taken))
 
 check-script-requires : tie.Need-check-script-requires
 check-script-requires c κs = search needs
@@ -38,7 +39,7 @@ returns-3 : tie.Need-returns-3
 returns-3 c =
     let c₃ = c .before .before .before in
     let c₅ = c₃ .before .before in
-    c .check-script .ensures ∙ run-script _ _ _ _ _ (sym (c₅ .check .ensures) ∙ ap counted (c₃ .enum-told .given .1)) _ (c .before .before .capacity .ensures) (c .before .if1 .left)
+    c .check-script .ensures ∙ run-script _ _ _ _ _ (sym (c₅ .check .ensures) ∙ ap counted (c₃ .enum-told .given .1)) _ (c .before .before .capacity .ensures) (omega (arith, c .before .if1 .left))
 
 pub check-run-spec : {M : Type 1} → statement M
 check-run-spec =

@@ -4,7 +4,7 @@ use mathlib.Core.Path.{ap, _∙_}
 use native.Mathlib.Omega.{arith}
 use lib.ListN.{getD, set}
 use Rattle.orders.specs.Orders.{follow}
-use Rattle.script.proofs.RunLaws.{pend-other, pend-L, pend-out}
+use Rattle.script.proofs.run.Advancing.{pend-other, pend-L, pend-out}
 use borrow.Author.Needs.{needs}
 use Rattle.script.proofs.run.pended.Statement.{statement}
 use Rattle.script.proofs.run.pended.Tie as tie

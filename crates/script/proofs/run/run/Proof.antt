@@ -2,7 +2,8 @@
 -- Assumes nothing.
 use mathlib.Core.Path.{sym, ap, _∙_}
 use Rattle.records.specs.Answers.{counted}
-use Rattle.script.proofs.RunLaws.{passed, whole-refused, whole-run}
+use Rattle.script.proofs.Outcomes.{passed, run-refuses}
+use Rattle.script.proofs.run.Finishing.{whole-run}
 use borrow.Author.Needs.{needs}
 use Rattle.script.proofs.run.run.Statement.{statement}
 use Rattle.script.proofs.run.run.Tie as tie
@@ -20,7 +21,7 @@ run-accepted-requires : tie.Need-run-accepted-requires
 run-accepted-requires c κs = passed _ _ (sym (c .before .before .before .check-run .ensures) ∙ ap counted (c .before .enum-told .given .1))
 
 returns : tie.Need-returns
-returns c = whole-refused _ _ _ _ _ (sym (c .before .before .before .check-run .ensures) ∙ ap counted (c .before .r .given .1))
+returns c = run-refuses _ _ _ _ _ (sym (c .before .before .before .check-run .ensures) ∙ ap counted (c .before .r .given .1))
 
 same-length : tie.Need-same-length
 same-length c = search needs

@@ -5,7 +5,7 @@ use Rattle.orders.specs.Orders.{orderCount}
 use native.Mathlib.Omega.{arith}
 use borrow.Author.Needs.{needs}
 use Rattle.bits.proofs.Sums.{all-get}
-use Rattle.script.proofs.Undoing.{Undoing, undoing-none, undoing-held, undoing-good, undoing-more, undoing-end}
+use Rattle.script.proofs.run.Undoing.{Undoing, undoing-none, undoing-held, undoing-good, undoing-more, undoing-end}
 use Rattle.script.proofs.run.undo.Statement.{statement}
 use Rattle.script.proofs.run.undo.Tie as tie
 

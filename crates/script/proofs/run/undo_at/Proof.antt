@@ -2,13 +2,16 @@
 -- Assumes nothing.
 use native.Mathlib.Omega.{arith}
 use Rattle.orders.proofs.OrderLaws.{inverse-lt}
-use Rattle.script.proofs.Undoing.{undo-none, undo-done}
+use Rattle.script.proofs.run.Undoing.{undo-none, undo-done}
 use borrow.Author.Needs.{needs}
 use Rattle.script.proofs.run.undo_at.Statement.{statement}
 use Rattle.script.proofs.run.undo_at.Tie as tie
 
 returns : tie.Need-returns
-returns c = undo-none _ _ _ _ (c .if1 .taken) (c .before .before .pre .0) (c .before .before .pre .1 .0) (c .before .before .pre .1 .1 .0)
+returns c =
+    let a = c .before .before .args in
+    let p = c .before .before .pre in
+    undo-none (a .work .now) (a .count) (a .v) (a .o) (omega (arith, c .if1 .taken)) (p .0) (p .1 .0) (p .1 .1 .0)
 
 inverse-requires : tie.Need-inverse-requires
 inverse-requires c κs = search needs

@@ -1,6 +1,6 @@
 -- `candidates::best_of` meets its contract.
 -- Assumes nothing.
-use Rattle.settling.proofs.Forming.{vector-written, best-polarity-found, best-polarity-not-refused}
+use Rattle.settling.proofs.candidates.Polarities.{vector-written, best-polarity-found, best-polarity-not-refused}
 use borrow.Author.Needs.{needs}
 use Rattle.settling.proofs.candidates.best_of.Statement.{statement}
 use Rattle.settling.proofs.candidates.best_of.Tie as tie

@@ -1,9 +1,11 @@
 -- `settle::settle` meets its contract.
 -- Assumes nothing.
-use mathlib.Core.Path.{sym, ap, _∙_}
+use mathlib.Core.Path.{refl, sym, ap, _∙_}
+use native.Mathlib.Omega.{arith}
+use lib.Seq.{length-take-le}
 use Rattle.records.specs.Answers.{counted}
 use Rattle.script.specs.Calls.{finished}
-use Rattle.settling.proofs.Settling.{list-refused, work-short, out-short, run-refused, run-burns, run-settled}
+use Rattle.settling.proofs.settle.Settling.{list-refused, work-short, out-short, run-refused, result-few, result-end, run-burns, run-settled}
 use borrow.Author.Needs.{needs}
 use Rattle.settling.proofs.settle.settle.Statement.{statement}
 use Rattle.settling.proofs.settle.settle.Tie as tie
@@ -54,18 +56,36 @@ enum-known-r-2 c = search needs
 enum-known-count : tie.Need-enum-known-count
 enum-known-count c = search needs
 
+mul-end : tie.Need-mul-end
+mul-end c =
+    let r = c .before .before .before .before .before in
+    let g = r .before .before .before .before .before .before .before in
+    omega (
+      arith,
+      result-few _ _ _ _ (g .before .before .before .before .before .before .before .args .out .now) _ (sym (g .before .before .check .ensures) ∙ ap counted (g .given .given .1)) _ (r .before .before .before .before .before .capacity .ensures) (r .before .before .before .before .if1 .left)
+          _ (r .before .before .before .capacity2 .ensures) (r .before .before .if2 .left) _ _ _ (sym (ap finished (c .before .count .given .1)) ∙ r .run .ensures .0) (r .run .ensures .1),
+    )
+
+slice-reshare-prefix-burn-best : tie.Need-slice-reshare-prefix-burn-best
+slice-reshare-prefix-burn-best c =
+    let r = c .before .before .before .before .before in
+    let g = r .before .before .before .before .before .before .before in
+    result-end _ _ _ _ (g .before .before .before .before .before .before .before .args .out .now) _ (sym (g .before .before .check .ensures) ∙ ap counted (g .given .given .1)) _ (r .before .before .before .before .before .capacity .ensures) (r .before .before .before .before .if1 .left)
+    _ (r .before .before .before .capacity2 .ensures) (r .before .before .if2 .left) _ _ _ (sym (ap finished (c .before .count .given .1)) ∙ r .run .ensures .0) (r .run .ensures .1)
+
+slice-aggregate-burn-best : tie.Need-slice-aggregate-burn-best
+slice-aggregate-burn-best c =
+    let r = c .before .before .before .before .before .before in
+    let g = r .before .before .before .before .before .before .before in
+    sym (length-take-le _ _ (result-end _ _ _ _ (g .before .before .before .before .before .before .before .args .out .now) _ (sym (g .before .before .check .ensures) ∙ ap counted (g .given .given .1)) _ (r .before .before .before .before .before .capacity .ensures) (r .before .before .before .before .if1 .left)
+    _ (r .before .before .before .capacity2 .ensures) (r .before .before .if2 .left) _ _ _ (sym (ap finished (c .before .before .count .given .1)) ∙ r .run .ensures .0) (r .run .ensures .1)))
+
 burn-best-requires : tie.Need-burn-best-requires
 burn-best-requires c κs =
-    let c₃ = c .before .before .before in
-    let c₇ = c₃ .before .before .before .before in
-    let c₉ = c₇ .before .before in
-    let c₁₀ = c₉ .before in
-    let c₁₁ = c₁₀ .before in
-    let c₁₂ = c₁₁ .before in
-    let c₁₄ = c₁₂ .before .before in
-    let c₁₆ = c₁₄ .before .before in
-    run-burns _ _ _ _ _ _ (sym (c₁₆ .check .ensures) ∙ ap counted (c₁₄ .given .given .1)) _ (c₁₂ .capacity .ensures) (c₁₁ .if1 .left) _ (c₁₀ .capacity2 .ensures) (c₉ .if2 .left) _ _ _
-    (sym (ap finished (c₃ .count .given .1)) ∙ c₇ .run .ensures .0) (c₇ .run .ensures .1)
+    let r = c .before .before .before .before .before .before .before in
+    let g = r .before .before .before .before .before .before .before in
+    run-burns _ _ _ _ (g .before .before .before .before .before .before .before .args .out .now) _ (sym (g .before .before .check .ensures) ∙ ap counted (g .given .given .1)) _ (r .before .before .before .before .before .capacity .ensures) (r .before .before .before .before .if1 .left)
+    _ (r .before .before .before .capacity2 .ensures) (r .before .before .if2 .left) _ _ _ (sym (ap finished (c .before .before .before .count .given .1)) ∙ r .run .ensures .0) (r .run .ensures .1) _ refl
 
 clear-requires : tie.Need-clear-requires
 clear-requires c κs = search needs
@@ -110,7 +130,7 @@ returns-5 c =
     let c₂₁ = c₁₉ .before .before in
     let c₂₃ = c₂₁ .before .before in
     let r = run-settled _ _ _ _ _ _ (sym (c₂₃ .check .ensures) ∙ ap counted (c₂₁ .given .given .1)) _ (c₁₉ .capacity .ensures) (c₁₈ .if1 .left) _ (c₁₇ .capacity2 .ensures) (c₁₆ .if2 .left) _ _ _
-    (sym (ap finished (c₁₀ .count .given .1)) ∙ c₁₄ .run .ensures .0) (c₁₄ .run .ensures .1) _ _ (c₆ .burn-best .ensures) _ (c .before .before .clear .ensures) (c₁₃ .work .given) in
+    (sym (ap finished (c₁₀ .count .given .1)) ∙ c₁₄ .run .ensures .0) (c₁₄ .run .ensures .1) _ refl _ _ (c₆ .burn-best .ensures) _ (c .before .before .clear .ensures) (c₁₃ .work .given) in
     (r .answer, (r .work-is, r .out-is))
 
 pub settle-spec : {M : Type 1} → statement M
@@ -129,6 +149,9 @@ settle-spec =
     run-requires
     enum-known-r-2
     enum-known-count
+    mul-end
+    slice-reshare-prefix-burn-best
+    slice-aggregate-burn-best
     burn-best-requires
     clear-requires
     returns-3

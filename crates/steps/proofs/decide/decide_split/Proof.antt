@@ -1,5 +1,6 @@
 -- `steps::decide::decide_split` meets its contract.
 -- Assumes nothing.
+use native.Mathlib.Omega.{arith}
 use borrow.Author.Needs.{needs}
 use Rattle.steps.proofs.Deciding.{split-place, split-full, split-halves}
 use Rattle.steps.proofs.decide.decide_split.Statement.{statement}
@@ -9,7 +10,7 @@ returns : tie.Need-returns
 returns c = search split-place
 
 returns-2 : tie.Need-returns-2
-returns-2 c = search split-full
+returns-2 c = split-full _ _ _ _ _ (omega arith) (omega arith)
 
 code-at-requires : tie.Need-code-at-requires
 code-at-requires c κs = search needs
@@ -27,7 +28,10 @@ with-code-requires-2 : tie.Need-with-code-requires-2
 with-code-requires-2 c κs = search needs
 
 returns-3 : tie.Need-returns-3
-returns-3 c = search split-halves
+returns-3 c =
+    let p = c .before .before .before in
+    split-halves _ _ _ _ _ (omega arith) (omega arith) (p .before .before .before .before .pre) _ _ _ (p .before .code-at .ensures) (p .lower .ensures)
+    (c .before .higher .ensures) _ _ (c .before .before .with-code .ensures) (c .with-code2 .ensures)
 
 pub decide-split-spec : {M : Type 1} → statement M
 decide-split-spec =

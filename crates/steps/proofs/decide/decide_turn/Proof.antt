@@ -1,5 +1,6 @@
 -- `steps::decide::decide_turn` meets its contract.
 -- Assumes nothing.
+use mathlib.Core.Path.{refl}
 use borrow.Author.Needs.{needs}
 use Rattle.steps.proofs.Deciding.{turn-places, turn-unlike, turn-elsewhere, turn-both}
 use Rattle.steps.proofs.decide.decide_turn.Statement.{statement}
@@ -33,7 +34,14 @@ third-at-requires-2 : tie.Need-third-at-requires-2
 third-at-requires-2 c κs = search needs
 
 returns-4 : tie.Need-returns-4
-returns-4 c = search turn-both
+returns-4 c =
+    let t = c .before .before .before .before in
+    let s = t .before .before in
+    let p = s .before .before in
+    let pre = p .before .pre in
+    turn-both _ _ _ _ _ _ _ (p .two-places .ensures) (s .before .if1 .left) (pre .0 .0) (pre .0 .1) _ (s .differing .ensures .fixed) _ (pre .1 .1)
+    (t .before .if2 .left) _ (t .bit .ensures) (c .before .before .before .if3 .left) _ (c .before .before .only .ensures) _ refl
+    _ _ (c .before .third-at .ensures) (c .third-at2 .ensures)
 
 pub decide-turn-spec : {M : Type 1} → statement M
 decide-turn-spec =

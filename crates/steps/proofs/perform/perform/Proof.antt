@@ -5,9 +5,10 @@ use native.Mathlib.Omega.{arith}
 use lib.ListN.{length}
 use denote.Ref.{now}
 use borrow.Author.Needs.{needs}
-use Rattle.cube.specs.Lists.{recordWidth}
+use Rattle.cube.specs.Lists.{cubes, narrow, recordWidth}
 use Rattle.cube.proofs.ListLaws.{lawful}
-use Rattle.steps.proofs.Performing.{removed-held, perform-refuse, drop-in, drop-smaller, drop-one, drop-two, perform-drop, join-one, join-below, join-held, perform-join, split-room, perform-split, perform-turn}
+use Rattle.steps.specs.Changes.{Narrow}
+use Rattle.steps.proofs.Performing.{removed-held, drop-in, split-in, made-refuse, made-drop, made-split, made-turn, narrow-fits, refuse-move, drop-move, split-move, turn-move, join-below, join-one, join-held, perform-join}
 use Rattle.steps.proofs.perform.perform.Statement.{statement}
 use Rattle.steps.proofs.perform.perform.Tie as tie
 
@@ -25,21 +26,32 @@ smaller-requires c κs = search needs
 
 remove-requires : tie.Need-remove-requires
 remove-requires c κs =
-    let start = c .before .before .before .before .before .before in
-    let places = drop-in (start .args .count) (start .args .i) (start .args .j) (now (start .args .work)) (start .args .change) (start .pre .1 .0)
-    (c .before .before .before .enum-told .given .1) in
-    (start .pre .0, omega (arith, places .first, places .second, c .before .before .larger .ensures, c .before .smaller .ensures))
+    let told = c .before .before .before in
+    let start = told .before .before .before in
+    let two = drop-in _ _ _ _ _ (start .pre .1 .0) (drop-move _ (told .enum-told .given .1)) in
+    (start .pre .0, omega (arith, two .first, two .second, c .before .before .larger .ensures, c .before .smaller .ensures))
 
 sub-remove : tie.Need-sub-remove
-sub-remove c = search drop-one
+sub-remove c =
+    let told = c .before .before .before .before .before .before .before in
+    let two = drop-in _ _ _ _ _ (told .before .before .before .pre .1 .0) (drop-move _ (told .enum-told .given .1)) in
+    omega (arith, two .first)
 
 remove-requires-2 : tie.Need-remove-requires-2
 remove-requires-2 c κs =
     let r = c .before .before .before in
-    (removed-held _ lawful _ _ _ _ (r .before .before .before .before .before .before .before .pre .0) (r .remove .ensures), search drop-smaller)
+    let told = r .before .before .before .before in
+    let start = told .before .before .before in
+    let two = drop-in _ _ _ _ _ (start .pre .1 .0) (drop-move _ (told .enum-told .given .1)) in (
+      removed-held _ lawful _ _ _ _ (start .pre .0) (r .remove .ensures),
+      omega (arith, two .first, two .second, two .unlike, r .before .before .before .larger .ensures, r .before .before .smaller .ensures),
+    )
 
 sub-t20 : tie.Need-sub-t20
-sub-t20 c = search drop-two
+sub-t20 c =
+    let told = c .before .before .before .before .before .before .before .before .before .before in
+    let two = drop-in _ _ _ _ _ (told .before .before .before .pre .1 .0) (drop-move _ (told .enum-told .given .1)) in
+    omega (arith, two .first, two .second, two .unlike)
 
 enum-known-change-2 : tie.Need-enum-known-change-2
 enum-known-change-2 c = search needs
@@ -64,8 +76,10 @@ put-cube-requires-3 c κs = search needs
 
 add-t32 : tie.Need-add-t32
 add-t32 c =
-    let start = c .before .before .before .before .before .before .before .before .before .before .before .before in
-    let room : start .args .count < length (now (start .args .work)) / recordWidth = search split-room in
+    let told = c .before .before .before .before .before .before .before .before .before in
+    let start = told .before .before .before in
+    let room : start .args .count < length (now (start .args .work)) / recordWidth =
+    split-in _ _ _ _ _ (start .pre .1 .0) _ _ (split-move _ _ _ (told .change3 .given .1)) .more in
     omega arith
 
 enum-known-change-4 : tie.Need-enum-known-change-4
@@ -78,13 +92,17 @@ put-cube-requires-5 : tie.Need-put-cube-requires-5
 put-cube-requires-5 c κs = search needs
 
 returns : tie.Need-returns
-returns c = search perform-refuse
+returns c = made-refuse cubes lawful _ _ _ _ _ _ (refuse-move _ _ (c .before .change .given .1))
 
 same-length : tie.Need-same-length
 same-length c = search needs
 
 returns-2 : tie.Need-returns-2
-returns-2 c = search perform-drop
+returns-2 c =
+    let c₆ = c .before .before .before .before .before .before in
+    let told = c₆ .before .before .before .before in
+    made-drop cubes lawful _ _ _ _ _ (drop-move _ (told .enum-told .given .1)) (told .before .before .before .pre .0) _ _
+    (c₆ .before .before .before .larger .ensures) (c₆ .before .before .smaller .ensures) _ _ (c₆ .remove .ensures) (c .before .before .remove2 .ensures)
 
 same-length-2 : tie.Need-same-length-2
 same-length-2 c = search needs
@@ -96,13 +114,23 @@ same-length-3 : tie.Need-same-length-3
 same-length-3 c = search needs
 
 returns-4 : tie.Need-returns-4
-returns-4 c = search perform-split
+returns-4 c =
+    let c₆ = c .before .before .before .before .before .before in
+    let told = c₆ .before .before .before in
+    let pre = told .before .before .before .pre in
+    made-split cubes lawful _ _ _ _ _ Narrow narrow narrow-fits (pre .1 .0) (pre .1 .1) _ _ (split-move _ _ _ (told .change3 .given .1)) (pre .0) _ _
+    (c₆ .put-cube2 .ensures) (c .before .before .put-cube3 .ensures)
 
 same-length-4 : tie.Need-same-length-4
 same-length-4 c = search needs
 
 returns-5 : tie.Need-returns-5
-returns-5 c = search perform-turn
+returns-5 c =
+    let c₆ = c .before .before .before .before .before .before in
+    let told = c₆ .before .before .before in
+    let pre = told .before .before .before .pre in
+    made-turn cubes lawful _ _ _ _ _ Narrow narrow narrow-fits (pre .1 .0) (pre .1 .1) _ _ (turn-move _ _ _ (told .change4 .given .1)) (pre .0) _ _
+    (c₆ .put-cube4 .ensures) (c .before .before .put-cube5 .ensures)
 
 pub perform-spec : {M : Type 1} → statement M
 perform-spec =

@@ -6,7 +6,8 @@ use lib.ListN.{getD}
 use denote.Ref.{now}
 use borrow.Author.Needs.{needs}
 use Rattle.cube.proofs.ListLaws.{lawful}
-use Rattle.steps.proofs.Performing.{narrow-read, remove-done}
+use Rattle.cube.proofs.RecordLaws.{narrow-read}
+use Rattle.steps.proofs.Performing.{remove-done}
 use Rattle.steps.proofs.perform.remove.Statement.{statement}
 use Rattle.steps.proofs.perform.remove.Tie as tie
 

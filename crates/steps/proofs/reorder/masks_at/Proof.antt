@@ -2,7 +2,7 @@
 -- Assumes nothing.
 use borrow.Author.Needs.{needs}
 use Rattle.bits.proofs.Bits.{shl-one}
-use Rattle.steps.proofs.Masks.{masks-made}
+use Rattle.steps.proofs.reorder.ByMasks.{masks-made}
 use Rattle.steps.proofs.reorder.masks_at.Statement.{statement}
 use Rattle.steps.proofs.reorder.masks_at.Tie as tie
 
@@ -37,7 +37,12 @@ word-requires-3 : tie.Need-word-requires-3
 word-requires-3 c κs = search needs
 
 returns : tie.Need-returns
-returns c = search (masks-made, shl-one)
+returns c =
+    let z = c .before .before .before .before .before .before .before .before .before .before .before in
+    let y = z .before .before in
+    let x = y .before .before in
+    masks-made _ _ _ _ _ _ _ _ _ _ _ _ (shl-one _ _ (x .before .before .pre)) (x .before .image .ensures) (x .literal .ensures) (y .before .image2 .ensures) (y .literal2 .ensures)
+    (z .before .image3 .ensures) (z .literal3 .ensures) (c .before .before .word .ensures) (c .before .word2 .ensures) (c .word3 .ensures)
 
 pub masks-at-spec : {M : Type 1} → statement M
 masks-at-spec =

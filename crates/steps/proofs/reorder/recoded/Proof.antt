@@ -2,7 +2,7 @@
 -- Assumes nothing.
 use mathlib.Core.Path.{_∙_}
 use borrow.Author.Needs.{needs}
-use Rattle.steps.proofs.Masks.{recoded-is, recoded-made}
+use Rattle.steps.proofs.reorder.ByMasks.{recoded-is, recoded-made}
 use Rattle.steps.proofs.reorder.recoded.Statement.{statement}
 use Rattle.steps.proofs.reorder.recoded.Tie as tie
 

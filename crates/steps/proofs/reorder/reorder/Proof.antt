@@ -6,7 +6,7 @@ use borrow.Author.Needs.{needs}
 use Rattle.cube.specs.Lists.{cubes}
 use Rattle.cube.proofs.ListLaws.{lawful}
 use Rattle.steps.specs.Steps.{reordered}
-use Rattle.steps.proofs.Reordering.{Mapped, mapped-none, mapped-end, whole-count, reorder-good, reorder-more}
+use Rattle.steps.proofs.reorder.Reordering.{Mapped, mapped-none, mapped-end, whole-count, reorder-good, reorder-more}
 use Rattle.steps.proofs.reorder.reorder.Statement.{statement}
 use Rattle.steps.proofs.reorder.reorder.Tie as tie
 

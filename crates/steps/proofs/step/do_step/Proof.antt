@@ -1,5 +1,6 @@
 -- `steps::step::do_step` meets its contract: an L step by one pass, the others by a decision and its change.
 -- Assumes nothing.
+use Prim.Native.Nat.{_<_}
 use borrow.Author.Needs.{needs}
 use Rattle.steps.proofs.Stepping.{ready-good, look-good, not-letter, letter-variable, letter-order, letter-done, step-placed, step-narrow, step-done}
 use Rattle.steps.proofs.step.do_step.Statement.{statement}
@@ -33,18 +34,30 @@ decide-requires c κs =
     ((search look-good, search look-good), (search needs, (search needs, search not-letter)))
 
 perform-requires : tie.Need-perform-requires
-perform-requires c κs = (search needs, (search step-placed, search step-narrow))
+perform-requires c κs =
+    let c₄ = c .before .before .before .before in
+    let start = c₄ .before .before .before .before .before in
+    let low : start .args .x .op < 5 = search not-letter in
+    let at = c .before .before .look2 .ensures in (
+      search needs,
+      (
+        step-placed _ _ _ _ (start .pre .0) _ (start .pre .1) low _ _ (c₄ .look .ensures) at _ (c .before .decide .ensures),
+        step-narrow _ _ _ _ (start .pre .0) _ (start .pre .1) low _ _ (c₄ .look .ensures) at _ (c .before .decide .ensures),
+      ),
+    )
 
 same-length-2 : tie.Need-same-length-2
 same-length-2 c = search needs
 
 returns-2 : tie.Need-returns-2
 returns-2 c =
-    let start = c .before .before .before .before .before .before .before .before .before .before .before .before in
+    let c₄ = c .before .before .before .before in
+    let c₇ = c₄ .before .before .before in
+    let start = c₇ .before .before .before .before .before in
+    let low : start .args .x .op < 5 = search not-letter in
     let done =
-    step-done _ _ _ _ (start .pre .0) _ _ _ _ (c .before .before .before .before .decide .ensures)
-    (c .before .before .before .before .before .before .before .look .ensures)
-    (c .before .before .before .before .before .look2 .ensures) _ _ (c .before .before .perform .ensures) in
+    step-done _ _ _ _ (start .pre .0) _ (start .pre .1) low _ _ (c₇ .look .ensures) (c₄ .before .look2 .ensures) _ (c₄ .decide .ensures)
+    _ _ (c .before .before .perform .ensures) in
     (done .answer, done .buffer)
 
 pub do-step-spec : {M : Type 1} → statement M

@@ -1,6 +1,6 @@
 -- `Packed::literal` meets its contract.
 -- Assumes nothing.
-use Rattle.bits.proofs.Packing.{literal-is}
+use Rattle.bits.proofs.packed.Literals.{literal-is}
 use borrow.Author.Needs.{needs}
 use Rattle.bits.proofs.packed.Packed.literal.Statement.{statement}
 use Rattle.bits.proofs.packed.Packed.literal.Tie as tie

@@ -1,7 +1,7 @@
 -- `Packed::lowered` meets its contract.
 -- Assumes nothing.
 use borrow.Author.Needs.{needs}
-use Rattle.bits.proofs.Packing.{lowered-each, lowered-six, lowered-seven}
+use Rattle.bits.proofs.packed.Passes.{lowered-each, lowered-six, lowered-above}
 use Rattle.bits.proofs.packed.Packed.lowered.Statement.{statement}
 use Rattle.bits.proofs.packed.Packed.lowered.Tie as tie
 
@@ -24,7 +24,7 @@ returns-2 : tie.Need-returns-2
 returns-2 c = lowered-six _ _ (search needs)
 
 returns-3 : tie.Need-returns-3
-returns-3 c = lowered-seven _ _ (search needs) (search needs) (search needs)
+returns-3 c = lowered-above _ _ (search needs) (search needs)
 
 pub lowered-spec : {M : Type 1} → statement M
 lowered-spec =

@@ -1,7 +1,7 @@
 -- `Packed::of` meets its contract.
 -- Assumes nothing.
 use borrow.Author.Needs.{needs}
-use Rattle.bits.proofs.Packing.{packed-is}
+use Rattle.bits.proofs.packed.Packing.{packed-is}
 use Rattle.bits.proofs.packed.Packed.of.Statement.{statement}
 use Rattle.bits.proofs.packed.Packed.of.Tie as tie
 

@@ -2,7 +2,7 @@
 -- Assumes nothing.
 use native.Mathlib.Omega.{arith}
 use borrow.Author.Needs.{needs}
-use Rattle.bits.proofs.Packing.{word-ones, ones-all}
+use Rattle.bits.proofs.packed.Words.{word-ones, ones-all}
 use Rattle.bits.proofs.packed.Packed.ones.Statement.{statement}
 use Rattle.bits.proofs.packed.Packed.ones.Tie as tie
 

@@ -1,7 +1,7 @@
 -- `Packed::raised` meets its contract.
 -- Assumes nothing.
 use borrow.Author.Needs.{needs}
-use Rattle.bits.proofs.Packing.{raised-each, raised-six, raised-seven}
+use Rattle.bits.proofs.packed.Passes.{raised-each, raised-six, raised-above}
 use Rattle.bits.proofs.packed.Packed.raised.Statement.{statement}
 use Rattle.bits.proofs.packed.Packed.raised.Tie as tie
 
@@ -24,7 +24,7 @@ returns-2 : tie.Need-returns-2
 returns-2 c = raised-six _ _ (search needs)
 
 returns-3 : tie.Need-returns-3
-returns-3 c = raised-seven _ _ (search needs) (search needs) (search needs)
+returns-3 c = raised-above _ _ (search needs) (search needs)
 
 pub raised-spec : {M : Type 1} → statement M
 raised-spec =

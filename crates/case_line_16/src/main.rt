@@ -1,4 +1,0 @@
-// The line `16` with no newline: 16 variables.
-fn main() {
-    map_files::run();
-}

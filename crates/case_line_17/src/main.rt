@@ -1,4 +1,0 @@
-// The line `17`: refusal 1.
-fn main() {
-    map_files::run();
-}

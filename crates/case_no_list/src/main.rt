@@ -1,4 +1,0 @@
-// `map.cub` is missing: no file.
-fn main() {
-    map_files::run();
-}

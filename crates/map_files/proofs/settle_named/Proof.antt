@@ -1,0 +1,43 @@
+-- `settle_named` is safe and ends: a line that gives a number gives at most 16 variables.
+-- Assumes nothing.
+use Rattle.map_files.proofs.Lines.{variables-few}
+use borrow.Author.Needs.{needs}
+use Rattle.map_files.proofs.settle_named.Statement.{statement}
+use Rattle.map_files.proofs.settle_named.Tie as tie
+
+line-of-requires : tie.Need-line-of-requires
+line-of-requires c κs = search needs
+
+enum-told : tie.Need-enum-told
+enum-told c = search needs
+
+new-requires : tie.Need-new-requires
+new-requires c κs = search needs
+
+refusal-requires : tie.Need-refusal-requires
+refusal-requires c κs = search needs
+
+enum-known-n : tie.Need-enum-known-n
+enum-known-n c = search needs
+
+load-list-requires : tie.Need-load-list-requires
+load-list-requires c κs = search (variables-few, needs)
+
+returns : tie.Need-returns
+returns c = search needs
+
+returns-2 : tie.Need-returns-2
+returns-2 c = search needs
+
+pub settle-named-spec : {M : Type 1} → statement M
+settle-named-spec =
+    tie.close
+    (tie.spec
+    line-of-requires
+    enum-told
+    new-requires
+    refusal-requires
+    enum-known-n
+    load-list-requires
+    returns
+    returns-2)

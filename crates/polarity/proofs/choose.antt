@@ -1,0 +1,2 @@
+-- What the proofs of `choose` use.
+pub mod Search

@@ -1,0 +1,2 @@
+-- What the proofs of `form` use.
+pub mod Writing

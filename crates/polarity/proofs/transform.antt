@@ -1,0 +1,3 @@
+-- What the proofs of `transform` use.
+pub mod Turning
+pub mod Room

@@ -1,0 +1,37 @@
+-- `transform::raised_below` meets its contract: the loop keeps `Passing`.
+-- Assumes nothing.
+use Prim.Native.Nat.{_-_}
+use borrow.Author.Needs.{needs}
+use Rattle.bits.specs.Packed.{raised}
+use Rattle.polarity.proofs.transform.Turning.{Passing, passing-none, passing-more, passing-all}
+use Rattle.polarity.proofs.transform.raised_below.Statement.{statement}
+use Rattle.polarity.proofs.transform.raised_below.Tie as tie
+
+abbrev Inv-loop : tie.InvT-loop
+Inv-loop n bits₀ k₀ bits k = Passing raised n bits₀ bits k
+
+abbrev μ-loop : tie.MeasureT-loop
+μ-loop n bits₀ k₀ bits k = n - k
+
+loop-holds : tie.Need-loop-holds Inv-loop μ-loop
+loop-holds c = passing-none _ _ _
+
+raised-requires : tie.Need-raised-requires Inv-loop μ-loop
+raised-requires c κs = search needs
+
+add-k : tie.Need-add-k Inv-loop μ-loop
+add-k c = search needs
+
+loop-less : tie.Need-loop-less Inv-loop μ-loop
+loop-less c = search needs
+
+loop-again : tie.Need-loop-again Inv-loop μ-loop
+loop-again c = search passing-more
+
+returns : tie.Need-returns Inv-loop μ-loop
+returns c = search passing-all
+
+pub raised-below-spec : {M : Type 1} → statement M
+raised-below-spec =
+    tie.close
+    (tie.spec Inv-loop μ-loop loop-holds raised-requires add-k loop-less loop-again returns)

@@ -1,0 +1,2 @@
+-- What the proofs of `vector` use.
+pub mod Tests

@@ -1,0 +1,164 @@
+-- Every outcome that the contract of a call allows, from Rattle or from C and Rust, is a `Called` or a `Faced`: the promises are of these.
+-- Assumes nothing.
+use mathlib.Core.Path.{_≡_, refl, ap, ap₂}
+use mathlib.Core.List.{List, [], _∷_}
+use Prim.Native.Nat.{ℕ}
+use Rattle.records.specs.Answers.{counted}
+use Rattle.cube.specs.Calls.{valued}
+use Rattle.polarity.specs.Calls.{found}
+use Rattle.script.specs.Calls.{finished}
+use Rattle.settling.specs.Calls.{settled}
+use Rattle.cube.proofs.list.check.Kinds as check-kinds
+use Rattle.cube.proofs.list.check.Reads as check-reads
+use Rattle.cube.proofs.value.value.Kinds as value-kinds
+use Rattle.cube.proofs.value.value.Reads as value-reads
+use Rattle.cube.proofs.value.truth_vector.Kinds as truth-vector-kinds
+use Rattle.cube.proofs.value.truth_vector.Reads as truth-vector-reads
+use Rattle.polarity.proofs.transform.coefficients.Kinds as coefficients-kinds
+use Rattle.polarity.proofs.transform.coefficients.Reads as coefficients-reads
+use Rattle.polarity.proofs.transform.vector_back.Kinds as vector-back-kinds
+use Rattle.polarity.proofs.transform.vector_back.Reads as vector-back-reads
+use Rattle.polarity.proofs.form.write_form.Kinds as write-form-kinds
+use Rattle.polarity.proofs.form.write_form.Reads as write-form-reads
+use Rattle.polarity.proofs.choose.best_polarity.Kinds as best-polarity-kinds
+use Rattle.polarity.proofs.choose.best_polarity.Reads as best-polarity-reads
+use Rattle.script.proofs.run.run.Kinds as run-kinds
+use Rattle.script.proofs.run.run.Reads as run-reads
+use Rattle.settling.proofs.settle.settle.Kinds as settle-kinds
+use Rattle.settling.proofs.settle.settle.Reads as settle-reads
+use Rattle.druthmoy.proofs.dm_check.Kinds as dm-check-kinds
+use Rattle.druthmoy.proofs.dm_check.Reads as dm-check-reads
+use Rattle.druthmoy.proofs.dm_value.Kinds as dm-value-kinds
+use Rattle.druthmoy.proofs.dm_value.Reads as dm-value-reads
+use Rattle.druthmoy.proofs.dm_truth_vector.Kinds as dm-truth-vector-kinds
+use Rattle.druthmoy.proofs.dm_truth_vector.Reads as dm-truth-vector-reads
+use Rattle.druthmoy.proofs.dm_coefficients.Kinds as dm-coefficients-kinds
+use Rattle.druthmoy.proofs.dm_coefficients.Reads as dm-coefficients-reads
+use Rattle.druthmoy.proofs.dm_vector.Kinds as dm-vector-kinds
+use Rattle.druthmoy.proofs.dm_vector.Reads as dm-vector-reads
+use Rattle.druthmoy.proofs.dm_write_form.Kinds as dm-write-form-kinds
+use Rattle.druthmoy.proofs.dm_write_form.Reads as dm-write-form-reads
+use Rattle.druthmoy.proofs.dm_best_polarity.Kinds as dm-best-polarity-kinds
+use Rattle.druthmoy.proofs.dm_best_polarity.Reads as dm-best-polarity-reads
+use Rattle.druthmoy.proofs.dm_run.Kinds as dm-run-kinds
+use Rattle.druthmoy.proofs.dm_run.Reads as dm-run-reads
+use Rattle.druthmoy.proofs.dm_settle.Kinds as dm-settle-kinds
+use Rattle.druthmoy.proofs.dm_settle.Reads as dm-settle-reads
+use Rattle.promises.specs.Calls.{Call, check, value, truthVector, coefficients, vectorBack, writeForm, bestPolarity, run, settle, answers, leaves, wordsOf, Faced}
+use Rattle.promises.specs.Contracts.{IsCalled, IsFaced}
+
+-- ---- from Rattle
+
+pub check-called : IsCalled 1 check-kinds.ps check-kinds.r check-reads.Learnt
+    (λ κs a. check (a .0) (a .1 .0 .now))
+    (λ κs a ws. []) (λ κs z. counted z)
+unfolding answers leaves
+check-called κs a z ws p = record { answer = p; left = refl }
+
+pub value-called : IsCalled 1 value-kinds.ps value-kinds.r value-reads.Learnt
+    (λ κs a. value (a .0) (a .1 .0 .now) (a .1 .1 .0))
+    (λ κs a ws. []) (λ κs z. valued z)
+unfolding answers leaves
+value-called κs a z ws p = record { answer = p; left = refl }
+
+pub truth-vector-called : IsCalled 2 truth-vector-kinds.ps truth-vector-kinds.r truth-vector-reads.Learnt
+    (λ κs a. truthVector (a .0) (a .1 .0 .now) (a .1 .1 .0 .now))
+    (λ κs a ws. ws .1 .1 .0 ∷ []) (λ κs z. counted z)
+unfolding answers leaves
+truth-vector-called κs a z ws p = record { answer = p .0; left = ap (λ (b : List ℕ). b ∷ []) (p .1) }
+
+pub coefficients-called : IsCalled 2 coefficients-kinds.ps coefficients-kinds.r coefficients-reads.Learnt
+    (λ κs a. coefficients (a .0) (a .1 .0 .now) (a .1 .1 .0) (a .1 .1 .1 .0 .now))
+    (λ κs a ws. ws .1 .1 .1 .0 ∷ []) (λ κs z. counted z)
+unfolding answers leaves
+coefficients-called κs a z ws p = record { answer = p .0; left = ap (λ (b : List ℕ). b ∷ []) (p .1) }
+
+pub vector-back-called : IsCalled 2 vector-back-kinds.ps vector-back-kinds.r vector-back-reads.Learnt
+    (λ κs a. vectorBack (a .0) (a .1 .0 .now) (a .1 .1 .0) (a .1 .1 .1 .0 .now))
+    (λ κs a ws. ws .1 .1 .1 .0 ∷ []) (λ κs z. counted z)
+unfolding answers leaves
+vector-back-called κs a z ws p = record { answer = p .0; left = ap (λ (b : List ℕ). b ∷ []) (p .1) }
+
+pub write-form-called : IsCalled 2 write-form-kinds.ps write-form-kinds.r write-form-reads.Learnt
+    (λ κs a. writeForm (a .0) (a .1 .0 .now) (a .1 .1 .0) (a .1 .1 .1 .0 .now))
+    (λ κs a ws. ws .1 .1 .1 .0 ∷ []) (λ κs z. counted z)
+unfolding answers leaves
+write-form-called κs a z ws p = record { answer = p .0; left = ap (λ (b : List ℕ). b ∷ []) (p .1) }
+
+pub best-polarity-called : IsCalled 1 best-polarity-kinds.ps best-polarity-kinds.r best-polarity-reads.Learnt
+    (λ κs a. bestPolarity (a .0) (a .1 .0 .now))
+    (λ κs a ws. []) (λ κs z. found z)
+unfolding answers leaves
+best-polarity-called κs a z ws p = record { answer = p; left = refl }
+
+pub run-called : IsCalled 3 run-kinds.ps run-kinds.r run-reads.Learnt
+    (λ κs a. run (a .0) (a .1 .0 .now) (a .1 .1 .0 .now) (a .1 .1 .1 .0 .now))
+    (λ κs a ws. ws .1 .1 .1 .0 ∷ []) (λ κs z. finished z)
+unfolding answers leaves
+run-called κs a z ws p = record { answer = p .0; left = ap (λ (b : List ℕ). b ∷ []) (p .1) }
+
+pub settle-called : IsCalled 4 settle-kinds.ps settle-kinds.r settle-reads.Learnt
+    (λ κs a. settle (a .0) (a .1 .0 .now) (a .1 .1 .0 .now) (a .1 .1 .1 .0 .now) (a .1 .1 .1 .1 .0 .now))
+    (λ κs a ws. ws .1 .1 .1 .0 ∷ ws .1 .1 .1 .1 .0 ∷ []) (λ κs z. settled z)
+unfolding answers leaves
+settle-called κs a z ws p = record { answer = p .0; left = ap₂ (λ (b d : List ℕ). b ∷ d ∷ []) (p .1 .0) (p .1 .1) }
+
+-- ---- from C and Rust
+
+-- what a face leaves is of the call's own outcome
+faced : (c : Call) (answer : List ℕ) (buffers : List (List ℕ)) → answer ≡ wordsOf c (answers c) → buffers ≡ leaves c → Faced c answer buffers
+faced c answer buffers e f = record { outcome = answers c; called = record { answer = refl; left = f }; told = e }
+
+pub dm-check-faced : IsFaced 2 dm-check-kinds.ps dm-check-kinds.r dm-check-reads.Learnt
+    (λ κs a. check (a .0) (a .1 .0 .now))
+    (λ κs a ws. []) (λ κs a ws. ws .1 .1 .0)
+unfolding answers leaves wordsOf
+dm-check-faced κs a z ws p = faced _ _ _ p refl
+
+pub dm-value-faced : IsFaced 2 dm-value-kinds.ps dm-value-kinds.r dm-value-reads.Learnt
+    (λ κs a. value (a .0) (a .1 .0 .now) (a .1 .1 .0))
+    (λ κs a ws. []) (λ κs a ws. ws .1 .1 .1 .0)
+unfolding answers leaves wordsOf
+dm-value-faced κs a z ws p = faced _ _ _ p refl
+
+pub dm-truth-vector-faced : IsFaced 3 dm-truth-vector-kinds.ps dm-truth-vector-kinds.r dm-truth-vector-reads.Learnt
+    (λ κs a. truthVector (a .0) (a .1 .0 .now) (a .1 .1 .0 .now))
+    (λ κs a ws. ws .1 .1 .0 ∷ []) (λ κs a ws. ws .1 .1 .1 .0)
+unfolding answers leaves wordsOf
+dm-truth-vector-faced κs a z ws p = faced _ _ _ (p .0) (ap (λ (b : List ℕ). b ∷ []) (p .1))
+
+pub dm-coefficients-faced : IsFaced 3 dm-coefficients-kinds.ps dm-coefficients-kinds.r dm-coefficients-reads.Learnt
+    (λ κs a. coefficients (a .0) (a .1 .0 .now) (a .1 .1 .0) (a .1 .1 .1 .0 .now))
+    (λ κs a ws. ws .1 .1 .1 .0 ∷ []) (λ κs a ws. ws .1 .1 .1 .1 .0)
+unfolding answers leaves wordsOf
+dm-coefficients-faced κs a z ws p = faced _ _ _ (p .0) (ap (λ (b : List ℕ). b ∷ []) (p .1))
+
+pub dm-vector-faced : IsFaced 3 dm-vector-kinds.ps dm-vector-kinds.r dm-vector-reads.Learnt
+    (λ κs a. vectorBack (a .0) (a .1 .0 .now) (a .1 .1 .0) (a .1 .1 .1 .0 .now))
+    (λ κs a ws. ws .1 .1 .1 .0 ∷ []) (λ κs a ws. ws .1 .1 .1 .1 .0)
+unfolding answers leaves wordsOf
+dm-vector-faced κs a z ws p = faced _ _ _ (p .0) (ap (λ (b : List ℕ). b ∷ []) (p .1))
+
+pub dm-write-form-faced : IsFaced 3 dm-write-form-kinds.ps dm-write-form-kinds.r dm-write-form-reads.Learnt
+    (λ κs a. writeForm (a .0) (a .1 .0 .now) (a .1 .1 .0) (a .1 .1 .1 .0 .now))
+    (λ κs a ws. ws .1 .1 .1 .0 ∷ []) (λ κs a ws. ws .1 .1 .1 .1 .0)
+unfolding answers leaves wordsOf
+dm-write-form-faced κs a z ws p = faced _ _ _ (p .0) (ap (λ (b : List ℕ). b ∷ []) (p .1))
+
+pub dm-best-polarity-faced : IsFaced 2 dm-best-polarity-kinds.ps dm-best-polarity-kinds.r dm-best-polarity-reads.Learnt
+    (λ κs a. bestPolarity (a .0) (a .1 .0 .now))
+    (λ κs a ws. []) (λ κs a ws. ws .1 .1 .0)
+unfolding answers leaves wordsOf
+dm-best-polarity-faced κs a z ws p = faced _ _ _ p refl
+
+pub dm-run-faced : IsFaced 4 dm-run-kinds.ps dm-run-kinds.r dm-run-reads.Learnt
+    (λ κs a. run (a .0) (a .1 .0 .now) (a .1 .1 .0 .now) (a .1 .1 .1 .0 .now))
+    (λ κs a ws. ws .1 .1 .1 .0 ∷ []) (λ κs a ws. ws .1 .1 .1 .1 .0)
+unfolding answers leaves wordsOf
+dm-run-faced κs a z ws p = faced _ _ _ (p .0) (ap (λ (b : List ℕ). b ∷ []) (p .1))
+
+pub dm-settle-faced : IsFaced 5 dm-settle-kinds.ps dm-settle-kinds.r dm-settle-reads.Learnt
+    (λ κs a. settle (a .0) (a .1 .0 .now) (a .1 .1 .0 .now) (a .1 .1 .1 .0 .now) (a .1 .1 .1 .1 .0 .now))
+    (λ κs a ws. ws .1 .1 .1 .0 ∷ ws .1 .1 .1 .1 .0 ∷ []) (λ κs a ws. ws .1 .1 .1 .1 .1 .0)
+unfolding answers leaves wordsOf
+dm-settle-faced κs a z ws p = faced _ _ _ (p .0) (ap₂ (λ (b d : List ℕ). b ∷ d ∷ []) (p .1 .0) (p .1 .1))

@@ -1,0 +1,124 @@
+-- Demand 1. Every call ends and answers, on all lists, scripts and buffers. Bad input is refused by a number and a place. A refusal found before the
+-- script starts writes nothing; one found at a step clears the work area and hands out no list.
+-- That every call ends and answers is what its proof says, for it has no `requires`; `Called` is any outcome that its contract allows (Contracts.antt).
+-- Assumes nothing.
+use mathlib.Core.Path.{_≡_, refl, sym, ap, _∙_, subst}
+use mathlib.Core.Logic.{_⊎_, inl, inr}
+use mathlib.Core.List.{List, [], _∷_}
+use Prim.Native.Nat.{ℕ}
+use lib.ListN.{length}
+use Rattle.records.specs.declared.Refusal.{Refusal}
+use Rattle.records.specs.Records.{zeros}
+use Rattle.records.specs.Answers.{Outcome, accepted, refused, refusal}
+use Rattle.records.proofs.Answering.{not-both, refused-same}
+use Rattle.cube.specs.declared.Cube.{Cube}
+use Rattle.cube.specs.Lists.{cubesOf, cubeCapacity}
+use Rattle.script.specs.Run.{Ran, stopped, ended}
+use Rattle.script.specs.Scripts.{stepsOf}
+use Rattle.script.specs.Calls.{runOf, ranOutcome, ranWork}
+use Rattle.script.proofs.Stopping.{stopped-steps, stopped-place, stopped-number}
+use Rattle.settling.specs.Calls.{ranSettled, ranBurned}
+use Rattle.promises.specs.Calls.{Call, check, value, truthVector, coefficients, vectorBack, writeForm, bestPolarity, run, settle, answers, lent, leaves, Called}
+use Rattle.promises.specs.Refusals.{NoneWrong, FirstWrong, reasons, RefusedBefore, Stopped, RefusedAtStep, in-run, in-settle}
+use Rattle.promises.specs.Accepted.{goesOn, goesOnLeaving, ScriptEnds}
+use Rattle.promises.proofs.Chains.{first-only, not-none}
+use Rattle.promises.proofs.Judging.{Outcomes, judged}
+use Rattle.promises.proofs.Judging as judging
+
+-- ---- the steps
+
+stops : (n : ℕ) (list script work : List ℕ) (r : Refusal) → runOf n list script (length work) ≡ stopped (r .number) (r .place) → Stopped n list script work r
+unfolding runOf
+stops n list script work r e = record {
+  at-step = stopped-place n (cubeCapacity (length work)) (stepsOf script) (cubesOf list) (r .number) (r .place) e;
+  least = stopped-number n (cubeCapacity (length work)) (stepsOf script) (cubesOf list) (r .number) (r .place) e .0;
+  most = stopped-number n (cubeCapacity (length work)) (stepsOf script) (cubesOf list) (r .number) (r .place) e .1;
+  steps = stopped-steps n (cubeCapacity (length work)) (stepsOf script) (cubesOf list) (r .number) (r .place) e;
+}
+
+-- a call that went on and was refused has a script, and was refused at a step of it
+at-step : (c : Call) (r : Refusal) (buffers : List (List ℕ)) → NoneWrong (reasons c) → goesOn c ≡ refused r → buffers ≡ goesOnLeaving c → RefusedAtStep r buffers c
+unfolding goesOn goesOnLeaving
+at-step (check n list) r buffers none e f = absurd (not-both e)
+at-step (value n list a) r buffers none e f = absurd (not-both e)
+at-step (truthVector n list out) r buffers none e f = absurd (not-both e)
+at-step (coefficients n vector p out) r buffers none e f = absurd (not-both e)
+at-step (vectorBack n vector p out) r buffers none e f = absurd (not-both e)
+at-step (writeForm n vector p out) r buffers none e f = absurd (not-both e)
+at-step (bestPolarity n vector) r buffers none e f = absurd (not-both e)
+at-step (run n list script work) r buffers none e f = go (runOf n list script (length work)) refl e f
+  where
+    go : (ran : Ran Cube) → runOf n list script (length work) ≡ ran → ranOutcome ran ≡ refused r → buffers ≡ ranWork (length work) ran ∷ []
+        → RefusedAtStep r buffers (run n list script work)
+    go (ended l peak) is e f = absurd (not-both e)
+    go (stopped number step) is e f =
+        in-run n list script work none (stops n list script work r (is ∙ ap (λ (q : Refusal). stopped (q .number) (q .place)) (refused-same e))) f
+at-step (settle n list script work out) r buffers none e f = go (runOf n list script (length work)) refl e f
+  where
+    go : (ran : Ran Cube) → runOf n list script (length work) ≡ ran → ranSettled n (cubesOf list) ran ≡ refused r
+        → buffers ≡ zeros (length work) ∷ ranBurned n (cubesOf list) ran out ∷ []
+        → RefusedAtStep r buffers (settle n list script work out)
+    go (ended l peak) is e f = absurd (not-both e)
+    go (stopped number step) is e f =
+        in-settle n list script work out none (stops n list script work r (is ∙ ap (λ (q : Refusal). stopped (q .number) (q .place)) (refused-same e))) f
+
+-- where nothing is wrong and the script, if there is one, ends, the call is accepted
+accepts : (c : Call) → ScriptEnds c → (v : List ℕ) × (goesOn c ≡ accepted v)
+unfolding goesOn ScriptEnds
+accepts (check n list) s = (_, refl)
+accepts (value n list a) s = (_, refl)
+accepts (truthVector n list out) s = (_, refl)
+accepts (coefficients n vector p out) s = (_, refl)
+accepts (vectorBack n vector p out) s = (_, refl)
+accepts (writeForm n vector p out) s = (_, refl)
+accepts (bestPolarity n vector) s = (_, refl)
+accepts (run n list script work) s = (_, ap ranOutcome (s .is))
+accepts (settle n list script work out) s = (_, ap (ranSettled n (cubesOf list)) (s .is))
+
+-- ---- the demand
+
+-- There is an outcome, for every call.
+pub answered : (c : Call) → Called c (answers c) (leaves c)
+answered c = record { answer = refl; left = refl }
+
+module _ (c : Call) (o : Outcome) (buffers : List (List ℕ)) (called : Called c o buffers) where
+  -- Bad input is refused: by the number and the place of the first in order that is wrong; and nothing is written.
+  pub wrong-refused : (number place : ℕ) → FirstWrong (reasons c) number place → (o ≡ refused (refusal number place)) × (buffers ≡ lent c)
+  wrong-refused number place f = go (judged c)
+    where
+      go : Outcomes c → (o ≡ refused (refusal number place)) × (buffers ≡ lent c)
+      go (judging.wrong r g e k) =
+          let same = first-only (reasons c) (r .number) number (r .place) place g f in
+          (called .answer ∙ e ∙ (λ i. refused (refusal (same .0 i) (same .1 i))), called .left ∙ k)
+      go (judging.right none e k) = absurd (not-none (reasons c) number place f none)
+
+  -- Nothing else is: what is refused was wrong, and the first in order, and nothing was written; or a step of the script was, where nothing
+  -- before the steps was wrong, and then every byte of the work buffer is zero, and no list is handed out.
+  pub refused-call : (r : Refusal) → o ≡ refused r → RefusedBefore r buffers c ⊎ RefusedAtStep r buffers c
+  refused-call r is = go (judged c)
+    where
+      go : Outcomes c → RefusedBefore r buffers c ⊎ RefusedAtStep r buffers c
+      go (judging.wrong q g e k) =
+          let same : q ≡ r = refused-same (sym e ∙ sym (called .answer) ∙ is) in
+          inl (record { wrong = subst (λ (x : Refusal). FirstWrong (reasons c) (x .number) (x .place)) same g; nothing-written = called .left ∙ k })
+      go (judging.right none e k) = inr (at-step c r buffers none (sym e ∙ sym (called .answer) ∙ is) (called .left ∙ k))
+
+  -- Of an accepted call nothing is wrong ..
+  pub accepted-not-wrong : (v : List ℕ) → o ≡ accepted v → NoneWrong (reasons c)
+  accepted-not-wrong v is = go (judged c)
+    where
+      go : Outcomes c → NoneWrong (reasons c)
+      go (judging.wrong q g e k) = absurd (not-both (sym is ∙ called .answer ∙ e))
+      go (judging.right none e k) = none
+
+  -- .. and where nothing is, the call answers and leaves what document 01 says of an accepted one, or is refused at a step; ..
+  pub not-wrong-goes-on : NoneWrong (reasons c) → (o ≡ goesOn c) × (buffers ≡ goesOnLeaving c)
+  not-wrong-goes-on fine = go (judged c)
+    where
+      go : Outcomes c → (o ≡ goesOn c) × (buffers ≡ goesOnLeaving c)
+      go (judging.wrong q g e k) = absurd (not-none (reasons c) (q .number) (q .place) g fine)
+      go (judging.right none e k) = (called .answer ∙ e, called .left ∙ k)
+
+  -- .. it is accepted where the script, if the call has one, ends.
+  pub not-wrong-accepted : NoneWrong (reasons c) → ScriptEnds c → (v : List ℕ) × (o ≡ accepted v)
+  not-wrong-accepted fine s = let a = accepts c s in (a .0, not-wrong-goes-on fine .0 ∙ a .1)

@@ -1,0 +1,138 @@
+-- Every call by its reasons: the first that is wrong is what it refuses, and then it leaves its buffers as they were; where none is, how it goes on.
+-- Assumes nothing.
+use mathlib.Core.Path.{_≡_, refl, ap}
+use mathlib.Core.List.{List, [], _∷_, _++_}
+use Prim.Native.Nat.{ℕ, _/_, _%_, _^_, _≤_, _<_}
+use native.Mathlib.Omega.{arith}
+use borrow.Author.Tests.{leb-false, leb-true, ltb-true, ltb-false, eqb-false, eqb-true}
+use lib.Dec.{leb, ltb, eqb}
+use lib.ListN.{length}
+use Rattle.records.specs.declared.Refusal.{Refusal}
+use Rattle.records.specs.Records.{listOf}
+use Rattle.records.specs.Answers.{Outcome, accepted, refused, refusal, unless, andThen}
+use Rattle.records.proofs.Answering.{and-then, and-not, after-refused, after-accepted}
+use Rattle.cube.specs.Cubes.{good, one}
+use Rattle.cube.specs.Lists.{mostVariables, vectorVariables, mostRecords, recordWidth, cubesOf, cubeCapacity}
+use Rattle.cube.specs.Calls.{checkList, valueOutcome, vectorOutcome, vectorAfter}
+use Rattle.polarity.specs.Forms.{formFrom}
+use Rattle.polarity.specs.Vectors.{byteAt, isBit, checkVector}
+use Rattle.polarity.specs.Calls.{coefficientsOutcome, coefficientsAfter, backAfter, formOutcome, formAfter, bestOutcome}
+use Rattle.script.specs.Scripts.{stepRecords, stepWidth, mostSteps, fits}
+use Rattle.script.specs.Calls.{checkScript, checkRun, runOf, runOutcome, workAfter, runAfter}
+use Rattle.settling.specs.Calls.{checkSettle, settleOutcome, settleWorkBy, settleWork, settleOutBy, settleOut}
+use Rattle.promises.specs.Calls.{Call, check, value, truthVector, coefficients, vectorBack, writeForm, bestPolarity, run, settle, answers, lent, leaves}
+use Rattle.promises.specs.Refusals.{Reason, at, NoneWrong, FirstWrong, listReasons, scriptReasons, vectorReasons, reasons}
+use Rattle.promises.specs.Accepted.{goesOn, goesOnLeaving}
+use Rattle.promises.proofs.Chains.{Judged, judge-end, judge-unless, judge-lowest, judge-and}
+use Rattle.promises.proofs.Chains as chains
+
+-- ---- the tests by number
+
+module _ {xs : List Reason} {o rest : Outcome} (j : Judged xs o rest) where
+  unless-le : (a b number place : ℕ) → Judged (at number place (b < a) ∷ xs) (unless (leb a b) number place o) rest
+  unless-le a b number place = judge-unless (leb a b) number place (b < a) (leb-false a b) (λ t h. let l = leb-true a b t in omega arith) j
+
+  unless-lt : (a b number place : ℕ) → Judged (at number place (b ≤ a) ∷ xs) (unless (ltb a b) number place o) rest
+  unless-lt a b number place = judge-unless (ltb a b) number place (b ≤ a) (ltb-false a b) (λ t h. let l = ltb-true a b t in omega arith) j
+
+  unless-eq : (a b number place : ℕ) → Judged (at number place (a ≡ b → ⊥) ∷ xs) (unless (eqb a b) number place o) rest
+  unless-eq a b number place = judge-unless (eqb a b) number place (a ≡ b → ⊥) (eqb-false a b) (λ t h. h (eqb-true a b t)) j
+
+-- ---- the chains
+
+pub by-list : (limit n : ℕ) (list : List ℕ) → Judged (listReasons limit n list) (checkList limit n list) (accepted (length (cubesOf list) ∷ []))
+unfolding checkList listReasons
+by-list limit n list =
+    unless-le
+    (unless-eq
+    (unless-le
+    (judge-lowest (good n) one 4 (cubesOf list) (judge-end (accepted (length (cubesOf list) ∷ []))))
+    (length list / recordWidth) mostRecords 3 0)
+    (length list % recordWidth) 0 2 0)
+    n limit 1 0
+
+pub by-script : (n : ℕ) (script : List ℕ) → Judged (scriptReasons n script) (checkScript n script) (accepted (length (listOf stepRecords script) ∷ []))
+unfolding checkScript scriptReasons
+by-script n script =
+    unless-eq
+    (unless-le
+    (judge-lowest (fits n) (stepRecords .none) 9 (listOf stepRecords script) (judge-end (accepted (length (listOf stepRecords script) ∷ []))))
+    (length script / stepWidth) mostSteps 8 0)
+    (length script % stepWidth) 0 7 0
+
+pub by-vector : (n : ℕ) (l : List ℕ) → Judged (vectorReasons n l) (checkVector n l) (accepted (2 ^ n ∷ []))
+unfolding checkVector vectorReasons
+by-vector n l =
+    unless-le
+    (unless-eq
+    (judge-lowest isBit 0 14 l (judge-end (accepted (2 ^ n ∷ []))))
+    (length l) (2 ^ n) 14 (2 ^ n))
+    n vectorVariables 1 0
+
+-- what is tested of a list, and then `ys`
+after-list : (limit n : ℕ) (list : List ℕ) (ys : List Reason) (o rest : Outcome)
+    → Judged ys o rest → Judged (listReasons limit n list ++ ys) (andThen (checkList limit n list) o) rest
+after-list limit n list ys o rest j = judge-and (listReasons limit n list) ys (checkList limit n list) o rest _ (by-list limit n list) j
+
+after-vector : (n : ℕ) (l : List ℕ) (ys : List Reason) (o rest : Outcome)
+    → Judged ys o rest → Judged (vectorReasons n l ++ ys) (andThen (checkVector n l) o) rest
+after-vector n l ys o rest j = judge-and (vectorReasons n l) ys (checkVector n l) o rest _ (by-vector n l) j
+
+-- ---- the calls
+
+-- a call is refused before the first step and leaves its buffers as they were, or goes on
+pub data Outcomes (c : Call) : Type 0 where
+  wrong : (r : Refusal) → FirstWrong (reasons c) (r .number) (r .place) → answers c ≡ refused r → leaves c ≡ lent c → Outcomes c
+  right : NoneWrong (reasons c) → answers c ≡ goesOn c → leaves c ≡ goesOnLeaving c → Outcomes c
+
+-- by what it tests before the first step
+by-tests : (c : Call) (o : Outcome) (v : List ℕ) → Judged (reasons c) o (accepted v)
+    → ((r : Refusal) → o ≡ refused r → (answers c ≡ refused r) × (leaves c ≡ lent c))
+    → (o ≡ accepted v → (answers c ≡ goesOn c) × (leaves c ≡ goesOnLeaving c))
+    → Outcomes c
+by-tests c o v (chains.wrong number place f e) no₁ yes₁ = let t = no₁ (refusal number place) e in wrong (refusal number place) f (t .0) (t .1)
+by-tests c o v (chains.right none e) no₁ yes₁ = let t = yes₁ e in right none (t .0) (t .1)
+
+one-buffer : {b d : List ℕ} → b ≡ d → b ∷ [] ≡ d ∷ []
+one-buffer e = ap (λ (x : List ℕ). x ∷ []) e
+
+pub judged : (c : Call) → Outcomes c
+unfolding answers lent leaves reasons goesOn goesOnLeaving valueOutcome vectorOutcome vectorAfter coefficientsOutcome coefficientsAfter backAfter formOutcome formAfter bestOutcome runOutcome runAfter checkRun checkSettle settleOutcome settleWork settleOut
+judged (check n list) = by-tests (check n list) (checkList mostVariables n list) _ (by-list mostVariables n list) (λ r e. (e, refl)) (λ e. (e, refl))
+judged (value n list a) =
+    by-tests (value n list a) (valueOutcome n list a) _
+    (after-list mostVariables n list _ _ _ (unless-lt (judge-end _) a (2 ^ n) 6 0))
+    (λ r e. (e, refl)) (λ e. (e, refl))
+judged (truthVector n list out) =
+    by-tests (truthVector n list out) (vectorOutcome n list (length out)) _
+    (after-list vectorVariables n list _ _ _ (unless-le (judge-end _) (2 ^ n) (length out) 5 0))
+    (λ r e. (e, one-buffer (after-refused _ _ out r e))) (λ e. (e, one-buffer (after-accepted _ _ out _ e)))
+judged (coefficients n l p out) =
+    by-tests (coefficients n l p out) (coefficientsOutcome n l p (length out)) _
+    (after-vector n l _ _ _ (unless-lt (unless-le (judge-end _) (2 ^ n) (length out) 5 0) p (2 ^ n) 15 0))
+    (λ r e. (e, one-buffer (after-refused _ _ out r e))) (λ e. (e, one-buffer (after-accepted _ _ out _ e)))
+judged (vectorBack n l p out) =
+    by-tests (vectorBack n l p out) (coefficientsOutcome n l p (length out)) _
+    (after-vector n l _ _ _ (unless-lt (unless-le (judge-end _) (2 ^ n) (length out) 5 0) p (2 ^ n) 15 0))
+    (λ r e. (e, one-buffer (after-refused _ _ out r e))) (λ e. (e, one-buffer (after-accepted _ _ out _ e)))
+judged (writeForm n l p out) =
+    by-tests (writeForm n l p out) (formOutcome n l p (length out)) _
+    (after-vector n l _ _ _ (unless-lt (unless-le (judge-end _) (length (formFrom n p (byteAt l))) (cubeCapacity (length out)) 5 0) p (2 ^ n) 15 0))
+    (λ r e. (e, one-buffer (after-refused _ _ out r e))) (λ e. (e, one-buffer (after-accepted _ _ out _ e)))
+judged (bestPolarity n l) =
+    by-tests (bestPolarity n l) (checkVector n l) _ (by-vector n l) (λ r e. (and-not _ _ r e, refl)) (λ e. (and-then _ _ _ e, refl))
+judged (run n list script work) =
+    by-tests (run n list script work) (checkRun n list script (length work)) _
+    (after-list mostVariables n list _ _ _ (unless-le (by-script n script) (length (cubesOf list)) (cubeCapacity (length work)) 5 0))
+    (λ r e. (and-not _ _ r e, one-buffer (ap (λ (o : Outcome). workAfter o work (runOf n list script (length work))) e)))
+    (λ e. (and-then _ _ _ e, one-buffer (ap (λ (o : Outcome). workAfter o work (runOf n list script (length work))) e)))
+judged (settle n list script work out) =
+    by-tests (settle n list script work out) (checkSettle n list script (length work) (length out)) _
+    (after-list mostVariables n list _ _ _
+    (unless-le (unless-le (by-script n script) (length (cubesOf list)) (cubeCapacity (length out)) 5 0) (length (cubesOf list)) (cubeCapacity (length work)) 5 0))
+    (λ r e. (and-not _ _ r e, two-buffers e)) (λ e. (and-then _ _ _ e, two-buffers e))
+  where
+    two-buffers : {o : Outcome} → checkSettle n list script (length work) (length out) ≡ o
+        → leaves (settle n list script work out) ≡ settleWorkBy o work ∷ settleOutBy o n (cubesOf list) (runOf n list script (length work)) out ∷ []
+    two-buffers e =
+        ap (λ (o : Outcome). settleWorkBy o work ∷ settleOutBy o n (cubesOf list) (runOf n list script (length work)) out ∷ []) e

@@ -1,0 +1,12 @@
+pub mod Chains
+pub mod Judging
+pub mod Contracts
+pub mod DemandOne
+pub mod Calling
+pub mod DemandTwo
+pub mod AnyForm
+pub mod DemandThree
+pub mod NotWrong
+pub mod DemandTwoCalls
+pub mod Faces
+pub mod Examples

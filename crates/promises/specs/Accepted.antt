@@ -1,0 +1,59 @@
+-- What each call answers and leaves where nothing before the first step is wrong. Document 01, "Refusal numbers and places": "Accepted, a check answers
+-- the record count; value, the bit; truth vector and coefficients, either way, 2^n; writing a form, its count; best polarity, p and the size; run, count
+-- and peak; settle, the counts that the program prints."
+-- Assumes nothing.
+use mathlib.Core.Path.{_≡_}
+use mathlib.Core.List.{List, [], _∷_, _++_}
+use Prim.Native.Nat.{ℕ, _^_}
+use lib.ListN.{length, drop}
+use Rattle.records.specs.Records.{written, zeros}
+use Rattle.records.specs.Answers.{Outcome, accepted}
+use Rattle.cube.specs.declared.Cube.{Cube}
+use Rattle.cube.specs.Lists.{cubes, cubesOf, listValue, truthVector}
+use Rattle.polarity.specs.Forms.{formFrom, size, bestPolarity}
+use Rattle.polarity.specs.Vectors.{byteAt, coefficientVector, vectorBack}
+use Rattle.script.specs.Run.{ended}
+use Rattle.script.specs.Calls.{runOf, ranOutcome, ranWork}
+use Rattle.settling.specs.Calls.{ranSettled, ranBurned}
+use Rattle.promises.specs.Calls.{Call}
+use Rattle.promises.specs.Calls as call
+
+unfoldable pub goesOn : Call → Outcome
+goesOn (call.check n list) = accepted (length (cubesOf list) ∷ [])
+goesOn (call.value n list a) = accepted (listValue n (cubesOf list) a ∷ [])
+goesOn (call.truthVector n list out) = accepted (2 ^ n ∷ [])
+goesOn (call.coefficients n vector p out) = accepted (2 ^ n ∷ [])
+goesOn (call.vectorBack n vector p out) = accepted (2 ^ n ∷ [])
+goesOn (call.writeForm n vector p out) = accepted (length (formFrom n p (byteAt vector)) ∷ [])
+goesOn (call.bestPolarity n vector) = accepted (bestPolarity n (byteAt vector) ∷ size n (bestPolarity n (byteAt vector)) (byteAt vector) ∷ [])
+goesOn (call.run n list script work) = ranOutcome (runOf n list script (length work))
+goesOn (call.settle n list script work out) = ranSettled n (cubesOf list) (runOf n list script (length work))
+
+-- "Other calls write the bytes they name and no more"
+unfoldable pub goesOnLeaving : Call → List (List ℕ)
+goesOnLeaving (call.check n list) = []
+goesOnLeaving (call.value n list a) = []
+goesOnLeaving (call.truthVector n list out) = (truthVector n (cubesOf list) ++ drop (2 ^ n) out) ∷ []
+goesOnLeaving (call.coefficients n vector p out) = (coefficientVector n p vector ++ drop (2 ^ n) out) ∷ []
+goesOnLeaving (call.vectorBack n vector p out) = (vectorBack n p vector ++ drop (2 ^ n) out) ∷ []
+goesOnLeaving (call.writeForm n vector p out) = written cubes 0 (formFrom n p (byteAt vector)) out ∷ []
+goesOnLeaving (call.bestPolarity n vector) = []
+goesOnLeaving (call.run n list script work) = ranWork (length work) (runOf n list script (length work)) ∷ []
+goesOnLeaving (call.settle n list script work out) = zeros (length work) ∷ ranBurned n (cubesOf list) (runOf n list script (length work)) out ∷ []
+
+-- the script, of a call that has one, ends: no step of it is refused
+pub record EndOfScript (n : ℕ) (list script work : List ℕ) : Type 0 where
+  pub result : List Cube
+  pub peak : ℕ
+  pub is : runOf n list script (length work) ≡ ended result peak
+
+unfoldable pub ScriptEnds : Call → Type 0
+ScriptEnds (call.check n list) = Unit {0}
+ScriptEnds (call.value n list a) = Unit {0}
+ScriptEnds (call.truthVector n list out) = Unit {0}
+ScriptEnds (call.coefficients n vector p out) = Unit {0}
+ScriptEnds (call.vectorBack n vector p out) = Unit {0}
+ScriptEnds (call.writeForm n vector p out) = Unit {0}
+ScriptEnds (call.bestPolarity n vector) = Unit {0}
+ScriptEnds (call.run n list script work) = EndOfScript n list script work
+ScriptEnds (call.settle n list script work out) = EndOfScript n list script work

@@ -1,0 +1,92 @@
+-- The calls of document 01, each with what its contract says: what it answers, and what it leaves in the buffers that it was lent.
+-- Assumes nothing.
+use mathlib.Core.Path.{_≡_}
+use mathlib.Core.List.{List, [], _∷_}
+use Prim.Native.Nat.{ℕ}
+use lib.ListN.{length}
+use Rattle.records.specs.Answers.{Outcome}
+use Rattle.cube.specs.Lists.{mostVariables}
+use Rattle.cube.specs.Calls.{checkList, valueOutcome, vectorOutcome, vectorAfter}
+use Rattle.polarity.specs.Calls.{coefficientsOutcome, coefficientsAfter, backAfter, formOutcome, formAfter, bestOutcome}
+use Rattle.script.specs.Calls.{runOutcome, runAfter}
+use Rattle.settling.specs.Calls.{settleOutcome, settleWork, settleOut}
+use Rattle.druthmoy.specs.Faces.{words, settledWords}
+
+-- a call, with its arguments in order; `out` and `work` are the bytes that the lent buffers held before it
+pub data Call : Type 0 where
+  -- "Checking a list": n, the list
+  check : ℕ → List ℕ → Call
+  -- "Value": n, the list, the assignment
+  value : ℕ → List ℕ → ℕ → Call
+  -- "Truth vector of a list": n, the list, out
+  truthVector : ℕ → List ℕ → List ℕ → Call
+  -- "Coefficients, and back": n, the vector or the coefficients, the polarity, out
+  coefficients : ℕ → List ℕ → ℕ → List ℕ → Call
+  vectorBack : ℕ → List ℕ → ℕ → List ℕ → Call
+  -- "Writing a form's list from its coefficients": n, the coefficients, the polarity, out
+  writeForm : ℕ → List ℕ → ℕ → List ℕ → Call
+  -- "Best polarity of a truth vector": n, the vector
+  bestPolarity : ℕ → List ℕ → Call
+  -- "Run": n, the list, the script, work
+  run : ℕ → List ℕ → List ℕ → List ℕ → Call
+  -- "Settle": n, the list, the script, work, out
+  settle : ℕ → List ℕ → List ℕ → List ℕ → List ℕ → Call
+
+-- what its contract says that it answers
+unfoldable pub answers : Call → Outcome
+answers (check n list) = checkList mostVariables n list
+answers (value n list a) = valueOutcome n list a
+answers (truthVector n list out) = vectorOutcome n list (length out)
+answers (coefficients n vector p out) = coefficientsOutcome n vector p (length out)
+answers (vectorBack n vector p out) = coefficientsOutcome n vector p (length out)
+answers (writeForm n vector p out) = formOutcome n vector p (length out)
+answers (bestPolarity n vector) = bestOutcome n vector
+answers (run n list script work) = runOutcome n list script (length work)
+answers (settle n list script work out) = settleOutcome n list script (length work) (length out)
+
+-- the buffers that it was lent, as they were
+unfoldable pub lent : Call → List (List ℕ)
+lent (check n list) = []
+lent (value n list a) = []
+lent (truthVector n list out) = out ∷ []
+lent (coefficients n vector p out) = out ∷ []
+lent (vectorBack n vector p out) = out ∷ []
+lent (writeForm n vector p out) = out ∷ []
+lent (bestPolarity n vector) = []
+lent (run n list script work) = work ∷ []
+lent (settle n list script work out) = work ∷ out ∷ []
+
+-- what its contract says that it leaves in them
+unfoldable pub leaves : Call → List (List ℕ)
+leaves (check n list) = []
+leaves (value n list a) = []
+leaves (truthVector n list out) = vectorAfter n list out ∷ []
+leaves (coefficients n vector p out) = coefficientsAfter n vector p out ∷ []
+leaves (vectorBack n vector p out) = backAfter n vector p out ∷ []
+leaves (writeForm n vector p out) = formAfter n vector p out ∷ []
+leaves (bestPolarity n vector) = []
+leaves (run n list script work) = runAfter n list script work ∷ []
+leaves (settle n list script work out) = settleWork n list script work (length out) ∷ settleOut n list script (length work) out ∷ []
+
+-- the call was made: it answered o, and left these buffers
+pub record Called (c : Call) (o : Outcome) (buffers : List (List ℕ)) : Type 0 where
+  pub answer : o ≡ answers c
+  pub left : buffers ≡ leaves c
+
+-- the eight words that a caller from C or Rust is answered
+unfoldable pub wordsOf : Call → Outcome → List ℕ
+wordsOf (check n list) o = words o
+wordsOf (value n list a) o = words o
+wordsOf (truthVector n list out) o = words o
+wordsOf (coefficients n vector p out) o = words o
+wordsOf (vectorBack n vector p out) o = words o
+wordsOf (writeForm n vector p out) o = words o
+wordsOf (bestPolarity n vector) o = words o
+wordsOf (run n list script work) o = words o
+wordsOf (settle n list script work out) o = settledWords o
+
+-- the call was made from C or Rust: it answered these words, and left these buffers
+pub record Faced (c : Call) (answer : List ℕ) (buffers : List (List ℕ)) : Type 0 where
+  pub outcome : Outcome
+  pub called : Called c outcome buffers
+  pub told : answer ≡ wordsOf c outcome

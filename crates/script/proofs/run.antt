@@ -1,0 +1,5 @@
+-- The laws that only the functions of `run` need.
+pub mod Advancing
+pub mod Running
+pub mod Undoing
+pub mod Finishing

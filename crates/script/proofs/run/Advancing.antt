@@ -1,0 +1,84 @@
+-- One step of a run: what is pending after it, and where the run stands.
+-- Assumes nothing.
+use mathlib.Core.Path.{_≡_, refl, sym, ap, _∙_}
+use mathlib.Core.Bool.{true, false, true≢false}
+use mathlib.Core.List.{List}
+use Prim.Native.Nat.{ℕ, zero, suc, _-_, _≤_, _<_, max}
+use native.Mathlib.Omega.{arith}
+use lib.ListN.{length, getD, set}
+use lib.Seq.{set-out}
+use Rattle.records.specs.Records.{records, zeros}
+use Rattle.cube.specs.declared.Cube.{Cube}
+use Rattle.cube.specs.Lists.{cubes}
+use Rattle.orders.specs.Orders.{noOrder, follow, letterOrder}
+use Rattle.steps.specs.declared.StepRecord.{StepRecord}
+use Rattle.steps.specs.declared.Stepped.{Stepped}
+use Rattle.steps.specs.declared.Stepped.the-variants as stepped-is
+use Rattle.steps.specs.Moves.{After, stop, next}
+use Rattle.steps.specs.Steps.{Step, meaning, meaningBy, step}
+use Rattle.steps.specs.Calls.{stepped, workStepped}
+use Rattle.steps.proofs.Making.{means}
+use Rattle.script.specs.declared.Progress.{Progress}
+use Rattle.script.specs.Pending.{pendStep}
+use Rattle.script.specs.Progress.{standing, halted, advanced, workAdvanced}
+
+-- ---- what is pending after a step
+
+module _ (os : List ℕ) (x : StepRecord) where
+  pub pend-other : x .op < 5 → os ≡ pendStep os (meaning x)
+  unfolding meaning
+  pend-other h = go (x .op) h
+    where
+      go : (op : ℕ) → op < 5 → os ≡ pendStep os (meaningBy op x)
+      go zero h = refl
+      go (suc zero) h = refl
+      go (suc (suc zero)) h = refl
+      go (suc (suc (suc zero))) h = refl
+      go (suc (suc (suc (suc zero)))) h = refl
+      go (suc (suc (suc (suc (suc op))))) h = absurd (omega arith)
+
+  pub pend-L : 5 ≤ x .op → set os (x .v) (follow (getD os (x .v) noOrder) (letterOrder (x .literal))) ≡ pendStep os (meaning x)
+  pend-L h = let e : x .op ≡ suc (suc (suc (suc (suc (x .op - 5))))) = omega arith in ap (pendStep os) (sym (means x (suc (suc (suc (suc (suc (x .op - 5)))))) e))
+
+  pub pend-out : 5 ≤ x .op → length os ≤ x .v → os ≡ pendStep os (meaning x)
+  pend-out h l = sym (set-out os (x .v) (follow (getD os (x .v) noOrder) (letterOrder (x .literal))) l) ∙ pend-L h
+
+-- ---- where the run stands after it, by what the step answers and leaves
+
+module _ (n cap k : ℕ) (x : Step) (p : Progress) (b b₁ : List ℕ) (s : Stepped) (es : s ≡ stepped (step n cap x (records cubes (p .count) b)))
+    (eb : b₁ ≡ workStepped b (step n cap x (records cubes (p .count) b))) where
+  pub advance-refused : (number : ℕ) → s ≡ stepped-is.Refused number → (b₂ : List ℕ) → b₂ ≡ zeros (length b₁)
+      → (halted number k ≡ advanced k x p (step n cap x (records cubes (p .count) b))) × (b₂ ≡ workAdvanced b (step n cap x (records cubes (p .count) b)))
+  advance-refused number en b₂ ez = go (step n cap x (records cubes (p .count) b)) es eb
+    where
+      go : (e : After Cube) → s ≡ stepped e → b₁ ≡ workStepped b e → (halted number k ≡ advanced k x p e) × (b₂ ≡ workAdvanced b e)
+      go (stop r) es eb = let same : number ≡ r = cc in (ap (λ (m : ℕ). halted m k) same, ez ∙ ap (λ (t : List ℕ). zeros (length t)) eb)
+      go (next l) es eb = let z : _≡_ {A = ℕ} 0 1 = cc in absurd (omega arith)
+
+  pub advance-done : (count : ℕ) → s ≡ stepped-is.Count count → (peak : ℕ) → peak ≡ max (p .peak) count → (pending : List ℕ) → pending ≡ pendStep (p .pending) x
+      → (standing count peak pending ≡ advanced k x p (step n cap x (records cubes (p .count) b)))
+      × (b₁ ≡ workAdvanced b (step n cap x (records cubes (p .count) b)))
+  advance-done count en peak ep pending eo = go (step n cap x (records cubes (p .count) b)) es eb
+    where
+      go : (e : After Cube) → s ≡ stepped e → b₁ ≡ workStepped b e → (standing count peak pending ≡ advanced k x p e) × (b₁ ≡ workAdvanced b e)
+      go (stop r) es eb = let z : _≡_ {A = ℕ} 0 1 = cc in absurd (omega arith)
+      go (next l) es eb =
+          let many : count ≡ length l = cc in
+          let greatest : peak ≡ max (p .peak) (length l) = ep ∙ ap (max (p .peak)) many in
+          ((λ j. standing (many j) (greatest j) (eo j)), eb)
+
+-- ---- and the other way: the step by where the run stands after it
+
+pub record Went (e : After Cube) (q : Progress) : Type 0 where
+  pub list : List Cube
+  pub is : e ≡ next list
+  pub many : q .count ≡ length list
+
+module _ (k : ℕ) (x : Step) (p q : Progress) where
+  pub went : (e : After Cube) → q ≡ advanced k x p e → q .done ≡ true → Went e q
+  went (stop r) e f = absurd (true≢false (sym f ∙ ap (λ (t : Progress). t .done) e))
+  went (next l) e f = record { list = l; is = refl; many = ap (λ (t : Progress). t .count) e }
+
+  pub halts : (e : After Cube) → q ≡ advanced k x p e → q .done ≡ false → e ≡ stop (q .number)
+  halts (stop r) e f = ap stop (sym (ap (λ (t : Progress). t .number) e))
+  halts (next l) e f = absurd (true≢false (sym (ap (λ (t : Progress). t .done) e) ∙ f))

@@ -1,0 +1,68 @@
+// Cases of `settle`, a row each in the file `cases`: the line, the list's file and the script's file, with a bar between them. Each row is printed, and after it
+// what the program prints for it.
+use libc::STDOUT_FILENO;
+ghost use Prim.Native.Nat.{_≤_};
+ghost use lib.ListN.{length};
+
+const NEWLINE: u8 = 10;
+
+const BAR: u8 = b'|';
+
+// The place of a byte in a text, from a place on; the text's length where there is none.
+fn find(text: &[u8], from: usize, b: u8) -> usize
+    requires { ⌜ from ≤ length (now text) ⌝ }
+    ensures { λ r. ⌜ (from ≤ r) × (r ≤ length (now (text .entry))) ⌝ }
+{
+    let mut p = from;
+    while p < text.len() {
+        if text[p] == b {
+            return p;
+        }
+        p += 1;
+    }
+    p
+}
+
+// The place after a place, or the text's length.
+fn past(text: &[u8], p: usize) -> usize
+    requires { ⌜ p ≤ length (now text) ⌝ }
+    ensures { λ r. ⌜ (p ≤ r) × (r ≤ length (now (text .entry))) ⌝ }
+{
+    if p < text.len() {
+        return p + 1;
+    }
+    p
+}
+
+// One row: its three parts.
+fn case(row: &[u8]) {
+    io::write_all(STDOUT_FILENO, row);
+    io::write_all(STDOUT_FILENO, b"\n");
+    let start: usize = 0;
+    let a = find(row, start, BAR);
+    let b = past(row, a);
+    let c = find(row, b, BAR);
+    let d = past(row, c);
+    map_files::settle_named(&row[start..a], &row[b..c], &row[d..]);
+}
+
+// All rows.
+fn cases(table: &[u8]) {
+    let mut p: usize = 0;
+    while p < table.len() {
+        let end = find(table, p, NEWLINE);
+        case(&table[p..end]);
+        if end == table.len() {
+            return;
+        }
+        p = end + 1;
+    }
+}
+
+fn main() {
+    let mut table = io::buffer();
+    let fd = os::open_read(b"cases");
+    let size = io::read_full(fd, &mut table);
+    libc::close(fd);
+    cases(&table[..size]);
+}

@@ -1,0 +1,2 @@
+-- Laws of what is burned.
+mod Written

@@ -1,0 +1,153 @@
+-- What is burned at the front of the output buffer, zeros after it: a whole list, and a form.
+-- Assumes nothing.
+use mathlib.Core.List.{List, [], _∷_, _++_, append-nil}
+use mathlib.Core.Path.{_≡_, sym, ap, _∙_, subst, ap₂}
+use Prim.Native.Nat.{ℕ, _*_, _/_, _%_, _^_, _≤_, _<_, _-_}
+use native.Mathlib.Nat.{mod-lt, zero-lt-suc}
+use native.Mathlib.Omega.{arith}
+use borrow.Author.Tests.{le-leb, lt-ltb}
+use lib.Dec.{leb}
+use lib.ListN.{length, getD, take, length-take, replicate, drop-of-length-le, length-replicate}
+use Rattle.bits.proofs.Below.{getD-listBelow}
+use Rattle.records.specs.Answers.{accepted, unless, counted}
+use Rattle.records.specs.Records.{listOf, image, filled, filledBy, flat, zeros, written}
+use Rattle.records.specs.declared.Counted.{Counted}
+use Rattle.records.specs.declared.Counted.the-variants as counted-is
+use Rattle.records.specs.declared.Refusal.{Refusal}
+use Rattle.records.proofs.Answering.{not-both, and-then, unless-passes, after-accepted}
+use Rattle.records.proofs.Filling.{filled-by, drop-zeros}
+use Rattle.records.proofs.Holding.{length-list, capacity-fits, written-front}
+use Rattle.records.proofs.Images.{length-flat}
+use Rattle.cube.specs.Lists.{cubes, cubesOf, cubeCapacity, recordWidth, mostRecords, truthVector}
+use Rattle.cube.specs.declared.Cube.{Cube}
+use Rattle.cube.proofs.ListLaws.{cubes-bytes, lawful}
+use Rattle.polarity.specs.Calls.{coefficientsOutcome, coefficientsAfter, formOutcome, formAfter}
+use Rattle.polarity.specs.Forms.{formList, parityWithin, coefficient, formFrom}
+use Rattle.polarity.specs.Vectors.{byteAt, Vector, coefficientVector}
+use Rattle.polarity.proofs.Listing.{form-cong}
+use Rattle.settling.specs.Choice.{listFrom, Named, FormFits, Burnable, BurnedIs}
+use Rattle.settling.specs.declared.BestForm.{BestForm}
+use Rattle.settling.specs.declared.Origin.{Origin}
+use Rattle.settling.specs.declared.Origin.the-variants as origin-is
+use Rattle.settling.proofs.Forming.{truth-vector-is, size-is, bits-vector, vector-accepted}
+
+pub list-burned : (list out : List ℕ) → length list % recordWidth ≡ 0 → length (cubesOf list) ≤ cubeCapacity (length out) → ((i : ℕ) → getD list i 0 < 256)
+    → (out′ : List ℕ) → out′ ≡ filledBy out list → BurnedIs (cubesOf list) out out′ (length list / recordWidth)
+unfolding listOf image
+list-burned list out whole room small out′ e =
+    let fits : length list ≤ length out = omega (arith, whole, length-list cubes list, room, capacity-fits cubes mostRecords (length out)) in
+    record {
+      answer = sym (length-list cubes list);
+      buffer = e ∙ filled-by out list fits ∙ ap (filled (length out)) (sym (cubes-bytes (length list / recordWidth) list (omega (arith, whole)) small));
+    }
+
+-- ---- the vector at the front of a buffer
+
+module _ (n : ℕ) (v : List ℕ) (p out : ℕ) (fits : FormFits n v p out) where
+  size-long : (1 * 2 ^ n) % 2 ^ 64 ≡ 2 ^ n
+  size-long = size-is n (fits .vector .few)
+
+  pub front-end : (1 * 2 ^ n) % 2 ^ 64 ≤ length v
+  front-end = omega (arith, size-long, fits .vector .long, length-take (2 ^ n) v)
+
+  pub front-vector : Vector n (take ((1 * 2 ^ n) % 2 ^ 64) v)
+  front-vector = subst (λ (k : ℕ). Vector n (take k v)) (sym size-long) (fits .vector)
+
+  pub front-room : length (formList n p (byteAt (take ((1 * 2 ^ n) % 2 ^ 64) v))) ≤ cubeCapacity out
+  front-room = subst (λ (k : ℕ). length (formList n p (byteAt (take k v))) ≤ cubeCapacity out) (sym size-long) (fits .room)
+
+  pub front-burned : (out₀ out′ : List ℕ) (r : ℕ) → BurnedIs (formList n p (byteAt (take ((1 * 2 ^ n) % 2 ^ 64) v))) out₀ out′ r
+      → BurnedIs (formList n p (byteAt (take (2 ^ n) v))) out₀ out′ r
+  front-burned out₀ out′ r d = subst (λ (k : ℕ). BurnedIs (formList n p (byteAt (take k v))) out₀ out′ r) size-long d
+
+-- ---- the list that an origin names
+
+pub origin-burned : (n : ℕ) (given result : List Cube) (o q : Origin) → o ≡ q → (out out′ : List ℕ) (r : ℕ) → BurnedIs (listFrom n result given q) out out′ r
+    → BurnedIs (listFrom n result given o) out out′ r
+origin-burned n given result o q e out out′ r d = subst (λ (x : Origin). BurnedIs (listFrom n result given x) out out′ r) (sym e) d
+
+module _ (n : ℕ) (list result : List ℕ) (best : BestForm) (o : Origin) (out : ℕ) (b : Burnable n list result best o out) where
+  -- what is known of it, for the origin that it is
+  room-of : (q : Origin) → o ≡ q → length (listFrom n (cubesOf result) (cubesOf list) q) ≤ cubeCapacity out
+  room-of q e = subst (λ (q : Origin). length (listFrom n (cubesOf result) (cubesOf list) q) ≤ cubeCapacity out) e (b .room)
+
+  pub script-room : o ≡ origin-is.Script → length (cubesOf result) ≤ cubeCapacity out
+  script-room e = room-of origin-is.Script e
+
+  pub given-room : o ≡ origin-is.Given → length (cubesOf list) ≤ cubeCapacity out
+  given-room e = room-of origin-is.Given e
+
+  module _ (p : ℕ) (e : o ≡ origin-is.Form p) where
+    named : Named n (origin-is.Form p)
+    named = subst (Named n) e (b .named)
+
+    vector-is : take (2 ^ n) (best .vector) ≡ truthVector n (cubesOf list)
+    vector-is = b .best-is .vector (named .0)
+
+    pub form-fits : FormFits n (best .vector) p out
+    form-fits = record {
+      vector = subst (Vector n) (sym vector-is) (truth-vector-is n (cubesOf list) (named .0));
+      polarity = named .1;
+      room = subst (λ (v : List ℕ). length (formList n p (byteAt v)) ≤ cubeCapacity out) (sym vector-is) (room-of (origin-is.Form p) e);
+    }
+
+    pub form-named : (out₀ out′ : List ℕ) (r : ℕ) → BurnedIs (formList n p (byteAt (take (2 ^ n) (best .vector)))) out₀ out′ r
+        → BurnedIs (listFrom n (cubesOf result) (cubesOf list) o) out₀ out′ r
+    form-named out₀ out′ r d =
+        origin-burned n (cubesOf list) (cubesOf result) o (origin-is.Form p) e out₀ out′ r (subst (λ (v : List ℕ). BurnedIs (formList n p (byteAt v)) out₀ out′ r) vector-is d)
+
+-- ---- a form written to a cleared buffer
+
+-- a list written to the front of zeros is its image
+written-zeros : (l : List Cube) (n : ℕ) → recordWidth * length l ≤ n → written cubes 0 l (zeros n) ≡ image cubes n l
+unfolding image filled
+written-zeros l n h =
+    written-front cubes lawful (zeros n) l (omega (arith, length-replicate {A = ℕ} n 0))
+    ∙ ap (λ (t : List ℕ). flat (cubes .enc) l ++ t)
+    (drop-zeros (recordWidth * length l) n ∙ ap (λ (k : ℕ). replicate (n - k) 0) (sym (length-flat (cubes .enc) recordWidth (lawful .len) l)))
+
+module _ (n q : ℕ) (v : List ℕ) (vector : Vector n v) (polarity : q < 2 ^ n) where
+  pub coefficients-written : (c c′ : List ℕ) → length c ≡ 2 ^ n → c′ ≡ coefficientsAfter n v q c → c′ ≡ coefficientVector n q v
+  unfolding coefficientsAfter coefficientsOutcome
+  coefficients-written c c′ e e′ =
+      let room : 2 ^ n ≤ length c = omega arith in
+      let is : coefficientsOutcome n v q (length c) ≡ accepted (2 ^ n ∷ []) = and-then _ _ _ (vector-accepted n v vector) ∙ simp (lt-ltb _ _ polarity, le-leb _ _ room) in
+      e′ ∙ after-accepted _ _ c _ is
+      ∙ ap (λ (t : List ℕ). coefficientVector n q v ++ t) (drop-of-length-le c {i = 2 ^ n} (omega arith)) ∙ append-nil (coefficientVector n q v)
+
+  form-is : formFrom n q (byteAt (coefficientVector n q v)) ≡ formList n q (byteAt v)
+  form-is = form-cong n q _ _ (λ s h. getD-listBelow (2 ^ n) (coefficient n q (byteAt v)) s 0 h)
+
+  coefficients-vector : Vector n (coefficientVector n q v)
+  unfolding parityWithin
+  coefficients-vector = bits-vector n (coefficient n q (byteAt v)) (vector .few) (λ s. mod-lt _ (zero-lt-suc 1))
+
+  module _ (c : List ℕ) (ec : c ≡ coefficientVector n q v) (out : List ℕ) (room : length (formList n q (byteAt v)) ≤ cubeCapacity (length out)) where
+    form-accepted : formOutcome n c q (length out) ≡ accepted (length (formList n q (byteAt v)) ∷ [])
+    unfolding formOutcome
+    form-accepted =
+        ap (λ (t : List ℕ). formOutcome n t q (length out)) ec
+        ∙ and-then _ _ _ (vector-accepted n (coefficientVector n q v) coefficients-vector)
+        ∙ unless-passes _ 15 0 _ (lt-ltb _ _ polarity)
+        ∙ ap (λ (l : List Cube). unless (leb (length l) (cubeCapacity (length out))) 5 0 (accepted (length l ∷ []))) form-is
+        ∙ unless-passes _ 5 0 _ (le-leb _ _ room)
+
+    pub form-burned : (r : Counted) (count : ℕ) → r ≡ counted-is.Count count → (out₁ : List ℕ) → out₁ ≡ zeros (length out) → counted r ≡ formOutcome n c q (length out₁)
+        → (out₂ : List ℕ) → out₂ ≡ formAfter n c q out₁ → BurnedIs (formList n q (byteAt v)) out out₂ count
+    unfolding formAfter
+    form-burned r count er out₁ e₁ ea out₂ e₂ =
+        let same : length out₁ ≡ length out = ap length e₁ ∙ length-replicate {A = ℕ} (length out) 0 in
+        let is : formOutcome n c q (length out₁) ≡ accepted (length (formList n q (byteAt v)) ∷ []) = ap (formOutcome n c q) same ∙ form-accepted in
+        let both : accepted (count ∷ []) ≡ accepted (length (formList n q (byteAt v)) ∷ []) = ap counted (sym er) ∙ ea ∙ is in
+        record {
+          answer = cc;
+          buffer =
+              e₂ ∙ after-accepted _ _ out₁ _ is
+              ∙ ap₂ (λ (l : List Cube) (b : List ℕ). written cubes 0 l b) (ap (λ (t : List ℕ). formFrom n q (byteAt t)) ec ∙ form-is) e₁
+              ∙ written-zeros (formList n q (byteAt v)) (length out) (omega (arith, capacity-fits cubes mostRecords (length out)));
+        }
+
+    pub form-not-refused : (r : Counted) (x : Refusal) → r ≡ counted-is.Refused x → (out₁ : List ℕ) → out₁ ≡ zeros (length out) → counted r ≡ formOutcome n c q (length out₁) → ⊥
+    form-not-refused r x er out₁ e₁ ea =
+        let same : length out₁ ≡ length out = ap length e₁ ∙ length-replicate {A = ℕ} (length out) 0 in
+        not-both (sym (ap (formOutcome n c q) same ∙ form-accepted) ∙ sym ea ∙ ap counted er)

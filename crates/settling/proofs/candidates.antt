@@ -1,0 +1,3 @@
+-- Laws of the candidates: the choice among them, and the best polarity.
+mod Choosing
+mod Polarities

@@ -1,0 +1,3 @@
+-- What the proofs of `reorder` and of the functions below it use.
+mod ByMasks
+mod Reordering

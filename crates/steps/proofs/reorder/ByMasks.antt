@@ -1,0 +1,232 @@
+-- The codes at one variable moved by an order, in one cube: three codes have two bits, and each new bit is a sum of the old ones, taken by masks.
+-- Assumes nothing.
+use mathlib.Core.Path.{_≡_, refl, sym, ap, ap₂, _∙_}
+use mathlib.Core.Logic.{_≢_}
+use mathlib.Core.Bool.{Bool, true, cond, _&&_}
+use Prim.Native.Nat.{ℕ, zero, suc, _/_, _%_, _^_, _≤_, _<_, min, zero-le}
+use native.Mathlib.Nat.{min-zero, mod-eq-of-lt}
+use native.Mathlib.Omega.{arith}
+use lib.Bits.{bitAnd, bitXor, differ, and-shr, xor-shr, and-mod, xor-mod}
+use lib.Dec.{lit<, eqb, ltb, leb}
+use borrow.Author.Tests.{eqb-true, le-leb}
+use Rattle.bits.specs.Bits.{bit, withBit}
+use Rattle.bits.specs.Below.{allBelow}
+use Rattle.bits.proofs.Bools.{both-true, all-at₂, all-at₃, one-lt}
+use Rattle.bits.proofs.Bits.{bit-lt, bit-high, bit-and, bit-xor, differ-lt, differ-zero, with-same, with-other, with-lt, is-with, pow-bit, pow-bit-other}
+use Rattle.cube.specs.declared.Cube.{Cube}
+use Rattle.cube.specs.Cubes.{codeOf, code, seenBit, valueBit, put, withCode, one, Good}
+use Rattle.cube.specs.CubeRecord.{recordNumber, halves, halfSize}
+use Rattle.cube.specs.Lists.{mostVariables}
+use Rattle.cube.proofs.Codes.{code-lt, good-seen, good-value, with-put}
+use Rattle.orders.specs.Orders.{image}
+use Rattle.steps.specs.declared.reorder.Masks.{Masks}
+use Rattle.steps.specs.Steps.{reordered}
+use Rattle.steps.specs.Changes.{imageAt, masksAt}
+
+-- ---- one bit
+
+-- the one of three numbers that a code picks
+pick : ℕ → ℕ → ℕ → ℕ → ℕ
+pick zero x y z = x
+pick (suc zero) x y z = y
+pick (suc (suc k)) x y z = z
+
+-- a function of a code is picked from its three values
+pick-code : (f : ℕ → ℕ) (k : ℕ) → k < 3 → pick k (f 0) (f 1) (f 2) ≡ f k
+unfolding pick
+pick-code f zero h = refl
+pick-code f (suc zero) h = refl
+pick-code f (suc (suc zero)) h = refl
+pick-code f (suc (suc (suc k))) h = absurd (omega arith)
+
+-- a bit p, changed by the sum of itself and a, the other bit q and b, and c
+abbrev newBit : ℕ → ℕ → ℕ → ℕ → ℕ → ℕ
+newBit p q a b c = differ (differ (differ p (min p a)) (min q b)) c
+
+-- the seen bit s and the value bit w of a code become those that its image has, computed over all bits
+bits-test : ℕ → ℕ → ℕ → ℕ → ℕ → Bool
+bits-test s w x y z =
+    cond (leb w s)
+    (eqb (newBit s w (differ (differ 1 x) z) (differ x y) z) (pick (codeOf s w) x y z)
+    && eqb (newBit w s (differ (differ 1 x) y) (differ x z) z) (pick (codeOf s w) x y z))
+    true
+
+module _ (s w x y z : ℕ) (hs : s < 2) (l : w ≤ s) (hx : x < 2) (hy : y < 2) (hz : z < 2) where
+  tested : (newBit s w (differ (differ 1 x) z) (differ x y) z ≡ pick (codeOf s w) x y z) × (newBit w s (differ (differ 1 x) y) (differ x z) z ≡ pick (codeOf s w) x y z)
+  unfolding pick bits-test
+  tested =
+      let t : bits-test s w x y z ≡ true =
+      all-at₃ 2 2 2 (bits-test s w)
+      (all-at₂ 2 2 (λ s w. allBelow 2 (λ x. allBelow 2 (λ y. allBelow 2 (bits-test s w x y)))) refl s w hs (omega arith)) x y z hx hy hz in
+      let both = both-true _ _ (rw (le-leb w s l) at t) in
+      (eqb-true _ _ (both .0), eqb-true _ _ (both .1))
+
+-- ---- numbers by masks
+
+-- each bit of x changed by the sum of itself and a, the bit of y and b, and c
+abbrev changed : ℕ → ℕ → ℕ → ℕ → ℕ → ℕ
+changed x a y b c = bitXor (bitXor (bitXor x (bitAnd x a)) (bitAnd y b)) c
+
+-- what goes through `&` and `^` goes through that
+changed-through : (h : ℕ → ℕ) → ((a b : ℕ) → h (bitAnd a b) ≡ bitAnd (h a) (h b)) → ((a b : ℕ) → h (bitXor a b) ≡ bitXor (h a) (h b))
+    → (x a y b c : ℕ) → h (changed x a y b c) ≡ changed (h x) (h a) (h y) (h b) (h c)
+changed-through h and xor x a y b c =
+    xor (bitXor (bitXor x (bitAnd x a)) (bitAnd y b)) c
+    ∙ ap (λ (t : ℕ). bitXor t (h c))
+    (xor (bitXor x (bitAnd x a)) (bitAnd y b) ∙ ap₂ bitXor (xor x (bitAnd x a) ∙ ap (bitXor (h x)) (and x a)) (and y b))
+
+changed-bit : (x a y b c k : ℕ) → bit (changed x a y b c) k ≡ newBit (bit x k) (bit y k) (bit a k) (bit b k) (bit c k)
+changed-bit x a y b c k =
+    bit-xor (bitXor (bitXor x (bitAnd x a)) (bitAnd y b)) c k
+    ∙ ap (λ (t : ℕ). differ t (bit c k))
+    (bit-xor (bitXor x (bitAnd x a)) (bitAnd y b) k
+    ∙ ap₂ differ (bit-xor x (bitAnd x a) k ∙ ap (differ (bit x k)) (bit-and x a k)) (bit-and y b k))
+
+module _ (v : ℕ) where
+  -- the number with bit v alone, where it is set
+  abbrev flag : ℕ → ℕ
+  flag a = withBit 0 v a
+
+  flag-same : (a : ℕ) → a < 2 → bit (flag a) v ≡ a
+  flag-same a h = with-same 0 v a h
+
+  flag-other : (a k : ℕ) → a < 2 → k ≢ v → bit (flag a) k ≡ 0
+  flag-other a k h d = with-other 0 v a k h d ∙ bit-high 0 0 k (lit< tt) zero-le
+
+  flag-one : 2 ^ v ≡ flag 1
+  flag-one = is-with 0 v 1 (2 ^ v) (lit< tt) (pow-bit v) (λ k d. pow-bit-other v k d ∙ sym (bit-high 0 0 k (lit< tt) zero-le))
+
+  flag-xor : (a b : ℕ) → a < 2 → b < 2 → bitXor (flag a) (flag b) ≡ flag (differ a b)
+  flag-xor a b ha hb =
+      is-with 0 v (differ a b) (bitXor (flag a) (flag b)) (differ-lt a b ha hb) (bit-xor (flag a) (flag b) v ∙ ap₂ differ (flag-same a ha) (flag-same b hb))
+      (λ k d. bit-xor (flag a) (flag b) k ∙ ap₂ differ (flag-other a k ha d) (flag-other b k hb d) ∙ sym (bit-high 0 0 k (lit< tt) zero-le))
+
+  -- masks of bit v alone change that bit alone
+  changed-flags : (x y a b c : ℕ) → a < 2 → b < 2 → c < 2 → changed x (flag a) y (flag b) (flag c) ≡ withBit x v (newBit (bit x v) (bit y v) a b c)
+  changed-flags x y a b c ha hb hc =
+      is-with x v (bit z v) z (bit-lt z v) refl
+      (λ k d.
+      changed-bit x (flag a) y (flag b) (flag c) k
+      ∙ (λ t. newBit (bit x k) (bit y k) (flag-other a k ha d t) (flag-other b k hb d t) (flag-other c k hc d t))
+      ∙ (λ t. differ (differ (differ (bit x k) (min-zero (bit x k) t)) (min-zero (bit y k) t)) 0)
+      ∙ differ-zero (differ (differ (bit x k) 0) 0) ∙ differ-zero (differ (bit x k) 0) ∙ differ-zero (bit x k))
+      ∙ ap (withBit x v)
+      (changed-bit x (flag a) y (flag b) (flag c) v
+      ∙ (λ t. newBit (bit x v) (bit y v) (flag-same a ha t) (flag-same b hb t) (flag-same c hc t)))
+    where
+      z : ℕ
+      z = changed x (flag a) y (flag b) (flag c)
+
+-- ---- two masks as one number
+
+abbrev pair : ℕ → ℕ → ℕ
+pair low high = recordNumber (record { seen = low; value = high })
+
+module _ (low high : ℕ) where
+  pair-low : pair low high % halfSize ≡ low % halfSize
+  pair-low = omega arith
+
+  pair-high : pair low high / halfSize ≡ high % halfSize
+  pair-high = omega arith
+
+-- ---- a cube by masks
+
+-- a cube by masks: its two masks as one number, with each bit changed
+unfoldable pub byMasks : Masks → Cube → Cube
+byMasks k c = halves (changed (pair (c .seen) (c .value)) (k .own) (pair (c .value) (c .seen)) (k .other) (k .always))
+
+module _ (v : ℕ) (l : v < mostVariables) where
+  -- a mask of bit v alone, as one half of a number
+  half-flag : (m a : ℕ) → a < 2 → m ≡ flag v a → m % halfSize ≡ flag v a
+  half-flag m a h e = ap (λ (t : ℕ). t % halfSize) e ∙ mod-eq-of-lt (with-lt mostVariables v 0 a l h (lit< tt))
+
+  differ-flags : (m n a b : ℕ) → a < 2 → b < 2 → m ≡ flag v a → n ≡ flag v b → bitXor m n ≡ flag v (differ a b)
+  differ-flags m n a b ha hb ea eb = ap₂ bitXor ea eb ∙ flag-xor v a b ha hb
+
+  same-flags : (m n a b : ℕ) → a < 2 → b < 2 → m ≡ flag v a → n ≡ flag v b → bitXor (bitXor (2 ^ v) m) n ≡ flag v (differ (differ 1 a) b)
+  same-flags m n a b ha hb ea eb =
+      differ-flags (bitXor (2 ^ v) m) n (differ 1 a) b (differ-lt 1 a (lit< tt) ha) hb (differ-flags (2 ^ v) m 1 a (lit< tt) ha (flag-one v) ea) eb
+
+  -- one half h of a number: f has a bit for each code, i the masks of them, and s and w stand in that half of p and q
+  module _ (h : ℕ → ℕ) (and : (a b : ℕ) → h (bitAnd a b) ≡ bitAnd (h a) (h b)) (xor : (a b : ℕ) → h (bitXor a b) ≡ bitXor (h a) (h b))
+      (f : ℕ → ℕ) (f-lt : (x : ℕ) → f x < 2) (i : ℕ → ℕ) (flags : (x : ℕ) → i x ≡ flag v (f x)) (j k : ℕ) where
+    own-lt : differ (differ 1 (f 0)) (f k) < 2
+    own-lt = differ-lt (differ 1 (f 0)) (f k) (differ-lt 1 (f 0) (lit< tt) (f-lt 0)) (f-lt k)
+
+    other-lt : differ (f 0) (f j) < 2
+    other-lt = differ-lt (f 0) (f j) (f-lt 0) (f-lt j)
+
+    half-changed : (p q s w own other always : ℕ) → h p ≡ s → h q ≡ w
+        → h own ≡ bitXor (bitXor (2 ^ v) (i 0)) (i k) % halfSize → h other ≡ bitXor (i 0) (i j) % halfSize → h always ≡ i 2 % halfSize
+        → h (changed p own q other always) ≡ withBit s v (newBit (bit s v) (bit w v) (differ (differ 1 (f 0)) (f k)) (differ (f 0) (f j)) (f 2))
+    half-changed p q s w own other always ep eq eo et ea =
+        let eo₁ : h own ≡ flag v (differ (differ 1 (f 0)) (f k)) = eo ∙ half-flag _ _ own-lt (same-flags _ _ _ _ (f-lt 0) (f-lt k) (flags 0) (flags k)) in
+        let et₁ : h other ≡ flag v (differ (f 0) (f j)) = et ∙ half-flag _ _ other-lt (differ-flags _ _ _ _ (f-lt 0) (f-lt j) (flags 0) (flags j)) in
+        let ea₁ : h always ≡ flag v (f 2) = ea ∙ half-flag _ _ (f-lt 2) (flags 2) in
+        changed-through h and xor p own q other always ∙ (λ t. changed (ep t) (eo₁ t) (eq t) (et₁ t) (ea₁ t)) ∙ changed-flags v s w _ _ _ own-lt other-lt (f-lt 2)
+
+pub recoded-is : (k : Masks) (c : Cube) → Good mostVariables c → (v o : ℕ) → v < mostVariables → k ≡ masksAt v o → byMasks k c ≡ reordered v o c
+unfolding masksAt byMasks reordered put code
+recoded-is k c g v o l e = ap (λ (t : Masks). byMasks t c) e ∙ (λ t. record { seen = seen-is t; value = value-is t })
+  where
+    s : ℕ
+    s = c .seen
+
+    w : ℕ
+    w = c .value
+
+    images : (x : ℕ) → imageAt v o x ≡ put one v (image o x)
+    images x = with-put one v (image o x) (omega arith)
+
+    seen-of : ℕ → ℕ
+    seen-of x = seenBit (image o x)
+
+    value-of : ℕ → ℕ
+    value-of x = valueBit (image o x)
+
+    seen-lt : (x : ℕ) → seen-of x < 2
+    seen-lt x = one-lt (ltb (image o x) 2)
+
+    value-lt : (x : ℕ) → value-of x < 2
+    value-lt x = one-lt (eqb (image o x) 1)
+
+    seen-is : byMasks (masksAt v o) c .seen ≡ withBit s v (seen-of (code c v))
+    seen-is =
+        half-changed v l (λ t. t % halfSize) (λ a b. and-mod a b mostVariables) (λ a b. xor-mod a b mostVariables)
+        seen-of seen-lt (λ x. imageAt v o x .seen) (λ x. ap (λ (t : Cube). t .seen) (images x)) 1 2 (pair s w) (pair w s) s w _ _ _
+        (pair-low s w ∙ mod-eq-of-lt (good-seen mostVariables c g)) (pair-low w s ∙ mod-eq-of-lt (good-value mostVariables c g)) (pair-low _ _) (pair-low _ _) (pair-low _ _)
+        ∙ ap (withBit s v)
+        (tested (bit s v) (bit w v) (seen-of 0) (seen-of 1) (seen-of 2) (bit-lt s v) (g .inside v) (seen-lt 0) (seen-lt 1) (seen-lt 2) .0
+        ∙ pick-code seen-of (code c v) (code-lt c v))
+
+    value-is : byMasks (masksAt v o) c .value ≡ withBit w v (value-of (code c v))
+    value-is =
+        half-changed v l (λ t. t / halfSize) (λ a b. and-shr a b mostVariables) (λ a b. xor-shr a b mostVariables)
+        value-of value-lt (λ x. imageAt v o x .value) (λ x. ap (λ (t : Cube). t .value) (images x)) 2 1 (pair s w) (pair w s) w s _ _ _
+        (pair-high s w ∙ mod-eq-of-lt (good-value mostVariables c g)) (pair-high w s ∙ mod-eq-of-lt (good-seen mostVariables c g)) (pair-high _ _) (pair-high _ _) (pair-high _ _)
+        ∙ ap (withBit w v)
+        (tested (bit s v) (bit w v) (value-of 0) (value-of 1) (value-of 2) (bit-lt s v) (g .inside v) (value-lt 0) (value-lt 1) (value-lt 2) .1
+        ∙ pick-code value-of (code c v) (code-lt c v))
+
+-- the number as it is made
+pub recoded-made : (k : Masks) (c : Cube) (x y : ℕ) → x ≡ pair (c .seen) (c .value) → y ≡ pair (c .value) (c .seen)
+    → (r : Cube) → r ≡ halves (changed x (k .own) y (k .other) (k .always)) → r ≡ byMasks k c
+unfolding byMasks
+recoded-made k c x y ex ey r er = er ∙ ap halves (λ t. changed (ex t) (k .own) (ey t) (k .other) (k .always))
+
+-- the masks as they are made
+pub masks-made : (v o m i₀ i₁ i₂ : ℕ) (x y z : Cube) (own other always : ℕ) → m ≡ 2 ^ v
+    → i₀ ≡ image o 0 → x ≡ withCode one v i₀ → i₁ ≡ image o 1 → y ≡ withCode one v i₁ → i₂ ≡ image o 2 → z ≡ withCode one v i₂
+    → own ≡ pair (bitXor (bitXor m (x .seen)) (z .seen)) (bitXor (bitXor m (x .value)) (y .value))
+    → other ≡ pair (bitXor (x .seen) (y .seen)) (bitXor (x .value) (z .value)) → always ≡ recordNumber z
+    → record { own = own; other = other; always = always } ≡ masksAt v o
+unfolding masksAt
+masks-made v o m i₀ i₁ i₂ x y z own other always em e₀ ex e₁ ey e₂ ez eo et ea =
+    let x₁ : x ≡ imageAt v o 0 = ex ∙ ap (withCode one v) e₀ in
+    let y₁ : y ≡ imageAt v o 1 = ey ∙ ap (withCode one v) e₁ in
+    let z₁ : z ≡ imageAt v o 2 = ez ∙ ap (withCode one v) e₂ in
+    λ t. record {
+      own = (eo ∙ (λ u. pair (bitXor (bitXor (em u) (x₁ u .seen)) (z₁ u .seen)) (bitXor (bitXor (em u) (x₁ u .value)) (y₁ u .value)))) t;
+      other = (et ∙ (λ u. pair (bitXor (x₁ u .seen) (y₁ u .seen)) (bitXor (x₁ u .value) (z₁ u .value)))) t;
+      always = (ea ∙ ap recordNumber z₁) t;
+    }

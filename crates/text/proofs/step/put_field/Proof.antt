@@ -1,0 +1,21 @@
+-- `step::put_field` meets its contract: a space, and the number after it.
+-- Assumes nothing.
+use Rattle.text.proofs.Steps.{field-laid}
+use borrow.Author.Needs.{needs}
+use Rattle.text.proofs.step.put_field.Statement.{statement}
+use Rattle.text.proofs.step.put_field.Tie as tie
+
+put-byte-requires : tie.Need-put-byte-requires
+put-byte-requires c κs = search needs
+
+put-number-requires : tie.Need-put-number-requires
+put-number-requires c κs = search needs
+
+same-length : tie.Need-same-length
+same-length c = search needs
+
+returns : tie.Need-returns
+returns c = search (field-laid, needs)
+
+pub put-field-spec : {M : Type 1} → statement M
+put-field-spec = tie.close (tie.spec put-byte-requires put-number-requires same-length returns)

@@ -1,0 +1,143 @@
+// Steps: a word, and the fields that the operation uses.
+use crate::ReadNumber;
+use crate::ReadStep;
+use crate::number;
+use crate::place;
+use steps::StepRecord;
+ghost use mathlib.Core.Path.{_≡_};
+ghost use mathlib.Core.List.{_++_};
+ghost use Rattle.steps.specs.Steps.{meaning};
+ghost use Rattle.script.specs.Scripts.{usesJ};
+ghost use Rattle.text.specs.Places.{Laid};
+ghost use Rattle.text.specs.Steps.{fieldText, stepText};
+ghost use Rattle.text.specs.Reading.{fieldAt, operationAt, fieldsAt, stepAt};
+
+// The greatest variable and literal, and the greatest place, that a step's record holds.
+const MOST_BYTE: usize = 255;
+
+const MOST_PLACE: usize = 65535;
+
+// A space and a number.
+fn put_field(out: &mut [u8], at: usize, x: usize) -> usize
+    ensures { λ r. ⌜ Laid (now (out .entry)) at (fieldText x) r (now (out .exit)) ⌝ }
+{
+    let next = place::put_byte(out, at, b' ');
+    number::put_number(out, next, x)
+}
+
+// Two fields.
+fn put_two(out: &mut [u8], at: usize, x: usize, y: usize) -> usize
+    ensures { λ r. ⌜ Laid (now (out .entry)) at (fieldText x ++ fieldText y) r (now (out .exit)) ⌝ }
+{
+    let next = put_field(out, at, x);
+    put_field(out, next, y)
+}
+
+// A step at a place of a buffer, and the next place.
+pub fn put_step(out: &mut [u8], at: usize, x: StepRecord) -> usize
+    ensures { λ r. ⌜ Laid (now (out .entry)) at (stepText (meaning x)) r (now (out .exit)) ⌝ }
+{
+    let op = x.op;
+    let v = x.v as usize;
+    if op < 2 {
+        let next = place::put_text(out, at, b"drop");
+        return put_two(out, next, x.i, x.j);
+    }
+    if op == 2 {
+        let next = place::put_text(out, at, b"join");
+        return put_two(out, next, x.i, x.j);
+    }
+    if op == 3 {
+        let next = place::put_text(out, at, b"split");
+        return put_two(out, next, v, x.i);
+    }
+    if op == 4 {
+        let next = place::put_text(out, at, b"turn");
+        let after = put_field(out, next, v);
+        return put_two(out, after, x.i, x.j);
+    }
+    let next = place::put_text(out, at, b"L");
+    put_two(out, next, v, x.literal as usize)
+}
+
+// A field where it is used, and 0 where it isn't.
+fn field_at(text: &[u8], at: usize, used: bool, most: usize) -> ReadNumber
+    ensures { λ r. ⌜ r ≡ fieldAt used most (now (text .entry)) at ⌝ }
+{
+    if !used {
+        return ReadNumber::Read(0, at);
+    }
+    match place::word_at(text, at, b" ", 0) {
+        ReadNumber::Wrong(p) => ReadNumber::Wrong(p),
+        ReadNumber::Read(_, p) => number::number_at(text, p, most),
+    }
+}
+
+// The operation whose word stands at a place of a text.
+fn operation_at(text: &[u8], at: usize) -> ReadNumber
+    ensures { λ r. ⌜ r ≡ operationAt (now (text .entry)) at ⌝ }
+{
+    let b = place::byte_at(text, at);
+    if b == b'd' {
+        return place::word_at(text, at, b"drop", 1);
+    }
+    if b == b'j' {
+        return place::word_at(text, at, b"join", 2);
+    }
+    if b == b's' {
+        return place::word_at(text, at, b"split", 3);
+    }
+    if b == b't' {
+        return place::word_at(text, at, b"turn", 4);
+    }
+    place::word_at(text, at, b"L", 5)
+}
+
+// Whether an operation uses place j.
+fn uses_j(op: u8) -> bool
+    ensures { λ r. ⌜ r ≡ usesJ op ⌝ }
+{
+    if op <= 2 {
+        return true;
+    }
+    op == 4
+}
+
+// The fields of an operation at a place of a text.
+fn fields_at(text: &[u8], at: usize, op: u8) -> ReadStep
+    ensures { λ r. ⌜ r ≡ fieldsAt op (now (text .entry)) at ⌝ }
+{
+    match field_at(text, at, 3 <= op, MOST_BYTE) {
+        ReadNumber::Wrong(a) => ReadStep::Wrong(a),
+        ReadNumber::Read(v, a) => match field_at(text, a, op <= 4, MOST_PLACE) {
+            ReadNumber::Wrong(b) => ReadStep::Wrong(b),
+            ReadNumber::Read(i, b) => match field_at(text, b, uses_j(op), MOST_PLACE) {
+                ReadNumber::Wrong(e) => ReadStep::Wrong(e),
+                ReadNumber::Read(j, e) => match field_at(text, e, op == 5, MOST_BYTE) {
+                    ReadNumber::Wrong(z) => ReadStep::Wrong(z),
+                    ReadNumber::Read(literal, z) => ReadStep::Read(
+                        StepRecord {
+                            op,
+                            v: v as u8,
+                            i,
+                            j,
+                            literal: literal as u8,
+                            zero: 0,
+                        },
+                        z,
+                    ),
+                },
+            },
+        },
+    }
+}
+
+// The step at a place of a text. It is wrong at the first character that none of the five has there.
+pub fn step_at(text: &[u8], at: usize) -> ReadStep
+    ensures { λ r. ⌜ r ≡ stepAt (now (text .entry)) at ⌝ }
+{
+    match operation_at(text, at) {
+        ReadNumber::Wrong(p) => ReadStep::Wrong(p),
+        ReadNumber::Read(op, p) => fields_at(text, p, op as u8),
+    }
+}
