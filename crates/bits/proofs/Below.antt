@@ -4,8 +4,8 @@ use mathlib.Core.Path.{_≡_, refl, sym, ap, ap₂, _∙_, subst}
 use mathlib.Core.Logic.{inl, inr}
 use mathlib.Core.Bool.{Bool, true, false, not, cond}
 use mathlib.Core.List.{List, [], _∷_, _++_, append-assoc, map, List·Memᴰ, List·Memᴰ·head, List·Memᴰ·tail, List·Memᴰ·not-nil, List·Memᴰ·cases-cons}
-use Prim.Native.Nat.{ℕ, zero, suc, _+_, _/_, _%_, _^_, _≤_, _<_, suc-le-suc}
-use native.Mathlib.Nat.{mod-lt, zero-lt-suc, add-zero, add-suc, add-assoc, le-refl, le-of-suc-le-suc, not-suc-le-zero}
+use Prim.Native.Nat.{ℕ, zero, suc, _+_, _*_, _/_, _%_, _^_, _≤_, _<_, suc-le-suc}
+use native.Mathlib.Nat.{mod-lt, zero-lt-suc, zero-add, suc-add, add-zero, add-suc, add-assoc, zero-mul, add-mul, le-refl, le-of-suc-le-suc, not-suc-le-zero}
 use native.Mathlib.Decide.{ℕ-discrete}
 use native.Mathlib.Numerals.{add-one}
 use native.Mathlib.Omega.{arith}
@@ -151,6 +151,11 @@ unfolding sumBelow
 sum-plus zero f g = refl
 sum-plus (suc m) f g = omega (arith, sum-plus m f g)
 
+pub sum-times : (m : ℕ) (f : ℕ → ℕ) (c : ℕ) → sumBelow m f * c ≡ sumBelow m (λ t. f t * c)
+unfolding sumBelow
+sum-times zero f c = zero-mul c
+sum-times (suc m) f c = add-mul (sumBelow m f) (f m) c ∙ ap (λ (x : ℕ). x + f m * c) (sum-times m f c)
+
 pub sum-parity : (m : ℕ) (f g : ℕ → ℕ) → ((t : ℕ) → f t % 2 ≡ g t % 2) → sumBelow m f % 2 ≡ sumBelow m g % 2
 unfolding sumBelow
 sum-parity zero f g h = refl
@@ -191,6 +196,14 @@ module _ {A : Type 0} where
   unfolding listBelow
   listBelow-more zero f = refl
   listBelow-more (suc m) f = ap (λ (l : List A). f 0 ∷ l) (listBelow-more m (λ k. f (suc k)))
+
+  pub listBelow-parts : (a m : ℕ) (f : ℕ → A) → listBelow (a + m) f ≡ listBelow a f ++ listBelow m (λ j. f (a + j))
+  unfolding listBelow
+  listBelow-parts zero m f = ap (λ (k : ℕ). listBelow k f) (zero-add m) ∙ listBelow-cong m f (λ j. f (0 + j)) (λ j b. ap f (sym (zero-add j)))
+  listBelow-parts (suc a) m f =
+      ap (λ (k : ℕ). listBelow k f) (suc-add a m)
+      ∙ ap (λ (l : List A). f 0 ∷ l) (listBelow-parts a m (λ k. f (suc k))
+      ∙ ap (λ (l : List A). listBelow a (λ k. f (suc k)) ++ l) (listBelow-cong m (λ j. f (suc (a + j))) (λ j. f (suc a + j)) (λ j b. ap f (sym (suc-add a j)))))
 
   -- a loop that fills the front of a list with f, one store a turn
   pub filling-none : (f : ℕ → A) (l : List A) → l ≡ listBelow 0 f ++ drop 0 l

@@ -1,13 +1,17 @@
-// The best polarity of a truth vector. The coefficients are bits of four words. From those under one polarity, those with one more
+// The best polarity of a truth vector. The coefficients are bits of four words, or of one. From those under one polarity, those with one more
 // variable complemented come by one pass.
 use crate::Best;
 use crate::form;
+use crate::one_word;
 use crate::transform;
 use crate::vector;
 use bits::packed::Packed;
+use bits::packing;
+use bits::word;
 use records::Counted;
 ghost use mathlib.Core.Path.{_≡_};
 ghost use Prim.Native.Nat.{_+_, _^_, _≤_};
+ghost use Rattle.bits.specs.Packed.{alone};
 ghost use Rattle.polarity.specs.Forms.{size, bestPolarity};
 ghost use Rattle.polarity.specs.Vectors.{byteAt, Vector};
 ghost use Rattle.polarity.specs.Calls.{found, bestOutcome};
@@ -89,11 +93,40 @@ fn best_from(k: usize, w: Packed, p: usize) -> Chosen
     lesser_of(best_from(j, w, p), best_from(j, w.lowered(j), p + h))
 }
 
+// The same from the bits of one word, for at most six variables.
+fn best_in_word(k: usize, x: u64, p: usize) -> Chosen
+    requires { ⌜ (k ≤ 6) × (p + 2 ^ k ≤ 256) ⌝ }
+    ensures { λ r. ⌜ r ≡ bestFrom k (alone x) p ⌝ }
+{
+    if k == 0 {
+        let w = Packed {
+            a: x,
+            b: 0,
+            c: 0,
+            d: 0,
+        };
+        return best_of_one(w, p);
+    }
+    let j = k - 1;
+    let h: usize = 1 << j;
+    lesser_of(
+        best_in_word(j, x, p),
+        best_in_word(j, word::lower_word(x, j), p + h),
+    )
+}
+
 // The polarity of least rank, and of several such the smallest.
 fn find_best(n: usize, vector: &[u8]) -> Chosen
     requires { ⌜ Vector n (now vector) ⌝ }
     ensures { λ r. ⌜ (r .polarity ≡ bestPolarity n (byteAt (now (vector .entry)))) × (r .products ≡ size n (bestPolarity n (byteAt (now (vector .entry)))) (byteAt (now (vector .entry)))) ⌝ }
 {
+    if n <= word::VARIABLES {
+        return best_in_word(
+            n,
+            one_word::raised_below(n, packing::pack_word(vector, 0)),
+            0,
+        );
+    }
     best_from(n, transform::raised_below(n, Packed::of(vector)), 0)
 }
 

@@ -1,12 +1,30 @@
 // The check of a vector's bytes.
+use bits::packing;
 use records::Counted;
 use records::Refusal;
+ghost use mathlib.Core.Bool.{_&&_};
 ghost use mathlib.Core.Path.{_≡_};
+ghost use Prim.Native.Nat.{_+_, _-_, _≤_};
+ghost use lib.Dec.{leb};
+ghost use lib.ListN.{length};
+ghost use Rattle.bits.specs.Below.{allBelow};
 ghost use Rattle.bits.specs.Sums.{firstBad};
 ghost use Rattle.records.specs.Answers.{counted};
-ghost use Rattle.polarity.specs.Vectors.{isBit, checkVector};
+ghost use Rattle.polarity.specs.Vectors.{byteAt, isBit, checkVector};
 
-// The lowest byte above 1, or the length.
+// Whether there are eight bytes from i on, each 0 or 1.
+fn eight_at(bytes: &[u8], i: usize) -> bool
+    requires { ⌜ i ≤ length (now bytes) ⌝ }
+    ensures { λ r. ⌜ r ≡ (leb 8 (length (now (bytes .entry)) - i) && allBelow 8 (λ j. isBit (byteAt (now (bytes .entry)) (i + j)))) ⌝ }
+{
+    if bytes.len() - i < 8 {
+        return false;
+    }
+    let end = i + 8;
+    packing::eight_bits(&bytes[i..end])
+}
+
+// The lowest byte above 1, or the length. Eight bytes at a time, and byte by byte where one of them is above 1 or fewer are left.
 fn first_bad(bytes: &[u8]) -> usize
     ensures { λ r. ⌜ r ≡ firstBad isBit (now (bytes .entry)) ⌝ }
 {
@@ -15,10 +33,14 @@ fn first_bad(bytes: &[u8]) -> usize
         if bytes.len() <= i {
             break bytes.len();
         }
-        if 1 < bytes[i] {
-            break i;
+        if eight_at(bytes, i) {
+            i += 8;
+        } else {
+            if 1 < bytes[i] {
+                break i;
+            }
+            i += 1;
         }
-        i += 1;
     };
     found
 }

@@ -13,7 +13,7 @@ use Rattle.bits.specs.Bits.{bit}
 use Rattle.bits.specs.Below.{leastBelow, LeastIn}
 use Rattle.bits.specs.Packed.{packed, lowered, raised}
 use Rattle.bits.specs.declared.packed.Packed.{Packed}
-use Rattle.bits.proofs.Bits.{bit-high, with-other, shl-one}
+use Rattle.bits.proofs.Bits.{bit-high, with-other, plus-with, shl-one}
 use Rattle.bits.proofs.Least.{in-one, in-upper, in-lower, in-all}
 use Rattle.records.specs.declared.Refusal.{Refusal}
 use Rattle.records.specs.Answers.{accepted, refused}
@@ -25,7 +25,7 @@ use Rattle.polarity.specs.Vectors.{byteAt, Vector, checkVector}
 use Rattle.polarity.specs.Calls.{bestOutcome}
 use Rattle.polarity.specs.Words.{Shows, passed, countsIn, bestOfOne, lesserOf, bestFrom}
 use Rattle.polarity.proofs.Parities.{pow-double, parity-lt}
-use Rattle.polarity.proofs.Passes.{plus-with, xor-with}
+use Rattle.polarity.proofs.Passes.{xor-with}
 use Rattle.polarity.proofs.Shown.{shows-vector, shows-positive, shows-turn, shown-counts}
 
 -- w shows the coefficients under p, which has no variable below k

@@ -71,9 +71,6 @@ room-accepts n l p room m e =
       fits = subst (λ (x : ℕ). x ≤ room) (sym long) (leb-true (2 ^ n) room (r .0));
     }
 
--- the bits of either transform, in the front of a buffer that has room
-pub roomy-put : (back : Bool) (n p : ℕ) (l out : List ℕ) (m : ℕ) → Roomy n l p (length out) m → (w : Packed) → Shows n (transformed back n p (byteAt l)) w
-    → (front : List ℕ) → front ≡ putBits w (take m out) → front ++ drop m out ≡ listBelow (2 ^ n) (transformed back n p (byteAt l)) ++ drop (2 ^ n) out
-roomy-put back n p l out m R w S front e =
-    ap₂ (λ (x : List ℕ) (j : ℕ). x ++ drop j out)
-    (e ∙ shows-put n (R .vector .few) (transformed back n p (byteAt l)) w S (take m out) (length-take-le m out (R .fits) ∙ R .long)) (R .long)
+-- the bytes that were put to the front of a buffer that has room
+pub roomy-put : (n : ℕ) (l : List ℕ) (p : ℕ) (out : List ℕ) (m : ℕ) → Roomy n l p (length out) m → (new front : List ℕ) → front ≡ new → front ++ drop m out ≡ new ++ drop (2 ^ n) out
+roomy-put n l p out m R new front e = ap₂ (λ (x : List ℕ) (j : ℕ). x ++ drop j out) e (R .long)

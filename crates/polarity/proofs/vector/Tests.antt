@@ -1,42 +1,76 @@
 -- The check of a vector, by the first test that fails.
 -- Assumes nothing.
-use mathlib.Core.Path.{_≡_, sym, ap, _∙_}
+use mathlib.Core.Path.{_≡_, refl, sym, ap, _∙_, subst}
+use mathlib.Core.Bool.{Bool, true, false, _&&_}
 use mathlib.Core.List.{List, [], _∷_}
-use Prim.Native.Nat.{ℕ, _+_, _*_, _%_, _^_, _<_, _≤_, zero-le}
-use native.Mathlib.Nat.{zero-add}
+use Prim.Native.Nat.{ℕ, zero, suc, _+_, _-_, _*_, _/_, _%_, _^_, _<_, _≤_}
+use native.Mathlib.Nat.{add-zero, le-refl, div-one}
 use native.Mathlib.Omega.{arith}
-use lib.ListN.{length, drop}
-use borrow.Author.Tests.{le-leb, lt-leb, eq-eqb, ne-eqb}
+use lib.Dec.{leb}
+use lib.ListN.{length, getD, take, drop}
+use lib.Seq.{getD-take, getD-drop}
+use borrow.Author.Tests.{leb-true, le-leb, lt-leb, eq-eqb, ne-eqb}
+use Rattle.bits.specs.Below.{allBelow}
 use Rattle.bits.specs.Sums.{firstBad}
+use Rattle.bits.proofs.Bools.{both-true, all-at, all-ext}
 use Rattle.bits.proofs.Bits.{shl-one}
-use Rattle.bits.proofs.Sums.{looking-on, looking-here, looking-end}
 use Rattle.records.specs.declared.Refusal.{Refusal}
 use Rattle.records.specs.Answers.{accepted, refused, refusal}
+use Rattle.records.specs.Records.{listOf}
+use Rattle.records.proofs.Holding.{bytes, list-bytes}
+use Rattle.records.proofs.Looking.{Looking, found-none, found-bad, looking-next}
 use Rattle.cube.specs.Lists.{vectorVariables}
 use Rattle.polarity.specs.Vectors.{byteAt, isBit, checkVector}
 
--- ---- the lowest byte above 1
+-- ---- the lowest byte above 1: `Looking` over the bytes
 
 -- the bytes before i are 0 or 1
-pub record BitsBefore (l : List ℕ) (i : ℕ) : Type 0 where
-  pub within : i ≤ length l
-  pub so-far : firstBad isBit l ≡ i + firstBad isBit (drop i l)
+abbrev pub BitsBefore : List ℕ → ℕ → Type 0
+BitsBefore l i = Looking bytes isBit l i
 
-module _ (l : List ℕ) where
-  pub before-none : BitsBefore l 0
-  before-none = record { within = zero-le; so-far = sym (zero-add (firstBad isBit l)) }
+module _ (l : List ℕ) (i : ℕ) (r : BitsBefore l i) where
+  at : byteAt l i ≡ getD (listOf bytes l) i 0
+  at = sym (ap (λ (b : List ℕ). getD b i 0) (list-bytes l))
 
-  module _ (i : ℕ) (r : BitsBefore l i) where
-    pub found-none : length l ≤ i → length l ≡ firstBad isBit l
-    found-none h =
-        let e : length l ≡ i = omega (arith, r .within) in
-        e ∙ sym (looking-end isBit 0 l i h (r .so-far))
+  inside : i < length l → i < length l / 1
+  inside h = rw div-one h
 
-    pub found-bad : i < length l → 1 < byteAt l i → i ≡ firstBad isBit l
-    found-bad h b = sym (looking-here isBit 0 l i h (lt-leb (byteAt l i) 1 b) (r .so-far))
+  pub none-bad : length l ≤ i → length l ≡ firstBad isBit l
+  none-bad h = sym (div-one (length l)) ∙ found-none bytes isBit l i r (rw div-one h) ∙ ap (firstBad isBit) (list-bytes l)
 
-    pub before-next : i < length l → byteAt l i ≤ 1 → BitsBefore l (i + 1)
-    before-next h b = record { within = omega arith; so-far = looking-on isBit 0 l i h (le-leb (byteAt l i) 1 b) (r .so-far) }
+  pub bad-here : i < length l → 1 < byteAt l i → i ≡ firstBad isBit l
+  bad-here h b = found-bad bytes isBit l i r (inside h) (byteAt l i) at false (sym (lt-leb (byteAt l i) 1 b)) refl ∙ ap (firstBad isBit) (list-bytes l)
+
+  pub before-next : i < length l → isBit (byteAt l i) ≡ true → BitsBefore l (i + 1)
+  before-next h b = looking-next bytes isBit l i r (inside h) (byteAt l i) at true (sym b) refl
+
+pub before-more : (m : ℕ) (l : List ℕ) (i : ℕ) → BitsBefore l i → i + m ≤ length l → ((j : ℕ) → j < m → isBit (byteAt l (i + j)) ≡ true) → BitsBefore l (i + m)
+before-more zero l i r h all = subst (BitsBefore l) (sym (add-zero i)) r
+before-more (suc m) l i r h all =
+    let e : i + m + 1 ≡ i + suc m = omega arith in
+    subst (BitsBefore l) e (before-next l (i + m) (before-more m l i r (omega arith) (λ j b. all j (omega arith))) (omega arith) (all m (le-refl (suc m))))
+
+-- what eight bytes looked at together say
+module _ (l : List ℕ) (i : ℕ) where
+  pub eight-none : length l - i < 8 → false ≡ (leb 8 (length l - i) && allBelow 8 (λ j. isBit (byteAt l (i + j))))
+  eight-none h = sym (ap (λ (t : Bool). t && allBelow 8 (λ j. isBit (byteAt l (i + j)))) (lt-leb 8 (length l - i) h))
+
+  pub eight-some : 8 ≤ length l - i → (end : ℕ) → end ≡ i + 8 → (t : Bool) → t ≡ allBelow 8 (λ j. isBit (getD (take (end - i) (drop i l)) j 0))
+      → t ≡ (leb 8 (length l - i) && allBelow 8 (λ j. isBit (byteAt l (i + j))))
+  eight-some h end e t et =
+      et ∙ all-ext 8 (λ j. isBit (getD (take (end - i) (drop i l)) j 0)) (λ j. isBit (byteAt l (i + j)))
+      (λ j b. ap isBit (getD-take (end - i) (drop i l) j 0 (omega arith) ∙ getD-drop i l j 0))
+      ∙ sym (ap (λ (t : Bool). t && allBelow 8 (λ j. isBit (byteAt l (i + j)))) (le-leb 8 (length l - i) h))
+
+  module _ (t : Bool) (et : t ≡ (leb 8 (length l - i) && allBelow 8 (λ j. isBit (byteAt l (i + j))))) (e : t ≡ true) where
+    passing : (leb 8 (length l - i) ≡ true) × (allBelow 8 (λ j. isBit (byteAt l (i + j))) ≡ true)
+    passing = both-true (leb 8 (length l - i)) _ (sym et ∙ e)
+
+    pub eight-fit : 8 ≤ length l - i
+    eight-fit = leb-true 8 (length l - i) (passing .0)
+
+    pub before-eight : BitsBefore l i → BitsBefore l (i + 8)
+    before-eight r = before-more 8 l i r (omega (arith, eight-fit)) (all-at 8 (λ j. isBit (byteAt l (i + j))) (passing .1))
 
 -- ---- 1 and 14
 

@@ -1,7 +1,7 @@
 //! The calls on vectors of at most 8 variables, in either of two ways.
 
 use super::cube::{Cube, RECORD, records};
-use super::words::Packed;
+use super::words::{Packed, WORD_VARIABLES, Word};
 use super::{Refusal, Words, bytes, refusal, refuse_if, words};
 
 /// How a vector is kept and worked on. Vectors and coefficients have 2^n bytes, and so have the buffers that are written.
@@ -13,7 +13,7 @@ pub trait Way {
     fn best(n: u64, vector: &[u8]) -> (usize, usize);
 }
 
-/// The library's way: four words.
+/// The library's way: four words, or one where that is enough.
 pub struct ByWords;
 
 /// The straightforward way: a byte for each assignment.
@@ -25,14 +25,23 @@ impl Way for ByWords {
     }
 
     fn coefficients(n: u64, vector: &[u8], p: usize, out: &mut [u8]) {
+        if n <= WORD_VARIABLES {
+            return Word::of(vector).transformed(n).turned(n, p).put(out);
+        }
         Packed::of(vector).transformed(n).turned(n, p).put(out);
     }
 
     fn vector(n: u64, coefficients: &[u8], p: usize, out: &mut [u8]) {
+        if n <= WORD_VARIABLES {
+            return Word::of(coefficients).turned(n, p).transformed(n).put(out);
+        }
         Packed::of(coefficients).turned(n, p).transformed(n).put(out);
     }
 
     fn best(n: u64, vector: &[u8]) -> (usize, usize) {
+        if n <= WORD_VARIABLES {
+            return Word::of(vector).best(n);
+        }
         Packed::of(vector).best(n)
     }
 }

@@ -1,4 +1,4 @@
-//! The library's way with vectors: 256 bits in four words, one masked shift a variable.
+//! The library's way with vectors: 256 bits in four words, and the 64 bits of at most six variables in one; one masked shift a variable.
 
 use super::cube::{Cube, RECORD};
 
@@ -125,6 +125,54 @@ impl Packed {
     }
 
     /// The polarity with the fewest products, the smallest on a tie, and how many, from the vector's bits.
+    pub fn best(self, n: u64) -> (usize, usize) {
+        self.transformed(n).best_from(n as usize, 0)
+    }
+}
+
+/// How many variables tell the bits of one word apart.
+pub const WORD_VARIABLES: u64 = 6;
+
+/// The bits of a vector of at most six variables.
+#[derive(Clone, Copy)]
+pub struct Word(u64);
+
+impl Word {
+    pub fn of(bytes: &[u8]) -> Word {
+        Word(bytes.iter().enumerate().fold(0, |word, (j, &byte)| word | u64::from(byte) << j))
+    }
+
+    pub fn put(self, bytes: &mut [u8]) {
+        for (j, byte) in bytes.iter_mut().enumerate() {
+            *byte = (self.0 >> j) as u8 & 1;
+        }
+    }
+
+    #[inline]
+    fn raised(self, k: usize) -> Word {
+        Word(self.0 ^ (self.0 & WITHOUT[k]) << (1 << k))
+    }
+
+    #[inline]
+    fn lowered(self, k: usize) -> Word {
+        Word(self.0 ^ self.0 >> (1 << k) & WITHOUT[k])
+    }
+
+    pub fn transformed(self, n: u64) -> Word {
+        (0..n as usize).fold(self, Word::raised)
+    }
+
+    pub fn turned(self, n: u64, p: usize) -> Word {
+        (0..n as usize).filter(|k| p >> k & 1 == 1).fold(self, Word::lowered)
+    }
+
+    fn best_from(self, k: usize, p: usize) -> (usize, usize) {
+        match k {
+            0 => (p, self.0.count_ones() as usize),
+            _ => fewer(self.best_from(k - 1, p), self.lowered(k - 1).best_from(k - 1, p + (1 << (k - 1)))),
+        }
+    }
+
     pub fn best(self, n: u64) -> (usize, usize) {
         self.transformed(n).best_from(n as usize, 0)
     }

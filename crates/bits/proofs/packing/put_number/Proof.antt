@@ -1,0 +1,66 @@
+-- `packing::put_number` meets its contract: the loop keeps `Putting`.
+-- Assumes nothing.
+use Prim.Native.Nat.{_-_}
+use native.Mathlib.Omega.{arith}
+use lib.ListN.{length}
+use Rattle.bits.specs.Packed.{byteOf}
+use Rattle.bits.proofs.packing.Putting.{Putting, putting-none, putting-more, putting-all}
+use Rattle.bits.proofs.packing.put_number.Statement.{statement}
+use Rattle.bits.proofs.packing.put_number.Tie as tie
+
+abbrev Inv-loop : tie.InvT-loop
+Inv-loop x part₀ j₀ part j = Putting (byteOf x) part₀ part j
+
+abbrev μ-loop : tie.MeasureT-loop
+μ-loop x part₀ j₀ part j = length part₀ - j
+
+loop-holds : tie.Need-loop-holds Inv-loop μ-loop
+loop-holds c = putting-none _ _
+
+mul-part : tie.Need-mul-part Inv-loop μ-loop
+mul-part c = omega arith
+
+cast-part : tie.Need-cast-part Inv-loop μ-loop
+cast-part c = omega arith
+
+shr-part : tie.Need-shr-part Inv-loop μ-loop
+shr-part c = omega arith
+
+cast-part-2 : tie.Need-cast-part-2 Inv-loop μ-loop
+cast-part-2 c = omega arith
+
+slice-write-part : tie.Need-slice-write-part Inv-loop μ-loop
+slice-write-part c = omega arith
+
+add-j : tie.Need-add-j Inv-loop μ-loop
+add-j c = omega arith
+
+loop-less : tie.Need-loop-less Inv-loop μ-loop
+loop-less c = omega arith
+
+loop-again : tie.Need-loop-again Inv-loop μ-loop
+loop-again c = putting-more _ _ _ _ (c .before .loop .inv) (c .loop-test .taken)
+
+same-length : tie.Need-same-length Inv-loop μ-loop
+same-length c = c .before .loop .inv .size
+
+returns : tie.Need-returns Inv-loop μ-loop
+returns c = putting-all _ _ _ _ (c .before .loop .inv) (c .loop-test .left)
+
+pub put-number-spec : {M : Type 1} → statement M
+put-number-spec =
+    tie.close
+    (tie.spec
+    Inv-loop
+    μ-loop
+    loop-holds
+    mul-part
+    cast-part
+    shr-part
+    cast-part-2
+    slice-write-part
+    add-j
+    loop-less
+    loop-again
+    same-length
+    returns)
