@@ -93,19 +93,23 @@ fn best_from(k: usize, w: Packed, p: usize) -> Chosen
     lesser_of(best_from(j, w, p), best_from(j, w.lowered(j), p + h))
 }
 
-// The same from the bits of one word, for at most six variables.
+// The same from the bits of one word, for at most six variables. What the compiler makes of the best of one and of two knows that the
+// other words are 0.
 fn best_in_word(k: usize, x: u64, p: usize) -> Chosen
     requires { ⌜ (k ≤ 6) × (p + 2 ^ k ≤ 256) ⌝ }
     ensures { λ r. ⌜ r ≡ bestFrom k (alone x) p ⌝ }
 {
+    let w = Packed {
+        a: x,
+        b: 0,
+        c: 0,
+        d: 0,
+    };
     if k == 0 {
-        let w = Packed {
-            a: x,
-            b: 0,
-            c: 0,
-            d: 0,
-        };
         return best_of_one(w, p);
+    }
+    if k == 1 {
+        return best_of_two(w, p);
     }
     let j = k - 1;
     let h: usize = 1 << j;

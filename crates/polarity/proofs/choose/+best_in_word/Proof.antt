@@ -9,11 +9,12 @@ use borrow.Fn.PlainCycle.{Measures, is, falls, and}
 use Rattle.bits.specs.Packed.{alone}
 use Rattle.bits.proofs.packed.Alone.{lowered-alone}
 use Rattle.bits.proofs.word.lower_word.Reads as lower-word-reads
-use Rattle.polarity.proofs.choose.Search.{best-at, half-is, half-next, half-fits, halves-are}
+use Rattle.polarity.proofs.choose.Search.{best-at, room-at, half-is, half-next, half-fits, halves-are}
 use Rattle.polarity.proofs.choose.best_in_word.Reads as best-in-word
 use Rattle.polarity.proofs.choose.best_in_word.Kinds as best-in-word-kinds
 use Rattle.polarity.proofs.choose.+best_in_word.Lts-best_in_word as lts
 use Rattle.polarity.proofs.choose.best_of_one.Reads as best-of-one-reads
+use Rattle.polarity.proofs.choose.best_of_two.Reads as best-of-two-reads
 use Rattle.polarity.proofs.choose.lesser_of.Reads as lesser-of-reads
 use Rattle.polarity.proofs.choose.+best_in_word.{statement}
 use Rattle.polarity.proofs.choose.+best_in_word.Tie.{close}
@@ -28,45 +29,51 @@ abbrev best-in-word-below : ℕ → In 0 best-in-word-kinds.ps
 best-in-word-below t = and 0 best-in-word-kinds.ps (falls 0 best-in-word-kinds.ps _<_ μ-best-in-word t) best-in-word.Pre
 
 module _ (t : ℕ) where
-  best-of-one-requires : lts.Need-best-of-one-requires (best-of-one-reads.Asked, best-of-one-reads.Learnt, best-in-word-below t, best-in-word.Post, lower-word-reads.Asked, lower-word-reads.Learnt, lesser-of-reads.Asked, lesser-of-reads.Learnt) (best-in-word-at t) best-in-word.Post
+  best-of-one-requires : lts.Need-best-of-one-requires (best-of-one-reads.Asked, best-of-one-reads.Learnt, best-of-two-reads.Asked, best-of-two-reads.Learnt, best-in-word-below t, best-in-word.Post, lower-word-reads.Asked, lower-word-reads.Learnt, lesser-of-reads.Asked, lesser-of-reads.Learnt) (best-in-word-at t) best-in-word.Post
   best-of-one-requires c κs = search needs
 
-  returns : lts.Need-returns (best-of-one-reads.Asked, best-of-one-reads.Learnt, best-in-word-below t, best-in-word.Post, lower-word-reads.Asked, lower-word-reads.Learnt, lesser-of-reads.Asked, lesser-of-reads.Learnt) (best-in-word-at t) best-in-word.Post
+  returns : lts.Need-returns (best-of-one-reads.Asked, best-of-one-reads.Learnt, best-of-two-reads.Asked, best-of-two-reads.Learnt, best-in-word-below t, best-in-word.Post, lower-word-reads.Asked, lower-word-reads.Learnt, lesser-of-reads.Asked, lesser-of-reads.Learnt) (best-in-word-at t) best-in-word.Post
   returns c = best-at 0 _ _ (c .before .if1 .taken) _ _ (c .best-of-one .ensures)
 
-  sub-j : lts.Need-sub-j (best-of-one-reads.Asked, best-of-one-reads.Learnt, best-in-word-below t, best-in-word.Post, lower-word-reads.Asked, lower-word-reads.Learnt, lesser-of-reads.Asked, lesser-of-reads.Learnt) (best-in-word-at t) best-in-word.Post
+  best-of-two-requires : lts.Need-best-of-two-requires (best-of-one-reads.Asked, best-of-one-reads.Learnt, best-of-two-reads.Asked, best-of-two-reads.Learnt, best-in-word-below t, best-in-word.Post, lower-word-reads.Asked, lower-word-reads.Learnt, lesser-of-reads.Asked, lesser-of-reads.Learnt) (best-in-word-at t) best-in-word.Post
+  best-of-two-requires c κs = let s = c .before .before in room-at 1 (s .args .k) (s .args .p) (c .if2 .taken) (s .pre .1 .1)
+
+  returns-2 : lts.Need-returns-2 (best-of-one-reads.Asked, best-of-one-reads.Learnt, best-of-two-reads.Asked, best-of-two-reads.Learnt, best-in-word-below t, best-in-word.Post, lower-word-reads.Asked, lower-word-reads.Learnt, lesser-of-reads.Asked, lesser-of-reads.Learnt) (best-in-word-at t) best-in-word.Post
+  returns-2 c = best-at 1 _ _ (c .before .if2 .taken) _ _ (c .best-of-two .ensures)
+
+  sub-j : lts.Need-sub-j (best-of-one-reads.Asked, best-of-one-reads.Learnt, best-of-two-reads.Asked, best-of-two-reads.Learnt, best-in-word-below t, best-in-word.Post, lower-word-reads.Asked, lower-word-reads.Learnt, lesser-of-reads.Asked, lesser-of-reads.Learnt) (best-in-word-at t) best-in-word.Post
   sub-j c = search needs
 
-  shl-h : lts.Need-shl-h (best-of-one-reads.Asked, best-of-one-reads.Learnt, best-in-word-below t, best-in-word.Post, lower-word-reads.Asked, lower-word-reads.Learnt, lesser-of-reads.Asked, lesser-of-reads.Learnt) (best-in-word-at t) best-in-word.Post
+  shl-h : lts.Need-shl-h (best-of-one-reads.Asked, best-of-one-reads.Learnt, best-of-two-reads.Asked, best-of-two-reads.Learnt, best-in-word-below t, best-in-word.Post, lower-word-reads.Asked, lower-word-reads.Learnt, lesser-of-reads.Asked, lesser-of-reads.Learnt) (best-in-word-at t) best-in-word.Post
   shl-h c = search needs
 
-  best-in-word-requires : lts.Need-best-in-word-requires (best-of-one-reads.Asked, best-of-one-reads.Learnt, best-in-word-below t, best-in-word.Post, lower-word-reads.Asked, lower-word-reads.Learnt, lesser-of-reads.Asked, lesser-of-reads.Learnt) (best-in-word-at t) best-in-word.Post
+  best-in-word-requires : lts.Need-best-in-word-requires (best-of-one-reads.Asked, best-of-one-reads.Learnt, best-of-two-reads.Asked, best-of-two-reads.Learnt, best-in-word-below t, best-in-word.Post, lower-word-reads.Asked, lower-word-reads.Learnt, lesser-of-reads.Asked, lesser-of-reads.Learnt) (best-in-word-at t) best-in-word.Post
   best-in-word-requires c κs =
-      let s = c .before in
-      (omega arith, (omega arith, omega (arith, half-fits (s .args .k) (omega arith) (c .if1 .left) (s .args .p) (s .pre .1 .1))))
+      let s = c .before .before in
+      (omega arith, (omega arith, omega (arith, half-fits (s .args .k) (omega arith) (c .before .if1 .left) (s .args .p) (s .pre .1 .1))))
 
-  lower-word-requires : lts.Need-lower-word-requires (best-of-one-reads.Asked, best-of-one-reads.Learnt, best-in-word-below t, best-in-word.Post, lower-word-reads.Asked, lower-word-reads.Learnt, lesser-of-reads.Asked, lesser-of-reads.Learnt) (best-in-word-at t) best-in-word.Post
+  lower-word-requires : lts.Need-lower-word-requires (best-of-one-reads.Asked, best-of-one-reads.Learnt, best-of-two-reads.Asked, best-of-two-reads.Learnt, best-in-word-below t, best-in-word.Post, lower-word-reads.Asked, lower-word-reads.Learnt, lesser-of-reads.Asked, lesser-of-reads.Learnt) (best-in-word-at t) best-in-word.Post
   lower-word-requires c κs = omega arith
 
-  add-best-in-word : lts.Need-add-best-in-word (best-of-one-reads.Asked, best-of-one-reads.Learnt, best-in-word-below t, best-in-word.Post, lower-word-reads.Asked, lower-word-reads.Learnt, lesser-of-reads.Asked, lesser-of-reads.Learnt) (best-in-word-at t) best-in-word.Post
+  add-best-in-word : lts.Need-add-best-in-word (best-of-one-reads.Asked, best-of-one-reads.Learnt, best-of-two-reads.Asked, best-of-two-reads.Learnt, best-in-word-below t, best-in-word.Post, lower-word-reads.Asked, lower-word-reads.Learnt, lesser-of-reads.Asked, lesser-of-reads.Learnt) (best-in-word-at t) best-in-word.Post
   add-best-in-word c =
-      let s = c .before .before .before in
-      omega (arith, half-fits (s .args .k) (omega arith) (c .before .before .if1 .left) (s .args .p) (s .pre .1 .1))
+      let s = c .before .before .before .before in
+      omega (arith, half-fits (s .args .k) (omega arith) (c .before .before .before .if1 .left) (s .args .p) (s .pre .1 .1))
 
-  best-in-word-requires-2 : lts.Need-best-in-word-requires-2 (best-of-one-reads.Asked, best-of-one-reads.Learnt, best-in-word-below t, best-in-word.Post, lower-word-reads.Asked, lower-word-reads.Learnt, lesser-of-reads.Asked, lesser-of-reads.Learnt) (best-in-word-at t) best-in-word.Post
+  best-in-word-requires-2 : lts.Need-best-in-word-requires-2 (best-of-one-reads.Asked, best-of-one-reads.Learnt, best-of-two-reads.Asked, best-of-two-reads.Learnt, best-in-word-below t, best-in-word.Post, lower-word-reads.Asked, lower-word-reads.Learnt, lesser-of-reads.Asked, lesser-of-reads.Learnt) (best-in-word-at t) best-in-word.Post
   best-in-word-requires-2 c κs =
-      let s = c .before .before .before in
-      (omega arith, (omega arith, half-fits (s .args .k) (omega arith) (c .before .before .if1 .left) (s .args .p) (s .pre .1 .1)))
+      let s = c .before .before .before .before in
+      (omega arith, (omega arith, half-fits (s .args .k) (omega arith) (c .before .before .before .if1 .left) (s .args .p) (s .pre .1 .1)))
 
-  lesser-of-requires : lts.Need-lesser-of-requires (best-of-one-reads.Asked, best-of-one-reads.Learnt, best-in-word-below t, best-in-word.Post, lower-word-reads.Asked, lower-word-reads.Learnt, lesser-of-reads.Asked, lesser-of-reads.Learnt) (best-in-word-at t) best-in-word.Post
+  lesser-of-requires : lts.Need-lesser-of-requires (best-of-one-reads.Asked, best-of-one-reads.Learnt, best-of-two-reads.Asked, best-of-two-reads.Learnt, best-in-word-below t, best-in-word.Post, lower-word-reads.Asked, lower-word-reads.Learnt, lesser-of-reads.Asked, lesser-of-reads.Learnt) (best-in-word-at t) best-in-word.Post
   lesser-of-requires c κs = search needs
 
-  returns-2 : lts.Need-returns-2 (best-of-one-reads.Asked, best-of-one-reads.Learnt, best-in-word-below t, best-in-word.Post, lower-word-reads.Asked, lower-word-reads.Learnt, lesser-of-reads.Asked, lesser-of-reads.Learnt) (best-in-word-at t) best-in-word.Post
-  returns-2 c =
-      let c₄ = c .before .before .before .before in
-      let s = c₄ .before in
-      best-at _ (s .args .k) _ (half-next (s .args .k) (omega arith) (c₄ .if1 .left)) _ _
-      (halves-are _ _ _ (half-is (s .args .k) (omega arith) (c₄ .if1 .left)) _ _ (ap alone (c .before .before .lower-word .ensures) ∙ sym (lowered-alone _ _ (omega arith))) _ _ _
+  returns-3 : lts.Need-returns-3 (best-of-one-reads.Asked, best-of-one-reads.Learnt, best-of-two-reads.Asked, best-of-two-reads.Learnt, best-in-word-below t, best-in-word.Post, lower-word-reads.Asked, lower-word-reads.Learnt, lesser-of-reads.Asked, lesser-of-reads.Learnt) (best-in-word-at t) best-in-word.Post
+  returns-3 c =
+      let c₅ = c .before .before .before .before .before in
+      let s = c₅ .before in
+      best-at _ (s .args .k) _ (half-next (s .args .k) (omega arith) (c₅ .if1 .left)) _ _
+      (halves-are _ _ _ (half-is (s .args .k) (omega arith) (c₅ .if1 .left)) _ _ (ap alone (c .before .before .lower-word .ensures) ∙ sym (lowered-alone _ _ (omega arith))) _ _ _
       (c .before .before .before .best-in-word .ensures) (c .before .best-in-word2 .ensures) (c .lesser-of .ensures))
 
 pub +best-in-word-spec : {M : Type 1} → statement M
@@ -74,11 +81,13 @@ pub +best-in-word-spec : {M : Type 1} → statement M
     close
     μ-best-in-word
     λ t. lts.spec
-    (best-of-one-reads.Asked, best-of-one-reads.Learnt, best-in-word-below t, best-in-word.Post, lower-word-reads.Asked, lower-word-reads.Learnt, lesser-of-reads.Asked, lesser-of-reads.Learnt)
+    (best-of-one-reads.Asked, best-of-one-reads.Learnt, best-of-two-reads.Asked, best-of-two-reads.Learnt, best-in-word-below t, best-in-word.Post, lower-word-reads.Asked, lower-word-reads.Learnt, lesser-of-reads.Asked, lesser-of-reads.Learnt)
     (best-in-word-at t)
     best-in-word.Post
     (best-of-one-requires t)
     (returns t)
+    (best-of-two-requires t)
+    (returns-2 t)
     (sub-j t)
     (shl-h t)
     (best-in-word-requires t)
@@ -86,4 +95,4 @@ pub +best-in-word-spec : {M : Type 1} → statement M
     (add-best-in-word t)
     (best-in-word-requires-2 t)
     (lesser-of-requires t)
-    (returns-2 t)
+    (returns-3 t)
