@@ -3,7 +3,7 @@ use crate::packing;
 use crate::word;
 ghost use mathlib.Core.Path.{_≡_};
 ghost use Rattle.bits.specs.Below.{sumBelow};
-ghost use Rattle.bits.specs.Packed.{bitAt, both, summed, withoutBits, literalBits, packed, putBits, lowered, raised};
+ghost use Rattle.bits.specs.Packed.{alone, bitAt, both, summed, withoutBits, literalBits, packed, putBits, lowered, raised};
 
 // Four words, the lowest first.
 pub struct Packed {
@@ -57,6 +57,18 @@ impl Packed {
         c: word::ALL,
         d: word::ALL,
     };
+
+    // The first word alone.
+    pub fn alone(x: u64) -> Packed
+        ensures { λ r. ⌜ r ≡ alone x ⌝ }
+    {
+        Packed {
+            a: x,
+            b: 0,
+            c: 0,
+            d: 0,
+        }
+    }
 
     // The bits at whose index the literal with code x at variable k is true. It takes no branch on x.
     pub fn literal(k: usize, x: u8) -> Packed

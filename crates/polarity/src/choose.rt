@@ -9,6 +9,7 @@ use bits::packed::Packed;
 use bits::packing;
 use bits::word;
 use records::Counted;
+ghost use mathlib.Core.Bool.{cond};
 ghost use mathlib.Core.Path.{_≡_};
 ghost use Prim.Native.Nat.{_+_, _^_, _≤_};
 ghost use Rattle.bits.specs.Packed.{alone};
@@ -24,14 +25,27 @@ struct Chosen {
     least: usize,
 }
 
-// Of two that are each the best of a range, where the ranges lie side by side, the best of both: on a tie the lower.
+// x where the test passed, else y.
+fn either(t: bool, x: usize, y: usize) -> usize
+    ensures { λ r. ⌜ r ≡ cond t x y ⌝ }
+{
+    if t {
+        return x;
+    }
+    y
+}
+
+// Of two that are each the best of a range, where the ranges lie side by side, the best of both: on a tie the lower. Field by field, so that
+// all stay in registers: a struct that is chosen whole is chosen in memory.
 fn lesser_of(lower: Chosen, upper: Chosen) -> Chosen
     ensures { λ r. ⌜ r ≡ lesserOf lower upper ⌝ }
 {
-    if upper.least < lower.least {
-        return upper;
+    let t = upper.least < lower.least;
+    Chosen {
+        polarity: either(t, upper.polarity, lower.polarity),
+        products: either(t, upper.products, lower.products),
+        least: either(t, upper.least, lower.least),
     }
-    lower
 }
 
 // The best of one polarity.
@@ -93,23 +107,13 @@ fn best_from(k: usize, w: Packed, p: usize) -> Chosen
     lesser_of(best_from(j, w, p), best_from(j, w.lowered(j), p + h))
 }
 
-// The same from the bits of one word, for at most six variables. What the compiler makes of the best of one and of two knows that the
-// other words are 0.
+// The same from the bits of one word, for at least one variable and at most six. The compiler drops the three words that are 0.
 fn best_in_word(k: usize, x: u64, p: usize) -> Chosen
-    requires { ⌜ (k ≤ 6) × (p + 2 ^ k ≤ 256) ⌝ }
+    requires { ⌜ (1 ≤ k) × (k ≤ 6) × (p + 2 ^ k ≤ 256) ⌝ }
     ensures { λ r. ⌜ r ≡ bestFrom k (alone x) p ⌝ }
 {
-    let w = Packed {
-        a: x,
-        b: 0,
-        c: 0,
-        d: 0,
-    };
-    if k == 0 {
-        return best_of_one(w, p);
-    }
     if k == 1 {
-        return best_of_two(w, p);
+        return best_of_two(Packed::alone(x), p);
     }
     let j = k - 1;
     let h: usize = 1 << j;
@@ -119,17 +123,24 @@ fn best_in_word(k: usize, x: u64, p: usize) -> Chosen
     )
 }
 
+// The best of all polarities of at most six variables.
+fn best_of_word(n: usize, x: u64) -> Chosen
+    requires { ⌜ n ≤ 6 ⌝ }
+    ensures { λ r. ⌜ r ≡ bestFrom n (alone x) 0 ⌝ }
+{
+    if n == 0 {
+        return best_of_one(Packed::alone(x), 0);
+    }
+    best_in_word(n, x, 0)
+}
+
 // The polarity of least rank, and of several such the smallest.
 fn find_best(n: usize, vector: &[u8]) -> Chosen
     requires { ⌜ Vector n (now vector) ⌝ }
     ensures { λ r. ⌜ (r .polarity ≡ bestPolarity n (byteAt (now (vector .entry)))) × (r .products ≡ size n (bestPolarity n (byteAt (now (vector .entry)))) (byteAt (now (vector .entry)))) ⌝ }
 {
     if n <= word::VARIABLES {
-        return best_in_word(
-            n,
-            one_word::raised_below(n, packing::pack_word(vector, 0)),
-            0,
-        );
+        return best_of_word(n, one_word::raised_below(n, packing::pack_word(vector, 0)));
     }
     best_from(n, transform::raised_below(n, Packed::of(vector)), 0)
 }

@@ -8,12 +8,12 @@ use borrow.Fn.Kinds.{In}
 use borrow.Fn.PlainCycle.{Measures, is, falls, and}
 use Rattle.bits.specs.Packed.{alone}
 use Rattle.bits.proofs.packed.Alone.{lowered-alone}
+use Rattle.bits.proofs.packed.Packed.alone.Reads as alone-reads
 use Rattle.bits.proofs.word.lower_word.Reads as lower-word-reads
-use Rattle.polarity.proofs.choose.Search.{best-at, room-at, half-is, half-next, half-fits, halves-are}
+use Rattle.polarity.proofs.choose.Search.{best-at, best-alike, room-at, half-is, half-next, half-fits, halves-are}
 use Rattle.polarity.proofs.choose.best_in_word.Reads as best-in-word
 use Rattle.polarity.proofs.choose.best_in_word.Kinds as best-in-word-kinds
 use Rattle.polarity.proofs.choose.+best_in_word.Lts-best_in_word as lts
-use Rattle.polarity.proofs.choose.best_of_one.Reads as best-of-one-reads
 use Rattle.polarity.proofs.choose.best_of_two.Reads as best-of-two-reads
 use Rattle.polarity.proofs.choose.lesser_of.Reads as lesser-of-reads
 use Rattle.polarity.proofs.choose.+best_in_word.{statement}
@@ -29,51 +29,47 @@ abbrev best-in-word-below : ℕ → In 0 best-in-word-kinds.ps
 best-in-word-below t = and 0 best-in-word-kinds.ps (falls 0 best-in-word-kinds.ps _<_ μ-best-in-word t) best-in-word.Pre
 
 module _ (t : ℕ) where
-  best-of-one-requires : lts.Need-best-of-one-requires (best-of-one-reads.Asked, best-of-one-reads.Learnt, best-of-two-reads.Asked, best-of-two-reads.Learnt, best-in-word-below t, best-in-word.Post, lower-word-reads.Asked, lower-word-reads.Learnt, lesser-of-reads.Asked, lesser-of-reads.Learnt) (best-in-word-at t) best-in-word.Post
-  best-of-one-requires c κs = search needs
+  alone-requires : lts.Need-alone-requires (alone-reads.Asked, alone-reads.Learnt, best-of-two-reads.Asked, best-of-two-reads.Learnt, best-in-word-below t, best-in-word.Post, lower-word-reads.Asked, lower-word-reads.Learnt, lesser-of-reads.Asked, lesser-of-reads.Learnt) (best-in-word-at t) best-in-word.Post
+  alone-requires c κs = search needs
 
-  returns : lts.Need-returns (best-of-one-reads.Asked, best-of-one-reads.Learnt, best-of-two-reads.Asked, best-of-two-reads.Learnt, best-in-word-below t, best-in-word.Post, lower-word-reads.Asked, lower-word-reads.Learnt, lesser-of-reads.Asked, lesser-of-reads.Learnt) (best-in-word-at t) best-in-word.Post
-  returns c = best-at 0 _ _ (c .before .if1 .taken) _ _ (c .best-of-one .ensures)
+  best-of-two-requires : lts.Need-best-of-two-requires (alone-reads.Asked, alone-reads.Learnt, best-of-two-reads.Asked, best-of-two-reads.Learnt, best-in-word-below t, best-in-word.Post, lower-word-reads.Asked, lower-word-reads.Learnt, lesser-of-reads.Asked, lesser-of-reads.Learnt) (best-in-word-at t) best-in-word.Post
+  best-of-two-requires c κs = let s = c .before .before in room-at 1 (s .args .k) (s .args .p) (c .before .if1 .taken) (s .pre .1 .2)
 
-  best-of-two-requires : lts.Need-best-of-two-requires (best-of-one-reads.Asked, best-of-one-reads.Learnt, best-of-two-reads.Asked, best-of-two-reads.Learnt, best-in-word-below t, best-in-word.Post, lower-word-reads.Asked, lower-word-reads.Learnt, lesser-of-reads.Asked, lesser-of-reads.Learnt) (best-in-word-at t) best-in-word.Post
-  best-of-two-requires c κs = let s = c .before .before in room-at 1 (s .args .k) (s .args .p) (c .if2 .taken) (s .pre .1 .1)
+  returns : lts.Need-returns (alone-reads.Asked, alone-reads.Learnt, best-of-two-reads.Asked, best-of-two-reads.Learnt, best-in-word-below t, best-in-word.Post, lower-word-reads.Asked, lower-word-reads.Learnt, lesser-of-reads.Asked, lesser-of-reads.Learnt) (best-in-word-at t) best-in-word.Post
+  returns c = best-alike 1 _ _ (c .before .before .if1 .taken) _ _ (c .before .alone .ensures) _ (c .best-of-two .ensures)
 
-  returns-2 : lts.Need-returns-2 (best-of-one-reads.Asked, best-of-one-reads.Learnt, best-of-two-reads.Asked, best-of-two-reads.Learnt, best-in-word-below t, best-in-word.Post, lower-word-reads.Asked, lower-word-reads.Learnt, lesser-of-reads.Asked, lesser-of-reads.Learnt) (best-in-word-at t) best-in-word.Post
-  returns-2 c = best-at 1 _ _ (c .before .if2 .taken) _ _ (c .best-of-two .ensures)
-
-  sub-j : lts.Need-sub-j (best-of-one-reads.Asked, best-of-one-reads.Learnt, best-of-two-reads.Asked, best-of-two-reads.Learnt, best-in-word-below t, best-in-word.Post, lower-word-reads.Asked, lower-word-reads.Learnt, lesser-of-reads.Asked, lesser-of-reads.Learnt) (best-in-word-at t) best-in-word.Post
+  sub-j : lts.Need-sub-j (alone-reads.Asked, alone-reads.Learnt, best-of-two-reads.Asked, best-of-two-reads.Learnt, best-in-word-below t, best-in-word.Post, lower-word-reads.Asked, lower-word-reads.Learnt, lesser-of-reads.Asked, lesser-of-reads.Learnt) (best-in-word-at t) best-in-word.Post
   sub-j c = search needs
 
-  shl-h : lts.Need-shl-h (best-of-one-reads.Asked, best-of-one-reads.Learnt, best-of-two-reads.Asked, best-of-two-reads.Learnt, best-in-word-below t, best-in-word.Post, lower-word-reads.Asked, lower-word-reads.Learnt, lesser-of-reads.Asked, lesser-of-reads.Learnt) (best-in-word-at t) best-in-word.Post
+  shl-h : lts.Need-shl-h (alone-reads.Asked, alone-reads.Learnt, best-of-two-reads.Asked, best-of-two-reads.Learnt, best-in-word-below t, best-in-word.Post, lower-word-reads.Asked, lower-word-reads.Learnt, lesser-of-reads.Asked, lesser-of-reads.Learnt) (best-in-word-at t) best-in-word.Post
   shl-h c = search needs
 
-  best-in-word-requires : lts.Need-best-in-word-requires (best-of-one-reads.Asked, best-of-one-reads.Learnt, best-of-two-reads.Asked, best-of-two-reads.Learnt, best-in-word-below t, best-in-word.Post, lower-word-reads.Asked, lower-word-reads.Learnt, lesser-of-reads.Asked, lesser-of-reads.Learnt) (best-in-word-at t) best-in-word.Post
+  best-in-word-requires : lts.Need-best-in-word-requires (alone-reads.Asked, alone-reads.Learnt, best-of-two-reads.Asked, best-of-two-reads.Learnt, best-in-word-below t, best-in-word.Post, lower-word-reads.Asked, lower-word-reads.Learnt, lesser-of-reads.Asked, lesser-of-reads.Learnt) (best-in-word-at t) best-in-word.Post
   best-in-word-requires c κs =
-      let s = c .before .before in
-      (omega arith, (omega arith, omega (arith, half-fits (s .args .k) (omega arith) (c .before .if1 .left) (s .args .p) (s .pre .1 .1))))
+      let s = c .before in
+      (omega arith, (omega arith, omega arith, omega (arith, half-fits (s .args .k) (omega arith) (λ e. omega arith) (s .args .p) (s .pre .1 .2))))
 
-  lower-word-requires : lts.Need-lower-word-requires (best-of-one-reads.Asked, best-of-one-reads.Learnt, best-of-two-reads.Asked, best-of-two-reads.Learnt, best-in-word-below t, best-in-word.Post, lower-word-reads.Asked, lower-word-reads.Learnt, lesser-of-reads.Asked, lesser-of-reads.Learnt) (best-in-word-at t) best-in-word.Post
+  lower-word-requires : lts.Need-lower-word-requires (alone-reads.Asked, alone-reads.Learnt, best-of-two-reads.Asked, best-of-two-reads.Learnt, best-in-word-below t, best-in-word.Post, lower-word-reads.Asked, lower-word-reads.Learnt, lesser-of-reads.Asked, lesser-of-reads.Learnt) (best-in-word-at t) best-in-word.Post
   lower-word-requires c κs = omega arith
 
-  add-best-in-word : lts.Need-add-best-in-word (best-of-one-reads.Asked, best-of-one-reads.Learnt, best-of-two-reads.Asked, best-of-two-reads.Learnt, best-in-word-below t, best-in-word.Post, lower-word-reads.Asked, lower-word-reads.Learnt, lesser-of-reads.Asked, lesser-of-reads.Learnt) (best-in-word-at t) best-in-word.Post
+  add-best-in-word : lts.Need-add-best-in-word (alone-reads.Asked, alone-reads.Learnt, best-of-two-reads.Asked, best-of-two-reads.Learnt, best-in-word-below t, best-in-word.Post, lower-word-reads.Asked, lower-word-reads.Learnt, lesser-of-reads.Asked, lesser-of-reads.Learnt) (best-in-word-at t) best-in-word.Post
   add-best-in-word c =
-      let s = c .before .before .before .before in
-      omega (arith, half-fits (s .args .k) (omega arith) (c .before .before .before .if1 .left) (s .args .p) (s .pre .1 .1))
+      let s = c .before .before .before in
+      omega (arith, half-fits (s .args .k) (omega arith) (λ e. omega arith) (s .args .p) (s .pre .1 .2))
 
-  best-in-word-requires-2 : lts.Need-best-in-word-requires-2 (best-of-one-reads.Asked, best-of-one-reads.Learnt, best-of-two-reads.Asked, best-of-two-reads.Learnt, best-in-word-below t, best-in-word.Post, lower-word-reads.Asked, lower-word-reads.Learnt, lesser-of-reads.Asked, lesser-of-reads.Learnt) (best-in-word-at t) best-in-word.Post
+  best-in-word-requires-2 : lts.Need-best-in-word-requires-2 (alone-reads.Asked, alone-reads.Learnt, best-of-two-reads.Asked, best-of-two-reads.Learnt, best-in-word-below t, best-in-word.Post, lower-word-reads.Asked, lower-word-reads.Learnt, lesser-of-reads.Asked, lesser-of-reads.Learnt) (best-in-word-at t) best-in-word.Post
   best-in-word-requires-2 c κs =
-      let s = c .before .before .before .before in
-      (omega arith, (omega arith, half-fits (s .args .k) (omega arith) (c .before .before .before .if1 .left) (s .args .p) (s .pre .1 .1)))
+      let s = c .before .before .before in
+      (omega arith, (omega arith, omega arith, half-fits (s .args .k) (omega arith) (λ e. omega arith) (s .args .p) (s .pre .1 .2)))
 
-  lesser-of-requires : lts.Need-lesser-of-requires (best-of-one-reads.Asked, best-of-one-reads.Learnt, best-of-two-reads.Asked, best-of-two-reads.Learnt, best-in-word-below t, best-in-word.Post, lower-word-reads.Asked, lower-word-reads.Learnt, lesser-of-reads.Asked, lesser-of-reads.Learnt) (best-in-word-at t) best-in-word.Post
+  lesser-of-requires : lts.Need-lesser-of-requires (alone-reads.Asked, alone-reads.Learnt, best-of-two-reads.Asked, best-of-two-reads.Learnt, best-in-word-below t, best-in-word.Post, lower-word-reads.Asked, lower-word-reads.Learnt, lesser-of-reads.Asked, lesser-of-reads.Learnt) (best-in-word-at t) best-in-word.Post
   lesser-of-requires c κs = search needs
 
-  returns-3 : lts.Need-returns-3 (best-of-one-reads.Asked, best-of-one-reads.Learnt, best-of-two-reads.Asked, best-of-two-reads.Learnt, best-in-word-below t, best-in-word.Post, lower-word-reads.Asked, lower-word-reads.Learnt, lesser-of-reads.Asked, lesser-of-reads.Learnt) (best-in-word-at t) best-in-word.Post
-  returns-3 c =
-      let c₅ = c .before .before .before .before .before in
-      let s = c₅ .before in
-      best-at _ (s .args .k) _ (half-next (s .args .k) (omega arith) (c₅ .if1 .left)) _ _
-      (halves-are _ _ _ (half-is (s .args .k) (omega arith) (c₅ .if1 .left)) _ _ (ap alone (c .before .before .lower-word .ensures) ∙ sym (lowered-alone _ _ (omega arith))) _ _ _
+  returns-2 : lts.Need-returns-2 (alone-reads.Asked, alone-reads.Learnt, best-of-two-reads.Asked, best-of-two-reads.Learnt, best-in-word-below t, best-in-word.Post, lower-word-reads.Asked, lower-word-reads.Learnt, lesser-of-reads.Asked, lesser-of-reads.Learnt) (best-in-word-at t) best-in-word.Post
+  returns-2 c =
+      let s = c .before .before .before .before .before in
+      best-at _ (s .args .k) _ (half-next (s .args .k) (omega arith) (λ e. omega arith)) _ _
+      (halves-are _ _ _ (half-is (s .args .k) (omega arith) (λ e. omega arith)) _ _ (ap alone (c .before .before .lower-word .ensures) ∙ sym (lowered-alone _ _ (omega arith))) _ _ _
       (c .before .before .before .best-in-word .ensures) (c .before .best-in-word2 .ensures) (c .lesser-of .ensures))
 
 pub +best-in-word-spec : {M : Type 1} → statement M
@@ -81,13 +77,12 @@ pub +best-in-word-spec : {M : Type 1} → statement M
     close
     μ-best-in-word
     λ t. lts.spec
-    (best-of-one-reads.Asked, best-of-one-reads.Learnt, best-of-two-reads.Asked, best-of-two-reads.Learnt, best-in-word-below t, best-in-word.Post, lower-word-reads.Asked, lower-word-reads.Learnt, lesser-of-reads.Asked, lesser-of-reads.Learnt)
+    (alone-reads.Asked, alone-reads.Learnt, best-of-two-reads.Asked, best-of-two-reads.Learnt, best-in-word-below t, best-in-word.Post, lower-word-reads.Asked, lower-word-reads.Learnt, lesser-of-reads.Asked, lesser-of-reads.Learnt)
     (best-in-word-at t)
     best-in-word.Post
-    (best-of-one-requires t)
-    (returns t)
+    (alone-requires t)
     (best-of-two-requires t)
-    (returns-2 t)
+    (returns t)
     (sub-j t)
     (shl-h t)
     (best-in-word-requires t)
@@ -95,4 +90,4 @@ pub +best-in-word-spec : {M : Type 1} → statement M
     (add-best-in-word t)
     (best-in-word-requires-2 t)
     (lesser-of-requires t)
-    (returns-3 t)
+    (returns-2 t)

@@ -14,14 +14,14 @@ pack-word-requires c κs = search needs
 raised-below-requires : tie.Need-raised-below-requires
 raised-below-requires c κs = search needs
 
-best-in-word-requires : tie.Need-best-in-word-requires
-best-in-word-requires c κs = let s = c .before .before .before .before in (search needs, omega (arith, vector-most _ _ (s .pre)))
+best-of-word-requires : tie.Need-best-of-word-requires
+best-of-word-requires c κs = search needs
 
 returns : tie.Need-returns
 returns c =
     let s = c .before .before .before .before .before in
     best-all _ _ (s .pre) _ _ _ (alone-packed _ _ (s .pre) (c .before .before .before .if1 .taken) _ (c .before .before .pack-word .ensures))
-    (c .before .raised-below .ensures) (c .best-in-word .ensures)
+    (c .before .raised-below .ensures) (c .best-of-word .ensures)
 
 of-requires : tie.Need-of-requires
 of-requires c κs = search needs
@@ -43,7 +43,7 @@ find-best-spec =
     (tie.spec
     pack-word-requires
     raised-below-requires
-    best-in-word-requires
+    best-of-word-requires
     returns
     of-requires
     raised-below-requires-2
