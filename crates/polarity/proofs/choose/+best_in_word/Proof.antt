@@ -60,7 +60,7 @@ module _ (t : ℕ) where
   best-in-word-requires-2 : lts.Need-best-in-word-requires-2 (alone-reads.Asked, alone-reads.Learnt, best-of-two-reads.Asked, best-of-two-reads.Learnt, best-in-word-below t, best-in-word.Post, lower-word-reads.Asked, lower-word-reads.Learnt, lesser-of-reads.Asked, lesser-of-reads.Learnt) (best-in-word-at t) best-in-word.Post
   best-in-word-requires-2 c κs =
       let s = c .before .before .before in
-      (omega arith, (omega arith, omega arith, half-fits (s .args .k) (omega arith) (λ e. omega arith) (s .args .p) (s .pre .1 .2)))
+      (omega arith, (omega arith, omega arith, omega (arith, half-fits (s .args .k) (omega arith) (λ e. omega arith) (s .args .p) (s .pre .1 .2))))
 
   lesser-of-requires : lts.Need-lesser-of-requires (alone-reads.Asked, alone-reads.Learnt, best-of-two-reads.Asked, best-of-two-reads.Learnt, best-in-word-below t, best-in-word.Post, lower-word-reads.Asked, lower-word-reads.Learnt, lesser-of-reads.Asked, lesser-of-reads.Learnt) (best-in-word-at t) best-in-word.Post
   lesser-of-requires c κs = search needs
