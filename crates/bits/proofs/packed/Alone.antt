@@ -1,6 +1,6 @@
 -- Up to six variables: every bit stands in the first word, and what is done to four words is done to that one.
 -- Assumes nothing.
-use mathlib.Core.Path.{_≡_, refl, sym, ap, ap₂, _∙_}
+use mathlib.Core.Path.{_≡_, refl, sym, ap, _∙_}
 use mathlib.Core.List.{List}
 use Prim.Native.Nat.{ℕ, _+_, _*_, _%_, _^_, _≤_, _<_}
 use native.Mathlib.Nat.{zero-add, zero-mul}
@@ -9,7 +9,7 @@ use borrow.Author.Tests.{eqb-true}
 use lib.Dec.{eqb}
 use lib.ListN.{length, getD, List·getD-eq-default}
 use Rattle.bits.specs.Bits.{bit}
-use Rattle.bits.specs.Packed.{alone, bitAt, wordFrom, packed, maskOf, loweredWord, raisedWord, eachWord, lowered, raised}
+use Rattle.bits.specs.Packed.{alone, bitAt, wordFrom, packed, maskOf, loweredWord, raisedWord, lowered, raised}
 use Rattle.bits.proofs.Bools.{all-at}
 use Rattle.bits.proofs.Below.{sum-none}
 use Rattle.bits.proofs.packed.Words.{word-bit}

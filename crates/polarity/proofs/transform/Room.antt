@@ -1,24 +1,17 @@
 -- The checks of a vector, a polarity and a buffer's room, by the first test that fails; what an accepted call has, and what it writes.
 -- Assumes nothing.
 use mathlib.Core.Path.{_≡_, sym, ap, ap₂, _∙_, subst}
-use mathlib.Core.Bool.{Bool}
 use mathlib.Core.List.{List, [], _∷_, _++_}
 use Prim.Native.Nat.{ℕ, _^_, _<_, _≤_}
 use lib.Dec.{leb, ltb}
-use lib.ListN.{length, getD, take, drop}
-use lib.Seq.{length-take-le}
+use lib.ListN.{length, getD, drop}
 use borrow.Author.Tests.{le-leb, lt-leb, lt-ltb, le-ltb, leb-true, ltb-true}
-use Rattle.bits.specs.Below.{listBelow}
-use Rattle.bits.specs.Packed.{putBits}
-use Rattle.bits.specs.declared.packed.Packed.{Packed}
 use Rattle.records.specs.declared.Refusal.{Refusal}
 use Rattle.records.specs.Answers.{accepted, refused, refusal}
 use Rattle.records.proofs.Answering.{unless-accepted, both-accepted, accepted-values, and-then, and-not}
-use Rattle.polarity.specs.Vectors.{byteAt, Vector, checkVector}
+use Rattle.polarity.specs.Vectors.{Vector, checkVector}
 use Rattle.polarity.specs.Calls.{coefficientsOutcome}
-use Rattle.polarity.specs.Words.{Shows, transformed}
 use Rattle.polarity.proofs.Checks.{check-accepts, check-long}
-use Rattle.polarity.proofs.transform.Turning.{shows-put}
 
 -- ---- 15 and 5, after the check of the vector
 
