@@ -1,21 +1,30 @@
 -- Inside: what the functions of this crate do with the bits of a vector in four words. No call of document 01 needs it to be read.
 -- Assumes nothing.
 use mathlib.Core.Path.{_≡_}
-use mathlib.Core.Bool.{Bool, true, false, not, cond}
-use Prim.Native.Nat.{ℕ, zero, suc, _+_, _%_, _^_, _≤_, _<_}
-use lib.Dec.{eqb, ltb}
+use mathlib.Core.Bool.{Bool, true, false, not, cond, _&&_}
+use mathlib.Core.List.{List}
+use Prim.Native.Nat.{ℕ, zero, suc, _+_, _-_, _%_, _^_, _≤_, _<_}
+use lib.Dec.{eqb, leb, ltb}
+use lib.ListN.{length}
 use Rattle.bits.specs.Bits.{bit}
-use Rattle.bits.specs.Below.{sumBelow}
+use Rattle.bits.specs.Below.{allBelow, sumBelow}
 use Rattle.bits.specs.Packed.{bitAt, lowered}
 use Rattle.bits.specs.declared.packed.Packed.{Packed}
 use Rattle.polarity.specs.declared.Counts.{Counts}
 use Rattle.polarity.specs.declared.choose.Chosen.{Chosen}
 use Rattle.polarity.specs.Forms.{coefficient, valueBack, rankOf}
+use Rattle.polarity.specs.Vectors.{byteAt, isBit}
 
 -- bit t is f at t, for each t of n variables, and every other bit is 0
 pub record Shows (n : ℕ) (f : ℕ → ℕ) (w : Packed) : Type 0 where
   pub low : (t : ℕ) → t < 2 ^ n → bitAt w t ≡ f t
   pub high : (t : ℕ) → 2 ^ n ≤ t → t < 256 → bitAt w t ≡ 0
+
+-- ---- the check of a vector's bytes
+
+-- there are eight bytes from i on, each 0 or 1
+unfoldable pub eightBits : List ℕ → ℕ → Bool
+eightBits l i = leb 8 (length l - i) && allBelow 8 (λ j. isBit (byteAt l (i + j)))
 
 -- ---- coefficients and back
 

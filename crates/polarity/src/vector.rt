@@ -2,20 +2,18 @@
 use bits::packing;
 use records::Counted;
 use records::Refusal;
-ghost use mathlib.Core.Bool.{_&&_};
 ghost use mathlib.Core.Path.{_≡_};
-ghost use Prim.Native.Nat.{_+_, _-_, _≤_};
-ghost use lib.Dec.{leb};
+ghost use Prim.Native.Nat.{_≤_};
 ghost use lib.ListN.{length};
-ghost use Rattle.bits.specs.Below.{allBelow};
 ghost use Rattle.bits.specs.Sums.{firstBad};
 ghost use Rattle.records.specs.Answers.{counted};
-ghost use Rattle.polarity.specs.Vectors.{byteAt, isBit, checkVector};
+ghost use Rattle.polarity.specs.Vectors.{isBit, checkVector};
+ghost use Rattle.polarity.specs.Words.{eightBits};
 
 // Whether there are eight bytes from i on, each 0 or 1.
 fn eight_at(bytes: &[u8], i: usize) -> bool
     requires { ⌜ i ≤ length (now bytes) ⌝ }
-    ensures { λ r. ⌜ r ≡ (leb 8 (length (now (bytes .entry)) - i) && allBelow 8 (λ j. isBit (byteAt (now (bytes .entry)) (i + j)))) ⌝ }
+    ensures { λ r. ⌜ r ≡ eightBits (now (bytes .entry)) i ⌝ }
 {
     if bytes.len() - i < 8 {
         return false;

@@ -21,6 +21,7 @@ use Rattle.records.proofs.Holding.{bytes, list-bytes}
 use Rattle.records.proofs.Looking.{Looking, found-none, found-bad, looking-next}
 use Rattle.cube.specs.Lists.{vectorVariables}
 use Rattle.polarity.specs.Vectors.{byteAt, isBit, checkVector}
+use Rattle.polarity.specs.Words.{eightBits}
 
 -- ---- the lowest byte above 1: `Looking` over the bytes
 
@@ -52,18 +53,20 @@ before-more (suc m) l i r h all =
 
 -- what eight bytes looked at together say
 module _ (l : List ℕ) (i : ℕ) where
-  pub eight-none : length l - i < 8 → false ≡ (leb 8 (length l - i) && allBelow 8 (λ j. isBit (byteAt l (i + j))))
+  pub eight-none : length l - i < 8 → false ≡ eightBits l i
+  unfolding eightBits
   eight-none h = sym (ap (λ (t : Bool). t && allBelow 8 (λ j. isBit (byteAt l (i + j)))) (lt-leb 8 (length l - i) h))
 
-  pub eight-some : 8 ≤ length l - i → (end : ℕ) → end ≡ i + 8 → (t : Bool) → t ≡ allBelow 8 (λ j. isBit (getD (take (end - i) (drop i l)) j 0))
-      → t ≡ (leb 8 (length l - i) && allBelow 8 (λ j. isBit (byteAt l (i + j))))
+  pub eight-some : 8 ≤ length l - i → (end : ℕ) → end ≡ i + 8 → (t : Bool) → t ≡ allBelow 8 (λ j. isBit (getD (take (end - i) (drop i l)) j 0)) → t ≡ eightBits l i
+  unfolding eightBits
   eight-some h end e t et =
       et ∙ all-ext 8 (λ j. isBit (getD (take (end - i) (drop i l)) j 0)) (λ j. isBit (byteAt l (i + j)))
       (λ j b. ap isBit (getD-take (end - i) (drop i l) j 0 (omega arith) ∙ getD-drop i l j 0))
       ∙ sym (ap (λ (t : Bool). t && allBelow 8 (λ j. isBit (byteAt l (i + j)))) (le-leb 8 (length l - i) h))
 
-  module _ (t : Bool) (et : t ≡ (leb 8 (length l - i) && allBelow 8 (λ j. isBit (byteAt l (i + j))))) (e : t ≡ true) where
+  module _ (t : Bool) (et : t ≡ eightBits l i) (e : t ≡ true) where
     passing : (leb 8 (length l - i) ≡ true) × (allBelow 8 (λ j. isBit (byteAt l (i + j))) ≡ true)
+    unfolding eightBits
     passing = both-true (leb 8 (length l - i)) _ (sym et ∙ e)
 
     pub eight-fit : 8 ≤ length l - i
