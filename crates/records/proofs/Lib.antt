@@ -4,6 +4,7 @@ pub mod Images
 pub mod Holding
 pub mod FieldLaws
 pub mod Looking
+pub mod Striding
 pub mod Counting
 pub mod Answering
 pub mod Determined
