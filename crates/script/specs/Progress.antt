@@ -14,8 +14,9 @@ use Rattle.steps.specs.Steps.{Step, step}
 use Rattle.steps.specs.Calls.{Ready}
 use Rattle.script.specs.declared.Finished.{Finished}
 use Rattle.script.specs.declared.Progress.{Progress}
+use Rattle.script.specs.declared.Standing.{Standing}
 use Rattle.script.specs.Run.{Ran, stopped, ended, stepsFrom}
-use Rattle.script.specs.Pending.{nonePending, pendStep, pend}
+use Rattle.script.specs.Pending.{nonePending, pend}
 use Rattle.script.specs.Calls.{ranWork, ranOutcome, runOf, finished}
 
 -- so many records, the greatest count met so far, and what is pending
@@ -26,10 +27,14 @@ standing count peak pending = record { done = true; number = 0; place = 0; count
 abbrev pub halted : ℕ → ℕ → Progress
 halted number step = record { done = false; number = number; place = step; count = 0; peak = 0; pending = nonePending }
 
--- one step more, x, of number k
-abbrev pub advanced : ℕ → Step → Progress → After Cube → Progress
-advanced k x p (stop number) = halted number k
-advanced k x p (next l) = standing (length l) (max (p .peak) (length l)) (pendStep (p .pending) x)
+-- where a run stands with so many records and the greatest count met so far
+abbrev pub at : ℕ → ℕ → Standing
+at count peak = record { done = true; number = 0; count = count; peak = peak }
+
+-- one step more
+abbrev pub advanced : Standing → After Cube → Standing
+advanced p (stop number) = record { done = false; number = number; count = 0; peak = 0 }
+advanced p (next l) = at (length l) (max (p .peak) (length l))
 
 -- and the work buffer after it
 abbrev pub workAdvanced : List ℕ → After Cube → List ℕ

@@ -1,6 +1,7 @@
 // Running a script: the steps in turn, and then the undoing of what is pending.
 use crate::Finished;
 use crate::Progress;
+use crate::Standing;
 use crate::check;
 use cube::list::MOST_VARIABLES;
 use records::Counted;
@@ -30,60 +31,54 @@ ghost use Rattle.script.specs.Calls.{checkRun, runOutcome, runAfter, fin
 pub const NONE_PENDING: [u8; MOST_VARIABLES] = [0; MOST_VARIABLES];
 
 // What is pending after one more step: the order of an L step follows that of its variable.
-pub fn pended(pending: [u8; MOST_VARIABLES], x: StepRecord) -> [u8; MOST_VARIABLES]
-    ensures { λ r. ⌜ r ≡ pendStep pending (meaning x) ⌝ }
+pub fn pend_step(pending: &mut [u8], x: StepRecord)
+    ensures { λ _. ⌜ now (pending .exit) ≡ pendStep (now (pending .entry)) (meaning x) ⌝ }
 {
     let op = x.op;
     let v = x.v as usize;
     if op < 5 {
-        return pending;
+        return;
     }
-    if MOST_VARIABLES <= v {
-        return pending;
+    if pending.len() <= v {
+        return;
     }
-    let mut next = pending;
-    let before = next[v];
-    next[v] = orders::follow(before, orders::letter_order(x.literal));
-    next
+    let before = pending[v];
+    pending[v] = orders::follow(before, orders::letter_order(x.literal));
 }
 
-// The step x, of number k, done from where the run stands; a refusal clears the work buffer.
+// The step x done from where the run stands; a refusal clears the work buffer.
 pub fn advance(
     work: &mut [u8],
+    pending: &mut [u8],
     n: usize,
     cap: usize,
-    k: usize,
     x: StepRecord,
-    at: Progress,
-) -> Progress
+    at: Standing,
+) -> Standing
     requires { ⌜ Ready n (at .count) cap (now work) ⌝ }
     requires { ⌜ Known n x ⌝ }
-    ensures { λ r. ⌜ r ≡ advanced k (meaning x) at (step n cap (meaning x) (records cubes (at .count) (now (work .entry)))) ⌝ }
+    ensures { λ r. ⌜ r ≡ advanced at (step n cap (meaning x) (records cubes (at .count) (now (work .entry)))) ⌝ }
     ensures { λ _. ⌜ now (work .exit) ≡ workAdvanced (now (work .entry)) (step n cap (meaning x) (records cubes (at .count) (now (work .entry)))) ⌝ }
+    ensures { λ _. ⌜ now (pending .exit) ≡ pendStep (now (pending .entry)) (meaning x) ⌝ }
 {
+    pend_step(pending, x);
     match steps::step::do_step(work, n, at.count, cap, x) {
         Stepped::Refused(number) => {
             records::clear(work);
-            Progress {
+            Standing {
                 done: false,
                 number,
-                place: k,
                 count: 0,
                 peak: 0,
-                pending: NONE_PENDING,
             }
         }
         Stepped::Count(count) => {
             let peak = larger(at.peak, count);
-            let before = at.pending;
-            let pending = pended(before, x);
-            Progress {
+            Standing {
                 done: true,
                 number: 0,
-                place: 0,
                 count,
                 peak,
-                pending,
             }
         }
     }
@@ -96,26 +91,39 @@ fn run_steps(work: &mut [u8], n: usize, first: usize, cap: usize, script: &[u8])
     ensures { λ r. ⌜ Stepping n cap first (stepsOf (now (script .entry))) (now (work .entry)) (now (work .exit)) r ⌝ }
 {
     let steps = script.len() / check::STEP_WIDTH;
-    let mut at = Progress {
+    let mut pending = NONE_PENDING;
+    let mut at = Standing {
         done: true,
         number: 0,
-        place: 0,
         count: first,
         peak: first,
-        pending: NONE_PENDING,
     };
     let mut k = 0;
     while k < steps {
         let x = check::step_at(script, k);
-        let next = advance(work, n, cap, k, x, at);
+        let next = advance(work, &mut pending, n, cap, x, at);
         let done = next.done;
         if !done {
-            return next;
+            return Progress {
+                done: false,
+                number: next.number,
+                place: k,
+                count: 0,
+                peak: 0,
+                pending: NONE_PENDING,
+            };
         }
         at = next;
         k += 1;
     }
-    at
+    Progress {
+        done: true,
+        number: 0,
+        place: 0,
+        count: at.count,
+        peak: at.peak,
+        pending,
+    }
 }
 
 // The order o, pending at the variable v, taken back in every record; nothing to do where it is no order.
