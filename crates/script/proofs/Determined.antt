@@ -23,6 +23,8 @@ use Rattle.script.proofs.run.advance.Kinds as advance-kinds
 use Rattle.script.proofs.run.advance.Reads as advance-reads
 use Rattle.script.proofs.run.undo.Kinds as undo-kinds
 use Rattle.script.proofs.run.undo.Reads as undo-reads
+use Rattle.script.proofs.run.run_checked.Kinds as run-checked-kinds
+use Rattle.script.proofs.run.run_checked.Reads as run-checked-reads
 use Rattle.script.proofs.run.run.Kinds as run-kinds
 use Rattle.script.proofs.run.run.Reads as run-reads
 
@@ -54,6 +56,10 @@ advance-determined κs a z z′ ws ws′ p q =
 
 pub undo-determined : Determined 1 undo-kinds.ps undo-kinds.r undo-reads.Learnt
 undo-determined κs a z z′ ws ws′ p q = (refl, ap (λ (b : List ℕ). (b, (tt, (tt, (tt, tt))))) (same p q))
+
+pub run-checked-determined : Determined 3 run-checked-kinds.ps run-checked-kinds.r run-checked-reads.Learnt
+run-checked-determined κs a z z′ ws ws′ p q =
+    (same-told finished finished-back finished-known (p .0) (q .0), ap (λ (b : List ℕ). (tt, (tt, (tt, (b, tt))))) (same (p .1) (q .1)))
 
 pub run-determined : Determined 3 run-kinds.ps run-kinds.r run-reads.Learnt
 run-determined κs a z z′ ws ws′ p q =

@@ -16,9 +16,9 @@ ghost use Prim.Native.Nat.{_≤_, _<_};
 ghost use lib.ListN.{length};
 ghost use Rattle.bits.specs.Sums.{All};
 ghost use Rattle.records.specs.Records.{Held, records, listOf, image};
-ghost use Rattle.records.specs.Answers.{counted};
 ghost use Rattle.cube.specs.Cubes.{Good};
-ghost use Rattle.cube.specs.Lists.{cubes, mostVariables};
+ghost use Rattle.cube.specs.Lists.{cubes, cubesOf, cubeCapacity, mostVariables};
+ghost use Rattle.cube.specs.Calls.{checkList};
 ghost use Rattle.orders.specs.Orders.{orderCount, inverse};
 ghost use Rattle.steps.specs.Steps.{meaning, reordered, step};
 ghost use Rattle.steps.specs.Calls.{Ready, Known};
@@ -155,21 +155,6 @@ pub fn undo(work: &mut [u8], n: usize, count: usize, pending: [u8; MOST_VARIABLE
     }
 }
 
-// Refusals 1 to 5, 7, 8 and 9, or the number of the script's steps.
-fn check_run(n: usize, list: &[u8], script: &[u8], size: usize) -> Counted
-    ensures { λ r. ⌜ counted r ≡ checkRun n (now (list .entry)) (now (script .entry)) size ⌝ }
-{
-    match cube::list::check(n, list) {
-        Counted::Refused(r) => Counted::Refused(r),
-        Counted::Count(_) => {
-            if cube::list::capacity(size) < list.len() / cube::list::RECORD_WIDTH {
-                return Counted::Refused(Refusal::new(5, 0));
-            }
-            check::check_script(n, script)
-        }
-    }
-}
-
 // The run of an accepted list and script.
 fn run_accepted(n: usize, list: &[u8], script: &[u8], work: &mut [u8]) -> Finished
     requires { ⌜ Passed (checkRun n (now list) (now script) (length (now work))) ⌝ }
@@ -188,13 +173,31 @@ fn run_accepted(n: usize, list: &[u8], script: &[u8], work: &mut [u8]) -> Finish
     Finished::Refused(Refusal::new(p.number, p.place))
 }
 
+// The run of a checked list that the work buffer has room for: refusals 7, 8 and 9, then 10 to 13 at a step; or the count and the peak.
+pub fn run_checked(n: usize, list: &[u8], script: &[u8], work: &mut [u8]) -> Finished
+    requires { ⌜ Passed (checkList mostVariables n (now list)) ⌝ }
+    requires { ⌜ length (cubesOf (now list)) ≤ cubeCapacity (length (now work)) ⌝ }
+    ensures { λ r. ⌜ finished r ≡ runOutcome n (now (list .entry)) (now (script .entry)) (length (now (work .entry))) ⌝ }
+    ensures { λ _. ⌜ now (work .exit) ≡ runAfter n (now (list .entry)) (now (script .entry)) (now (work .entry)) ⌝ }
+{
+    match check::check_script(n, script) {
+        Counted::Refused(r) => Finished::Refused(r),
+        Counted::Count(_) => run_accepted(n, list, script, work),
+    }
+}
+
 // Runs a script on a list: refusals 1 to 5, 7, 8, 9 before anything is written, then 10 to 13 at a step; or the count and the peak.
 pub fn run(n: usize, list: &[u8], script: &[u8], work: &mut [u8]) -> Finished
     ensures { λ r. ⌜ finished r ≡ runOutcome n (now (list .entry)) (now (script .entry)) (length (now (work .entry))) ⌝ }
     ensures { λ _. ⌜ now (work .exit) ≡ runAfter n (now (list .entry)) (now (script .entry)) (now (work .entry)) ⌝ }
 {
-    match check_run(n, list, script, work.len()) {
+    match cube::list::check(n, list) {
         Counted::Refused(r) => Finished::Refused(r),
-        Counted::Count(_) => run_accepted(n, list, script, work),
+        Counted::Count(_) => {
+            if cube::list::capacity(work.len()) < list.len() / cube::list::RECORD_WIDTH {
+                return Finished::Refused(Refusal::new(5, 0));
+            }
+            run_checked(n, list, script, work)
+        }
     }
 }
