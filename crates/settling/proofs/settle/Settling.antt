@@ -91,7 +91,7 @@ module _ (n : ℕ) (list script work out : List ℕ) where
         ∙ sym (ap refused e))
 
     module _ (room : ℕ) (er : room ≡ cubeCapacity (length work)) (h : given ≤ room) where
-      room-work : length (cubesOf list) ≤ cubeCapacity (length work)
+      pub room-work : length (cubesOf list) ≤ cubeCapacity (length work)
       room-work = omega (arith, er, given-is, h)
 
       pub out-short : (place : ℕ) → place ≡ cubeCapacity (length out) → place < given → (r : Refusal) → r ≡ refusal 5 0 → Called n list script work out (refused r) work out
