@@ -4,4 +4,4 @@ use Prim.Native.Nat.{ℕ}
 
 -- how many records are looked at together
 abbrev pub stride : ℕ
-stride = 16
+stride = 32

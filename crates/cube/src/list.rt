@@ -34,8 +34,9 @@ pub fn capacity(size: usize) -> usize
     MOST_RECORDS
 }
 
-// Records that are looked at together, with no branch between them.
-const STRIDE: usize = 16;
+// Records that are looked at together, with no branch between them. Of half as many the compiler writes each out, and the check becomes too
+// long to be taken into its callers.
+const STRIDE: usize = 32;
 
 // Whether a stride is left from place i on, and every record of it is good.
 fn stride_good(n: usize, list: &[u8], i: usize) -> bool
