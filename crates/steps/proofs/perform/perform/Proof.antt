@@ -9,8 +9,8 @@ use Rattle.records.proofs.Holding.{held-place}
 use Rattle.cube.specs.Lists.{cubes, narrow, recordWidth}
 use Rattle.cube.proofs.ListLaws.{lawful}
 use Rattle.steps.specs.Changes.{Narrow}
-use Rattle.steps.proofs.Performing.{removed-held, drop-in, join-in, split-in, turn-in, made-refuse, made-drop, made-split, made-turn, narrow-fits, refuse-move, drop-move, join-move, split-move, turn-move, join-below, join-one, join-held, perform-join}
-use Rattle.steps.proofs.perform.Placing.{still-place}
+use Rattle.steps.proofs.Performing.{removed-held, drop-in, split-in, turn-in, made-refuse, made-drop, made-split, made-turn, narrow-fits, refuse-move, drop-move, split-move, turn-move, join-below, join-one, join-held, perform-join}
+use Rattle.steps.proofs.perform.Placing.{still-place, join-place}
 use Rattle.steps.proofs.perform.perform.Statement.{statement}
 use Rattle.steps.proofs.perform.perform.Tie as tie
 
@@ -59,10 +59,7 @@ enum-known-change-2 : tie.Need-enum-known-change-2
 enum-known-change-2 c = search needs
 
 put-record-requires : tie.Need-put-record-requires
-put-record-requires c κs =
-    let told = c .before .before in
-    let pre = told .before .before .before .pre in
-    held-place cubes lawful _ _ (pre .0) _ (join-in _ _ _ _ _ (pre .1 .0) _ (join-move _ _ (told .change2 .given .1)) .first)
+put-record-requires c κs = search join-place
 
 remove-requires-3 : tie.Need-remove-requires-3
 remove-requires-3 c κs = (search join-held, search join-below)
