@@ -102,8 +102,7 @@ fn run_steps(work: &mut [u8], n: usize, first: usize, cap: usize, script: &[u8])
     while k < steps {
         let x = check::step_at(script, k);
         let next = advance(work, &mut pending, n, cap, x, at);
-        let done = next.done;
-        if !done {
+        if !next.done {
             return Progress {
                 done: false,
                 number: next.number,

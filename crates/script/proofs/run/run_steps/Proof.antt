@@ -32,11 +32,11 @@ same-length c = search needs
 
 returns : tie.Need-returns Inv-loop μ-loop
 returns c =
-    let c₄ = c .before .before .before .before in
-    let c₇ = c₄ .before .before .before in
-    let l = c₇ .before .before in
-    running-stop _ _ _ _ _ _ _ _ _ (l .loop .inv) (c₇ .before .loop-test .taken) (l .before .before .before .pre .1) _ (c₇ .step-at .ensures) _ _
-    (c₄ .advance .ensures .0) (c₄ .advance .ensures .1 .0) (not-true _ (c .if1 .taken))
+    let c₅ = c .before .before .before .before .before in
+    let c₈ = c₅ .before .before .before in
+    let l = c₈ .before .before in
+    running-stop _ _ _ _ _ _ _ _ _ (l .loop .inv) (c₈ .before .loop-test .taken) (l .before .before .before .pre .1) _ (c₈ .step-at .ensures) _ _
+    (c₅ .advance .ensures .0) (c₅ .advance .ensures .1 .0) (not-true _ (c .if1 .taken))
 
 add-k : tie.Need-add-k Inv-loop μ-loop
 add-k c = search needs
@@ -46,11 +46,11 @@ loop-less c = search needs
 
 loop-again : tie.Need-loop-again Inv-loop μ-loop
 loop-again c =
-    let c₄ = c .before .before .before .before in
-    let c₇ = c₄ .before .before .before in
-    let l = c₇ .before .before in
-    running-more _ _ _ _ _ _ _ _ _ (l .loop .inv) (c₇ .before .loop-test .taken) (l .before .before .before .pre .1) _ (c₇ .step-at .ensures) _ _
-    (c₄ .advance .ensures .0) (c₄ .advance .ensures .1 .0) (not-false _ (c .if1 .left)) _ (c₄ .advance .ensures .1 .1)
+    let c₅ = c .before .before .before .before .before in
+    let c₈ = c₅ .before .before .before in
+    let l = c₈ .before .before in
+    running-more _ _ _ _ _ _ _ _ _ (l .loop .inv) (c₈ .before .loop-test .taken) (l .before .before .before .pre .1) _ (c₈ .step-at .ensures) _ _
+    (c₅ .advance .ensures .0) (c₅ .advance .ensures .1 .0) (not-false _ (c .if1 .left)) _ (c₅ .advance .ensures .1 .1)
 
 same-length-2 : tie.Need-same-length-2 Inv-loop μ-loop
 same-length-2 c = search needs
