@@ -1,26 +1,26 @@
--- `script_vectors::limits::alternate` is safe and ends: the measure is what is left of the script.
+-- `data::put` is safe and ends: the measure is how many bytes are left.
 -- Assumes nothing.
 use mathlib.Core.Path.{_≡_}
-use Prim.Native.Nat.{_-_, _≤_}
+use Prim.Native.Nat.{_-_}
 use lib.ListN.{length}
 use borrow.Author.Needs.{needs}
-use Rattle.script_vectors.proofs.limits.alternate.Statement.{statement}
-use Rattle.script_vectors.proofs.limits.alternate.Tie as tie
+use Rattle.vectors.proofs.data.put.Statement.{statement}
+use Rattle.vectors.proofs.data.put.Tie as tie
 
 abbrev Inv-loop : tie.InvT-loop
-Inv-loop script₀ k₀ script k = (length script ≡ length script₀) × (k ≤ length script₀)
+Inv-loop out₀ at number width p₀ x₀ k₀ out p x k = length out₀ ≡ length out
 
 abbrev μ-loop : tie.MeasureT-loop
-μ-loop script₀ k₀ script k = length script₀ - k
+μ-loop out₀ at number width p₀ x₀ k₀ out p x k = width - k
 
 loop-holds : tie.Need-loop-holds Inv-loop μ-loop
 loop-holds c = search needs
 
-letter-requires : tie.Need-letter-requires Inv-loop μ-loop
-letter-requires c κs = search needs
+cast-put-byte : tie.Need-cast-put-byte Inv-loop μ-loop
+cast-put-byte c = search needs
 
-slice-write-script : tie.Need-slice-write-script Inv-loop μ-loop
-slice-write-script c = search needs
+put-byte-requires : tie.Need-put-byte-requires Inv-loop μ-loop
+put-byte-requires c κs = search needs
 
 add-k : tie.Need-add-k Inv-loop μ-loop
 add-k c = search needs
@@ -37,15 +37,15 @@ same-length c = search needs
 returns : tie.Need-returns Inv-loop μ-loop
 returns c = search needs
 
-pub alternate-spec : {M : Type 1} → statement M
-alternate-spec =
+pub put-spec : {M : Type 1} → statement M
+put-spec =
     tie.close
     (tie.spec
     Inv-loop
     μ-loop
     loop-holds
-    letter-requires
-    slice-write-script
+    cast-put-byte
+    put-byte-requires
     add-k
     loop-less
     loop-again

@@ -1,19 +1,16 @@
--- `show::buffer` is safe and ends: the measure is what is left of the buffer.
+-- `print::all_bytes` is safe and ends: the measure is how many bytes are left.
 -- Assumes nothing.
 use Prim.Native.Nat.{_-_, _≤_}
 use lib.ListN.{length}
 use borrow.Author.Needs.{needs}
-use Rattle.show.proofs.buffer.Statement.{statement}
-use Rattle.show.proofs.buffer.Tie as tie
+use Rattle.vectors.proofs.print.all_bytes.Statement.{statement}
+use Rattle.vectors.proofs.print.all_bytes.Tie as tie
 
 abbrev Inv-loop : tie.InvT-loop
-Inv-loop label bytes k₀ k = k ≤ length bytes
+Inv-loop b k₀ k = k ≤ length b
 
 abbrev μ-loop : tie.MeasureT-loop
-μ-loop label bytes k₀ k = length bytes - k
-
-text-requires : tie.Need-text-requires Inv-loop μ-loop
-text-requires c κs = search needs
+μ-loop b k₀ k = length b - k
 
 loop-holds : tie.Need-loop-holds Inv-loop μ-loop
 loop-holds c = search needs
@@ -33,24 +30,19 @@ loop-less c = search needs
 loop-again : tie.Need-loop-again Inv-loop μ-loop
 loop-again c = search needs
 
-end-requires : tie.Need-end-requires Inv-loop μ-loop
-end-requires c κs = search needs
-
 returns : tie.Need-returns Inv-loop μ-loop
 returns c = search needs
 
-pub buffer-spec : {M : Type 1} → statement M
-buffer-spec =
+pub all-bytes-spec : {M : Type 1} → statement M
+all-bytes-spec =
     tie.close
     (tie.spec
     Inv-loop
     μ-loop
-    text-requires
     loop-holds
     shared-slice-read-byte
     byte-requires
     add-k
     loop-less
     loop-again
-    end-requires
     returns)
