@@ -3,18 +3,17 @@
 use mathlib.Core.Path.{_≡_, refl, sym, ap, ap₂, _∙_, subst}
 use mathlib.Core.Logic.{inl, inr}
 use mathlib.Core.Bool.{Bool, true, false, not, cond}
-use mathlib.Core.List.{List, [], _∷_, _++_, append-assoc, map, List·Memᴰ, List·Memᴰ·head, List·Memᴰ·tail, List·Memᴰ·not-nil, List·Memᴰ·cases-cons}
-use Prim.Native.Nat.{ℕ, zero, suc, _+_, _/_, _%_, _^_, _≤_, _<_, suc-le-suc}
-use native.Mathlib.Nat.{mod-lt, zero-lt-suc, add-zero, add-suc, add-assoc, le-refl, le-of-suc-le-suc, not-suc-le-zero}
+use mathlib.Core.List.{List, [], _∷_, _++_, map, List·Memᴰ, List·Memᴰ·head, List·Memᴰ·tail, List·Memᴰ·not-nil, List·Memᴰ·cases-cons}
+use Prim.Native.Nat.{ℕ, zero, suc, _+_, _-_, _*_, _/_, _%_, _^_, _≤_, _<_, zero-le, suc-le-suc}
+use native.Mathlib.Nat.{mod-lt, zero-lt-suc, zero-add, suc-add, add-zero, add-suc, add-assoc, zero-mul, suc-mul, add-mul, le-refl, le-of-suc-le-suc, not-suc-le-zero}
 use native.Mathlib.Decide.{ℕ-discrete}
-use native.Mathlib.Numerals.{add-one}
 use native.Mathlib.Omega.{arith}
 use borrow.Author.Tests.{eqb-true, eq-eqb}
 use lib.Arith.{lt-one}
 use lib.Count.{ones, ones-step, trailingZeros, under}
 use lib.Dec.{eqb}
-use lib.ListN.{length, getD, drop, set}
-use lib.Seq.{ext-getD, drop-cons, set-at}
+use lib.ListN.{length, getD}
+use lib.Seq.{ext-getD}
 use Rattle.bits.specs.Bits.{bit}
 use Rattle.bits.specs.Below.{allBelow, those, sumBelow, listBelow}
 use Rattle.bits.proofs.Bools.{same-bool, all-at, all-true}
@@ -151,6 +150,11 @@ unfolding sumBelow
 sum-plus zero f g = refl
 sum-plus (suc m) f g = omega (arith, sum-plus m f g)
 
+pub sum-times : (m : ℕ) (f : ℕ → ℕ) (c : ℕ) → sumBelow m f * c ≡ sumBelow m (λ t. f t * c)
+unfolding sumBelow
+sum-times zero f c = zero-mul c
+sum-times (suc m) f c = add-mul (sumBelow m f) (f m) c ∙ ap (λ (x : ℕ). x + f m * c) (sum-times m f c)
+
 pub sum-parity : (m : ℕ) (f g : ℕ → ℕ) → ((t : ℕ) → f t % 2 ≡ g t % 2) → sumBelow m f % 2 ≡ sumBelow m g % 2
 unfolding sumBelow
 sum-parity zero f g h = refl
@@ -160,6 +164,23 @@ pub sum-none : (m : ℕ) (f : ℕ → ℕ) → ((t : ℕ) → t < m → f t ≡ 
 unfolding sumBelow
 sum-none zero f h = refl
 sum-none (suc m) f h = omega (arith, sum-none m f (λ t l. h t (omega arith)), h m (le-refl (suc m)))
+
+-- sums compared: term by term, over more terms, and with a bound of each term; Six, Eight and Ten wait for them
+pub sum-each : (m : ℕ) (f g : ℕ → ℕ) → ((t : ℕ) → t < m → f t ≤ g t) → sumBelow m f ≤ sumBelow m g
+unfolding sumBelow
+sum-each zero f g h = zero-le
+sum-each (suc m) f g h = omega (arith, sum-each m f g (λ t l. h t (omega arith)), h m (le-refl (suc m)))
+
+pub sum-more : (m k : ℕ) (f : ℕ → ℕ) → m ≤ k → sumBelow m f ≤ sumBelow k f
+sum-more m k f h =
+    let e : m + (k - m) ≡ k = omega arith in
+    let p : sumBelow (m + (k - m)) f ≡ sumBelow m f + sumBelow (k - m) (λ t. f (m + t)) = sum-parts m (k - m) f in
+    subst (λ (x : ℕ). sumBelow m f ≤ sumBelow x f) e (omega (arith, p))
+
+pub sum-most : (m c : ℕ) (f : ℕ → ℕ) → ((t : ℕ) → t < m → f t ≤ c) → sumBelow m f ≤ m * c
+unfolding sumBelow
+sum-most zero c f h = zero-le
+sum-most (suc m) c f h = omega (arith, sum-most m c f (λ t l. h t (omega arith)), h m (le-refl (suc m)), suc-mul m c)
 
 -- ---- a list by its elements, of any kind
 
@@ -192,13 +213,10 @@ module _ {A : Type 0} where
   listBelow-more zero f = refl
   listBelow-more (suc m) f = ap (λ (l : List A). f 0 ∷ l) (listBelow-more m (λ k. f (suc k)))
 
-  -- a loop that fills the front of a list with f, one store a turn
-  pub filling-none : (f : ℕ → A) (l : List A) → l ≡ listBelow 0 f ++ drop 0 l
+  pub listBelow-parts : (a m : ℕ) (f : ℕ → A) → listBelow (a + m) f ≡ listBelow a f ++ listBelow m (λ j. f (a + j))
   unfolding listBelow
-  filling-none f l = refl
-
-  pub filling-more : (f : ℕ → A) (l : List A) (k : ℕ) → k < length l
-      → set (listBelow k f ++ drop k l) k (f k) ≡ listBelow (k + 1) f ++ drop (k + 1) l
-  filling-more f l k h =
-      rw (add-one k, drop-cons l k (f k) h, set-at (listBelow k f) (getD l k (f k)) (drop (suc k) l) (f k) k (length-listBelow k f), listBelow-more k f)
-      (sym (append-assoc (listBelow k f) (f k ∷ []) (drop (suc k) l)))
+  listBelow-parts zero m f = ap (λ (k : ℕ). listBelow k f) (zero-add m) ∙ listBelow-cong m f (λ j. f (0 + j)) (λ j b. ap f (sym (zero-add j)))
+  listBelow-parts (suc a) m f =
+      ap (λ (k : ℕ). listBelow k f) (suc-add a m)
+      ∙ ap (λ (l : List A). f 0 ∷ l) (listBelow-parts a m (λ k. f (suc k))
+      ∙ ap (λ (l : List A). listBelow a (λ k. f (suc k)) ++ l) (listBelow-cong m (λ j. f (suc (a + j))) (λ j. f (suc a + j)) (λ j b. ap f (sym (suc-add a j)))))

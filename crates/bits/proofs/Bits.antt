@@ -1,19 +1,20 @@
 -- Laws of bits: of and, or and xor, of a changed bit, of shifts, and that a number is its bits.
 -- Assumes nothing.
 use mathlib.Core.Path.{_≡_, refl, sym, ap, ap₂, _∙_, subst}
-use mathlib.Core.Logic.{_≢_}
-use mathlib.Core.Bool.{true}
-use Prim.Native.Nat.{ℕ, zero, suc, _+_, _*_, _/_, _%_, _^_, _≤_, _<_, min, max, zero-le, suc-le-suc}
-use native.Mathlib.Nat.{mod-lt, mod-le, div-one, mul-one, mul-assoc, pow-suc, div-eq-of-lt, lt-of-lt-of-le, lt-of-not-le, le-trans, mul-le-mul-right, div-mul-le-self, zero-lt-suc, div-add-mod', div-lt-iff-lt-mul, one-mul, min-zero, max-zero, min-eq-left}
+use mathlib.Core.Logic.{_≢_, ⊎-elim}
+use mathlib.Core.Bool.{Bool, true, false, cond, _&&_}
+use Prim.Native.Nat.{ℕ, zero, suc, _+_, _-_, _*_, _/_, _%_, _^_, _≤_, _<_, min, max, zero-le, suc-le-suc}
+use native.Mathlib.Nat.{mod-lt, mod-le, div-one, mul-one, mul-assoc, pow-suc, div-eq-of-lt, lt-of-lt-of-le, lt-of-not-le, le-trans, mul-le-mul-right, div-mul-le-self, zero-lt-suc, div-add-mod', div-lt-iff-lt-mul, one-mul, min-zero, max-zero, min-eq-left, add-comm, le-refl}
 use native.Mathlib.Decide.{ℕ-discrete, decLe}
 use native.Mathlib.Numerals.{add-one, one-add}
 use native.Mathlib.Omega.{arith}
-use borrow.Author.Tests.{eqb-true, eq-eqb}
+use borrow.Author.Tests.{eqb-true, eq-eqb, ltb-true, ltb-false}
 use lib.Arith.{digits-mod, digits-div, bin-ind}
-use lib.Dec.{lit<}
-use lib.Pow.{pow-pos, pow-mono, shr-shr, shr-lt, shl-exact}
-use lib.Bits.{bitAnd, bitOr, bitXor, differ, and-shr, or-shr, xor-shr, and-step, or-step, xor-step}
+use lib.Dec.{eqb, ltb, lit<}
+use lib.Pow.{pow-pos, pow-mono, pow-add, shr-shr, shl-shr, shr-lt, shl-exact, field, mod-mod-pow}
+use lib.Bits.{bitAnd, bitOr, bitXor, differ, and-shr, or-shr, xor-shr, and-step, or-step, xor-step, and-le-l, and-le-r, or-add-and}
 use Rattle.bits.specs.Bits.{bit, withBit, within}
+use Rattle.bits.proofs.Bools.{both-true, true-both, same-bool, below-or, all-at₂}
 
 pub bit-lt : (x k : ℕ) → bit x k < 2
 bit-lt x k = mod-lt (x / 2 ^ k) (zero-lt-suc 1)
@@ -95,6 +96,10 @@ bit-or = bit-op bitOr max or-shr or-step max-lt
 
 pub bit-xor : (a b k : ℕ) → bit (bitXor a b) k ≡ differ (bit a k) (bit b k)
 bit-xor = bit-op bitXor differ xor-shr xor-step differ-lt
+
+pub bit-xor-bits : (x y j : ℕ) → bit (bitXor x y) j ≡ bitXor (bit x j) (bit y j)
+bit-xor-bits x y j =
+    bit-xor x y j ∙ sym (eqb-true _ _ (all-at₂ 2 2 (λ x y. eqb (bitXor x y) (differ x y)) refl (bit x j) (bit y j) (bit-lt x j) (bit-lt y j)))
 
 -- ---- within, bit by bit
 
@@ -178,7 +183,53 @@ pub with-lt : (n k x b : ℕ) → k < n → b < 2 → x < 2 ^ n → withBit x k 
 with-lt n k x b l h hx =
     below-pow n (withBit x k b) (λ j m. with-other x k b j h (λ e. omega (arith, e)) ∙ bit-high n x j hx m)
 
+-- ---- an index with variable k added, and without it
+
+pub plus-with : (t k : ℕ) → bit t k ≡ 0 → t + 2 ^ k ≡ withBit t k 1
+unfolding withBit
+plus-with t k e = rw e (omega (arith, one-mul (2 ^ k)))
+
+pub plus-lt : (n k t : ℕ) → k < n → t < 2 ^ n → bit t k ≡ 0 → t + 2 ^ k < 2 ^ n
+plus-lt n k t hk ht e = subst (λ (x : ℕ). x < 2 ^ n) (sym (plus-with t k e)) (with-lt n k t 1 hk (lit< tt) ht)
+
+pub has-le : (t k : ℕ) → bit t k ≡ 1 → 2 ^ k ≤ t
+has-le t k e = ⊎-elim (λ l. absurd (omega (arith, bit-high k t k l (le-refl k)))) (λ l. l) (below-or t (2 ^ k))
+
 -- ---- shifts
+
+pub bit-shr : (x h j : ℕ) → bit (x / 2 ^ h) j ≡ bit x (j + h)
+bit-shr x h j = ap (λ (y : ℕ). y % 2) (shr-shr x h j ∙ ap (λ (i : ℕ). x / 2 ^ i) (add-comm h j))
+
+-- a number has the bits of what was cut to it
+pub bit-cut : (n y j : ℕ) → j < n → bit (y % 2 ^ n) j ≡ bit y j
+bit-cut n y j h =
+    let e : n ≡ n - suc j + 1 + j = omega arith in
+    ap (λ (n : ℕ). y % 2 ^ n / 2 ^ j % 2) e ∙ ap (λ (z : ℕ). z % 2) (field y (n - suc j + 1) j) ∙ mod-mod-pow (y / 2 ^ j) (n - suc j) 1
+
+bit-shl-low : (x h j : ℕ) → j < h → bit (x * 2 ^ h) j ≡ 0
+bit-shl-low x h j l =
+    let e : h ≡ h - suc j + 1 + j = omega arith in
+    ap (λ (n : ℕ). x * 2 ^ n / 2 ^ j % 2) e
+    ∙ ap (λ (z : ℕ). z / 2 ^ j % 2) (ap (λ (z : ℕ). x * z) (pow-add 2 (h - suc j + 1) j) ∙ sym (mul-assoc x (2 ^ (h - suc j + 1)) (2 ^ j)))
+    ∙ ap (λ (z : ℕ). z % 2) (shl-shr (x * 2 ^ (h - suc j + 1)) j)
+    ∙ ap (λ (z : ℕ). z % 2) (ap (λ (z : ℕ). x * z) (pow-add 2 (h - suc j) 1) ∙ sym (mul-assoc x (2 ^ (h - suc j)) 2))
+    ∙ even (x * 2 ^ (h - suc j))
+  where
+    even : (z : ℕ) → z * 2 % 2 ≡ 0
+    even z = omega arith
+
+bit-shl-high : (x h j : ℕ) → h ≤ j → bit (x * 2 ^ h) j ≡ bit x (j - h)
+bit-shl-high x h j l =
+    let e : j ≡ h + (j - h) = omega arith in
+    ap (λ (n : ℕ). x * 2 ^ h / 2 ^ n % 2) e
+    ∙ ap (λ (z : ℕ). z % 2) (sym (shr-shr (x * 2 ^ h) h (j - h)) ∙ ap (λ (z : ℕ). z / 2 ^ (j - h)) (shl-shr x h))
+
+pub bit-shl : (x h j : ℕ) → bit (x * 2 ^ h) j ≡ cond (ltb j h) 0 (bit x (j - h))
+bit-shl x h j = go (ltb j h) refl
+  where
+    go : (b : Bool) → ltb j h ≡ b → bit (x * 2 ^ h) j ≡ cond b 0 (bit x (j - h))
+    go true e = bit-shl-low x h j (ltb-true j h e)
+    go false e = bit-shl-high x h j (ltb-false j h e)
 
 pub lt-of-shift : (n x : ℕ) → x / 2 ^ n ≡ 0 → x < 2 ^ n
 lt-of-shift n x e = subst (λ (y : ℕ). x < y) (one-mul (2 ^ n)) (div-lt-iff-lt-mul (pow-pos n) .0 (omega arith))
@@ -229,3 +280,17 @@ clear-bit x k = is-with x k 0 (bitXor x (bitAnd x (2 ^ k))) (lit< tt)
     ∙ differ-self (bit x k))
     (λ j d. bit-xor x (bitAnd x (2 ^ k)) j ∙ ap (differ (bit x j)) (bit-and x (2 ^ k) j ∙ ap (min (bit x j)) (pow-bit-other k j d) ∙ min-zero (bit x j))
     ∙ differ-zero (bit x j))
+
+-- no bit of either
+pub or-none : (x y : ℕ) → eqb (bitOr x y) 0 ≡ eqb x 0 && eqb y 0
+or-none x y = same-bool (eqb (bitOr x y) 0) (eqb x 0 && eqb y 0) none-either either-none
+  where
+    none-either : eqb (bitOr x y) 0 ≡ true → eqb x 0 && eqb y 0 ≡ true
+    none-either t =
+        let e : bitOr x y ≡ 0 = eqb-true _ 0 t in
+        true-both (eq-eqb x 0 (omega (arith, or-add-and x y, and-le-r x y))) (eq-eqb y 0 (omega (arith, or-add-and x y, and-le-l x y)))
+
+    either-none : eqb x 0 && eqb y 0 ≡ true → eqb (bitOr x y) 0 ≡ true
+    either-none t =
+        let p = both-true (eqb x 0) (eqb y 0) t in
+        eq-eqb (bitOr x y) 0 (omega (arith, or-add-and x y, eqb-true x 0 (p .0), eqb-true y 0 (p .1)))

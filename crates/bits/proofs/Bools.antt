@@ -24,6 +24,10 @@ pub or-right : (a b : Bool) → a ≡ false → (a || b) ≡ true → b ≡ true
 or-right true b f e = absurd (true≢false f)
 or-right false b f e = e
 
+pub and-true : (a : Bool) → (a && true) ≡ a
+and-true true = refl
+and-true false = refl
+
 pub same-bool : (a b : Bool) → (a ≡ true → b ≡ true) → (b ≡ true → a ≡ true) → a ≡ b
 same-bool true b f g = sym (f refl)
 same-bool false true f g = g refl

@@ -6,8 +6,6 @@ use Prim.Native.Nat.{ℕ}
 use Rattle.bits.specs.Outcomes.{Determined}
 use Rattle.bits.proofs.bit.Kinds as bit-kinds
 use Rattle.bits.proofs.bit.Reads as bit-reads
-use Rattle.bits.proofs.within.Kinds as within-kinds
-use Rattle.bits.proofs.within.Reads as within-reads
 use Rattle.bits.proofs.packed.Packed.of.Kinds as packed-of-kinds
 use Rattle.bits.proofs.packed.Packed.of.Reads as packed-of-reads
 use Rattle.bits.proofs.packed.Packed.lowered.Kinds as packed-lowered-kinds
@@ -24,6 +22,18 @@ use Rattle.bits.proofs.packed.Packed.sum.Kinds as packed-sum-kinds
 use Rattle.bits.proofs.packed.Packed.sum.Reads as packed-sum-reads
 use Rattle.bits.proofs.packed.Packed.put.Kinds as packed-put-kinds
 use Rattle.bits.proofs.packed.Packed.put.Reads as packed-put-reads
+use Rattle.bits.proofs.packed.Packed.alone.Kinds as packed-alone-kinds
+use Rattle.bits.proofs.packed.Packed.alone.Reads as packed-alone-reads
+use Rattle.bits.proofs.packing.pack_word.Kinds as pack-word-kinds
+use Rattle.bits.proofs.packing.pack_word.Reads as pack-word-reads
+use Rattle.bits.proofs.packing.eight_bits.Kinds as eight-bits-kinds
+use Rattle.bits.proofs.packing.eight_bits.Reads as eight-bits-reads
+use Rattle.bits.proofs.word.lower_word.Kinds as lower-word-kinds
+use Rattle.bits.proofs.word.lower_word.Reads as lower-word-reads
+use Rattle.bits.proofs.word.raise_word.Kinds as raise-word-kinds
+use Rattle.bits.proofs.word.raise_word.Reads as raise-word-reads
+use Rattle.bits.proofs.packing.put_bits.Kinds as put-bits-kinds
+use Rattle.bits.proofs.packing.put_bits.Reads as put-bits-reads
 
 -- equal to the same
 pub same {ℓ} : {A : Type ℓ} {x y z : A} → x ≡ z → y ≡ z → x ≡ y
@@ -35,9 +45,6 @@ same-told told back known {x} {y} p q = sym (known x) ∙ ap back (same p q) ∙
 
 pub bit-determined : Determined 0 bit-kinds.ps bit-kinds.r bit-reads.Learnt
 bit-determined κs a z z′ ws ws′ p q = (same p q, refl)
-
-pub within-determined : Determined 0 within-kinds.ps within-kinds.r within-reads.Learnt
-within-determined κs a z z′ ws ws′ p q = (same p q, refl)
 
 pub packed-of-determined : Determined 1 packed-of-kinds.ps packed-of-kinds.r packed-of-reads.Learnt
 packed-of-determined κs a z z′ ws ws′ p q = (same p q, refl)
@@ -62,3 +69,21 @@ packed-both-determined κs a z z′ ws ws′ p q = (same p q, refl)
 
 pub packed-sum-determined : Determined 0 packed-sum-kinds.ps packed-sum-kinds.r packed-sum-reads.Learnt
 packed-sum-determined κs a z z′ ws ws′ p q = (same p q, refl)
+
+pub packed-alone-determined : Determined 0 packed-alone-kinds.ps packed-alone-kinds.r packed-alone-reads.Learnt
+packed-alone-determined κs a z z′ ws ws′ p q = (same p q, refl)
+
+pub pack-word-determined : Determined 1 pack-word-kinds.ps pack-word-kinds.r pack-word-reads.Learnt
+pack-word-determined κs a z z′ ws ws′ p q = (same p q, refl)
+
+pub eight-bits-determined : Determined 1 eight-bits-kinds.ps eight-bits-kinds.r eight-bits-reads.Learnt
+eight-bits-determined κs a z z′ ws ws′ p q = (same p q, refl)
+
+pub lower-word-determined : Determined 0 lower-word-kinds.ps lower-word-kinds.r lower-word-reads.Learnt
+lower-word-determined κs a z z′ ws ws′ p q = (same p q, refl)
+
+pub raise-word-determined : Determined 0 raise-word-kinds.ps raise-word-kinds.r raise-word-reads.Learnt
+raise-word-determined κs a z z′ ws ws′ p q = (same p q, refl)
+
+pub put-bits-determined : Determined 1 put-bits-kinds.ps put-bits-kinds.r put-bits-reads.Learnt
+put-bits-determined κs a z z′ ws ws′ p q = (refl, ap (λ (b : List ℕ). (tt, (b, tt))) (same p q))

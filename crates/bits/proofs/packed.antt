@@ -1,6 +1,6 @@
 -- What the proofs of `packed` and of the crates that compute with it use.
 pub mod Words
 pub mod Passes
-pub mod Spreading
 pub mod Packing
 pub mod Literals
+pub mod Alone

@@ -23,6 +23,10 @@ wordAt w (suc (suc (suc i))) = w .d
 unfoldable pub bitAt : Packed → ℕ → ℕ
 bitAt w t = bit (wordAt w (t / 64)) (t % 64)
 
+-- the first word, and no bit in the others: what up to six variables need
+abbrev pub alone : ℕ → Packed
+alone x = record { a = x; b = 0; c = 0; d = 0 }
+
 -- ---- bytes into bits, and back
 
 -- byte i of x

@@ -1,22 +1,20 @@
 // Bits of a number, and numbers as sets of variables.
 pub mod packed;
+pub mod packing;
+pub mod word;
 
 ghost use mathlib.Core.Path.{_≡_};
-ghost use Rattle.bits.specs.Bits.{bit, within};
+ghost use Rattle.bits.specs.Bits.{bit};
 
-// Bit k of x; 0 at and above 32.
+// How many bits a number that stands for a set has.
+const SET_BITS: u32 = 32;
+
+// Bit k of x; 0 past its last bit.
 pub fn bit(x: u32, k: u32) -> u32
     ensures { λ r. ⌜ r ≡ bit x k ⌝ }
 {
-    if 32 <= k {
+    if SET_BITS <= k {
         return 0;
     }
     (x >> k) % 2
-}
-
-// Every bit of t is one of s.
-pub fn within(t: u32, s: u32) -> bool
-    ensures { λ r. ⌜ r ≡ within t s ⌝ }
-{
-    t & s == t
 }

@@ -2,17 +2,18 @@
 -- Assumes nothing.
 use mathlib.Core.Path.{_≡_, refl, sym, ap, ap₂, _∙_, subst}
 use mathlib.Core.Logic.{_≢_}
-use mathlib.Core.Bool.{true, false, cond, _&&_}
-use Prim.Native.Nat.{ℕ, zero, suc, _/_, _^_, _≤_, _<_, zero-le}
-use native.Mathlib.Nat.{le-refl, le-trans, lt-of-lt-of-le, div-eq-of-lt}
+use mathlib.Core.Bool.{Bool, true, false, cond, _&&_}
+use Prim.Native.Nat.{ℕ, zero, suc, _-_, _*_, _/_, _^_, _≤_, _<_, zero-le}
+use native.Mathlib.Nat.{one-mul, mul-le-mul-right, le-refl, le-trans, lt-of-lt-of-le, div-eq-of-lt}
 use native.Mathlib.Decide.{ℕ-discrete, decLt}
 use native.Mathlib.Omega.{arith}
 use borrow.Author.Tests.{eqb-true, eq-eqb, ltb-true, lt-ltb, le-ltb, leb-true, le-leb}
+use lib.Bits.{bitAnd, bitOr, and-le-l}
 use lib.Dec.{eqb, ltb, leb}
 use lib.Pow.{pow-mono}
 use Rattle.bits.specs.Bits.{bit, withBit, within}
-use Rattle.bits.proofs.Bools.{both-true, true-both, same-bool, all-at, all-at₂, one-lt}
-use Rattle.bits.proofs.Bits.{bit-lt, bit-ext, bit-high, below-pow, with-same, with-other, with-with, with-comm, within-bit, bit-within, lt-of-shift}
+use Rattle.bits.proofs.Bools.{both-true, true-both, and-true, same-bool, all-at, all-at₂, one-lt}
+use Rattle.bits.proofs.Bits.{bit-lt, bit-ext, bit-high, below-pow, with-same, with-other, with-with, with-comm, within-bit, bit-within, lt-of-shift, or-none}
 use Rattle.cube.specs.declared.Cube.{Cube}
 use Rattle.cube.specs.Cubes.{codeOf, code, seenBit, valueBit, put, withCode, maskBits, one, good, Good}
 
@@ -34,6 +35,17 @@ module _ (s b : ℕ) (hs : s < 2) (l : b ≤ s) where
       (eqb-true _ _ (u .0), eqb-true _ _ (u .1))
 
 -- ---- the code at a variable
+
+-- by its two bits, with no branch
+pub code-part : (s b : ℕ) → s < 2 → s * (2 - b) ≤ 2
+code-part s b h = let l : s ≤ 1 = omega arith in le-trans (mul-le-mul-right (2 - b) l) (omega (arith, one-mul (2 - b)))
+
+pub code-made : (c : Cube) (k s b : ℕ) → s ≡ bit (c .seen) k → b ≡ bit (c .value) k → 2 - s * (2 - b) ≡ code c k
+unfolding code
+code-made c k s b es eb =
+    let hs : s < 2 = omega (arith, es, bit-lt (c .seen) k) in
+    let hb : b < 2 = omega (arith, eb, bit-lt (c .value) k) in
+    eqb-true _ _ (all-at₂ 2 2 (λ s b. eqb (2 - s * (2 - b)) (codeOf s b)) refl s b hs hb) ∙ ap₂ codeOf es eb
 
 pub code-lt : (c : Cube) (k : ℕ) → code c k < 3
 unfolding code
@@ -119,22 +131,28 @@ module _ (n : ℕ) (c : Cube) (g : Good n c) where
   unfolding good
   parts-good = true-both good-within (lt-ltb (c .seen) (2 ^ n) good-seen)
 
--- a good record by its two tests on masks
+-- a good record by the bits that it must not have
 module _ (n : ℕ) (c : Cube) where
-  pub bad-outside : within (c .value) (c .seen) ≡ false → false ≡ good n c
-  unfolding good
-  bad-outside e = sym (rw e)
+  outside : eqb (c .value - bitAnd (c .value) (c .seen)) 0 ≡ within (c .value) (c .seen)
+  outside =
+      let m : ℕ = bitAnd (c .value) (c .seen) in
+      same-bool (eqb (c .value - m) 0) (eqb m (c .value))
+      (λ t. eq-eqb m (c .value) (omega (arith, eqb-true (c .value - m) 0 t, and-le-l (c .value) (c .seen))))
+      (λ t. eq-eqb (c .value - m) 0 (omega (arith, eqb-true m (c .value) t)))
 
-  pub good-wide : within (c .value) (c .seen) ≡ true → c .seen < 2 ^ maskBits → maskBits ≤ n → true ≡ good n c
-  unfolding good
-  good-wide e h l = sym (rw e (lt-ltb (c .seen) (2 ^ n) (lt-of-lt-of-le h (pow-mono l))))
-
-  pub good-shift : within (c .value) (c .seen) ≡ true → eqb (c .seen / 2 ^ n) 0 ≡ good n c
-  unfolding good
-  good-shift e =
-      sym (rw e (same-bool _ _
+  above : eqb (c .seen / 2 ^ n) 0 ≡ ltb (c .seen) (2 ^ n)
+  above =
+      same-bool (eqb (c .seen / 2 ^ n) 0) (ltb (c .seen) (2 ^ n))
+      (λ t. lt-ltb (c .seen) (2 ^ n) (lt-of-shift n (c .seen) (eqb-true _ 0 t)))
       (λ t. eq-eqb _ 0 (div-eq-of-lt (ltb-true (c .seen) (2 ^ n) t)))
-      (λ t. lt-ltb (c .seen) (2 ^ n) (lt-of-shift n (c .seen) (eqb-true _ 0 t)))))
+
+  pub good-wide : c .seen < 2 ^ maskBits → maskBits ≤ n → eqb (c .value - bitAnd (c .value) (c .seen)) 0 ≡ good n c
+  unfolding good
+  good-wide h l = outside ∙ sym (ap (λ (t : Bool). within (c .value) (c .seen) && t) (lt-ltb (c .seen) (2 ^ n) (lt-of-lt-of-le h (pow-mono l))) ∙ and-true _)
+
+  pub good-none : eqb (bitOr (c .value - bitAnd (c .value) (c .seen)) (c .seen / 2 ^ n)) 0 ≡ good n c
+  unfolding good
+  good-none = or-none (c .value - bitAnd (c .value) (c .seen)) (c .seen / 2 ^ n) ∙ ap₂ _&&_ outside above
 
 -- more variables keep a cube good
 pub good-more : (m n : ℕ) (c : Cube) → m ≤ n → Good m c → Good n c

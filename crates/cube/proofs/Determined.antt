@@ -7,7 +7,7 @@ use lib.ListN.{getD}
 use Rattle.bits.specs.Outcomes.{Determined}
 use Rattle.bits.proofs.Determined.{same, same-told}
 use Rattle.records.specs.Answers.{Outcome, accepted, refused, counted}
-use Rattle.records.proofs.Answering.{counted-back, counted-known}
+use Rattle.records.proofs.Answers.{counted-back, counted-known}
 use Rattle.cube.specs.declared.Valued.{Valued}
 use Rattle.cube.specs.declared.Valued.the-variants as valued-is
 use Rattle.cube.specs.Calls.{valued}
@@ -29,8 +29,12 @@ use Rattle.cube.proofs.Cube.differing.Kinds as differing-kinds
 use Rattle.cube.proofs.Cube.differing.Reads as differing-reads
 use Rattle.cube.proofs.list.capacity.Kinds as capacity-kinds
 use Rattle.cube.proofs.list.capacity.Reads as capacity-reads
+use Rattle.cube.proofs.record.record_at.Kinds as record-at-kinds
+use Rattle.cube.proofs.record.record_at.Reads as record-at-reads
 use Rattle.cube.proofs.record.cube_at.Kinds as cube-at-kinds
 use Rattle.cube.proofs.record.cube_at.Reads as cube-at-reads
+use Rattle.cube.proofs.record.put_record.Kinds as put-record-kinds
+use Rattle.cube.proofs.record.put_record.Reads as put-record-reads
 use Rattle.cube.proofs.record.put_cube.Kinds as put-cube-kinds
 use Rattle.cube.proofs.record.put_cube.Reads as put-cube-reads
 use Rattle.cube.proofs.list.check_within.Kinds as check-within-kinds
@@ -79,8 +83,14 @@ differing-determined κs a z z′ ws ws′ p q = (same (p .fixed) (q .fixed), re
 pub capacity-determined : Determined 0 capacity-kinds.ps capacity-kinds.r capacity-reads.Learnt
 capacity-determined κs a z z′ ws ws′ p q = (same p q, refl)
 
+pub record-at-determined : Determined 1 record-at-kinds.ps record-at-kinds.r record-at-reads.Learnt
+record-at-determined κs a z z′ ws ws′ p q = (same p q, refl)
+
 pub cube-at-determined : Determined 1 cube-at-kinds.ps cube-at-kinds.r cube-at-reads.Learnt
 cube-at-determined κs a z z′ ws ws′ p q = (same p q, refl)
+
+pub put-record-determined : Determined 1 put-record-kinds.ps put-record-kinds.r put-record-reads.Learnt
+put-record-determined κs a z z′ ws ws′ p q = (refl, ap (λ (b : List ℕ). (b, (tt, (tt, tt)))) (same p q))
 
 pub put-cube-determined : Determined 1 put-cube-kinds.ps put-cube-kinds.r put-cube-reads.Learnt
 put-cube-determined κs a z z′ ws ws′ p q = (refl, ap (λ (b : List ℕ). (b, (tt, (tt, tt)))) (same p q))

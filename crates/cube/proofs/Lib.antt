@@ -1,10 +1,8 @@
 pub mod Codes
 pub mod Masks
 pub mod Apart
-pub mod RecordLaws
-pub mod ListLaws
-pub mod CallLaws
-pub mod Inversion
-pub mod Slices
+pub mod CubeRecord
+pub mod Lists
+pub mod Calls
 pub mod Determined
 pub mod Meaning

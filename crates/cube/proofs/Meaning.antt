@@ -18,7 +18,7 @@ use Rattle.cube.specs.Cubes.{code, Good, met, holds, one, apart, differi
 use Rattle.cube.specs.Lists.{cubes, recordWidth, trues, listValue}
 use Rattle.cube.proofs.Codes.{code-above, one-good, cube-ext}
 use Rattle.cube.proofs.Masks.{holds-mask, apart-count}
-use Rattle.cube.proofs.ListLaws.{lawful, cubes-bytes}
+use Rattle.cube.proofs.Lists.{lawful, cubes-bytes}
 
 -- A list's value at an assignment is the EXOR of its products there.
 pub value-is-exor : (n : ℕ) (l : List Cube) (a : ℕ) → listValue n l a ≡ oneIf (sum (λ c. holds n c a) l)
@@ -57,7 +57,7 @@ pub number-differing : (n : ℕ) (c d : Cube) → Good n c → Good n d → leng
 number-differing = apart-count
 
 -- A record there and back: what is read at a place of a written list is the cube written there ..
-pub record-back : (size : ℕ) (l : List Cube) (i : ℕ) → i < length l → cubes .read (image cubes size l) i ≡ getD l i one
+pub record-back : (room : ℕ) (l : List Cube) (i : ℕ) → i < length l → cubes .read (image cubes room l) i ≡ getD l i one
 record-back = lawful .reads
 
 -- .. and the bytes of the cubes read are the bytes that were there.

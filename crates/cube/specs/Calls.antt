@@ -25,7 +25,7 @@ valueOutcome n b a = andThen (checkList mostVariables n b) (unless (ltb a (2 ^ n
 
 -- "Truth vector of a list: 1 to 4, 5 (2^n bytes)", into a buffer of so many bytes
 unfoldable pub vectorOutcome : ℕ → List ℕ → ℕ → Outcome
-vectorOutcome n b size = andThen (checkList vectorVariables n b) (unless (leb (2 ^ n) size) 5 0 (accepted (2 ^ n ∷ [])))
+vectorOutcome n b room = andThen (checkList vectorVariables n b) (unless (leb (2 ^ n) room) 5 0 (accepted (2 ^ n ∷ [])))
 
 -- the buffer after it: "Other calls write the bytes they name and no more"
 unfoldable pub vectorAfter : ℕ → List ℕ → List ℕ → List ℕ

@@ -26,7 +26,7 @@ mostRecords = 4096
 
 -- how many cubes a lent buffer of so many bytes can hold
 abbrev pub cubeCapacity : ℕ → ℕ
-cubeCapacity size = capacityOf cubes mostRecords size
+cubeCapacity room = capacityOf cubes mostRecords room
 
 -- ---- value
 

@@ -48,14 +48,13 @@ impl Cube {
         Cube::ONE.with_code(v, x)
     }
 
-    // The literal code at variable v.
+    // The literal code at variable v. It takes no branch on the cube.
     pub fn code_at(self, v: u32) -> u8
         ensures { λ r. ⌜ r ≡ code self v ⌝ }
     {
-        if bits::bit(self.seen, v) == 0 {
-            return 2;
-        }
-        bits::bit(self.value, v) as u8
+        let seen = bits::bit(self.seen, v);
+        let value = bits::bit(self.value, v);
+        (2 - seen * (2 - value)) as u8
     }
 
     // The cube with the code x at variable v.
@@ -71,18 +70,16 @@ impl Cube {
         }
     }
 
-    // No value bit outside seen, and no seen bit at or above n.
+    // No value bit outside seen, and no seen bit at or above n: all such bits at once, compared with 0.
     pub fn is_good(self, n: usize) -> bool
         ensures { λ r. ⌜ r ≡ good n self ⌝ }
     {
         let seen = self.seen;
-        if !bits::within(self.value, seen) {
-            return false;
-        }
+        let outside = self.value - (self.value & seen);
         if MASK_BITS as usize <= n {
-            return true;
+            return outside == 0;
         }
-        seen >> n == 0
+        outside | (seen >> n) == 0
     }
 
     // One masked comparison: the product of a good cube is true at the assignment a.

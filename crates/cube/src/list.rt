@@ -2,13 +2,19 @@
 pub use crate::record::RECORD_WIDTH;
 pub use crate::record::cube_at;
 pub use crate::record::put_cube;
+pub use crate::record::put_record;
+pub use crate::record::record_at;
 use records::Counted;
 use records::Refusal;
 ghost use mathlib.Core.Path.{_≡_};
+ghost use Prim.Native.Nat.{_/_, _≤_, _<_};
+ghost use lib.ListN.{length};
 ghost use Rattle.bits.specs.Sums.{firstBad};
 ghost use Rattle.records.specs.Answers.{counted};
-ghost use Rattle.cube.specs.Cubes.{good};
-ghost use Rattle.cube.specs.Lists.{cubesOf, cubeCapacity, mostVariables};
+ghost use Rattle.records.specs.Strides.{passFrom, strideFrom};
+ghost use Rattle.cube.specs.Cubes.{one, good};
+ghost use Rattle.cube.specs.Lists.{recordWidth, cubesOf, cubeCapacity, mostVariables};
+ghost use Rattle.cube.specs.Checking.{stride};
 ghost use Rattle.cube.specs.Calls.{checkList};
 
 // Records of a list, at most.
@@ -18,14 +24,46 @@ pub const MOST_RECORDS: usize = 4096;
 pub const MOST_VARIABLES: usize = 16;
 
 // How many cubes a lent buffer of so many bytes can hold.
-pub fn capacity(size: usize) -> usize
-    ensures { λ r. ⌜ r ≡ cubeCapacity size ⌝ }
+pub fn capacity(room: usize) -> usize
+    ensures { λ r. ⌜ r ≡ cubeCapacity room ⌝ }
 {
-    let whole = size / RECORD_WIDTH;
+    let whole = room / RECORD_WIDTH;
     if whole < MOST_RECORDS {
         return whole;
     }
     MOST_RECORDS
+}
+
+// Records that are looked at together, with no branch between them. Of half as many the compiler writes each out, and the check becomes too
+// long to be taken into its callers.
+const STRIDE: usize = 32;
+
+// Whether a stride is left from place i on, and every record of it is good.
+fn stride_good(n: usize, list: &[u8], i: usize) -> bool
+    requires { ⌜ i ≤ length (now list) / recordWidth ⌝ }
+    ensures { λ r. ⌜ r ≡ passFrom (good n) one stride (cubesOf (now (list .entry))) i ⌝ }
+{
+    if list.len() / RECORD_WIDTH - i < STRIDE {
+        return false;
+    }
+    let mut all = true;
+    let mut k: usize = 0;
+    while k < STRIDE {
+        all = all & record_at(list, i + k).is_good(n);
+        k += 1;
+    }
+    all
+}
+
+// How many good records are passed at once from place i on: a stride, or one, or none.
+fn good_from(n: usize, list: &[u8], i: usize) -> usize
+    requires { ⌜ i < length (now list) / recordWidth ⌝ }
+    ensures { λ r. ⌜ r ≡ strideFrom (good n) one stride (cubesOf (now (list .entry))) i ⌝ }
+{
+    if stride_good(n, list, i) {
+        return STRIDE;
+    }
+    record_at(list, i).is_good(n) as usize
 }
 
 // The lowest bad record, or the count.
@@ -38,10 +76,11 @@ fn first_bad(n: usize, list: &[u8]) -> usize
         if count <= i {
             break count;
         }
-        if !cube_at(list, i).is_good(n) {
+        let good = good_from(n, list, i);
+        if good == 0 {
             break i;
         }
-        i += 1;
+        i += good;
     };
     found
 }

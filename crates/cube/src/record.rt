@@ -2,10 +2,11 @@
 use crate::Cube;
 use records::numbers;
 ghost use mathlib.Core.Path.{_≡_};
-ghost use lib.ListN.{getD};
+ghost use Prim.Native.Nat.{_/_, _<_};
+ghost use lib.ListN.{length, getD};
 ghost use Rattle.records.specs.Records.{stored};
 ghost use Rattle.cube.specs.Cubes.{one};
-ghost use Rattle.cube.specs.CubeRecord.{cubes, cubesOf, narrow, recordNumber, halves};
+ghost use Rattle.cube.specs.CubeRecord.{recordWidth, cubes, cubesOf, narrow, recordNumber, halves};
 
 // Bytes of a record.
 pub const RECORD_WIDTH: usize = 4;
@@ -32,6 +33,16 @@ impl Cube {
     }
 }
 
+// The cube at a place that the list has.
+pub fn record_at(list: &[u8], i: usize) -> Cube
+    requires { ⌜ i < length (now list) / recordWidth ⌝ }
+    ensures { λ r. ⌜ r ≡ getD (cubesOf (now (list .entry))) i one ⌝ }
+{
+    let at = RECORD_WIDTH * i;
+    let end = at + RECORD_WIDTH;
+    Cube::of_word(numbers::number4_at(&list[at..end], 0))
+}
+
 // The cube at place i of a list, or the product with no literal past its end.
 pub fn cube_at(list: &[u8], i: usize) -> Cube
     ensures { λ r. ⌜ r ≡ getD (cubesOf (now (list .entry))) i one ⌝ }
@@ -39,9 +50,17 @@ pub fn cube_at(list: &[u8], i: usize) -> Cube
     if list.len() / RECORD_WIDTH <= i {
         return Cube::ONE;
     }
-    let at = RECORD_WIDTH * i;
-    let end = at + RECORD_WIDTH;
-    Cube::of_word(numbers::number4_at(&list[at..end], 0))
+    record_at(list, i)
+}
+
+// The cube stored at a place that the list has.
+pub fn put_record(list: &mut [u8], i: usize, c: Cube)
+    requires { ⌜ i < length (now list) / recordWidth ⌝ }
+    ensures { λ _. ⌜ now (list .exit) ≡ stored cubes (now (list .entry)) i (narrow c) ⌝ }
+{
+    let from = RECORD_WIDTH * i;
+    let to = from + RECORD_WIDTH;
+    numbers::put_number4(&mut list[from..to], 0, c.word());
 }
 
 // The cube stored at place i of a list; nothing where it has no such place.
@@ -51,7 +70,5 @@ pub fn put_cube(list: &mut [u8], i: usize, c: Cube)
     if list.len() / RECORD_WIDTH <= i {
         return;
     }
-    let from = RECORD_WIDTH * i;
-    let to = from + RECORD_WIDTH;
-    numbers::put_number4(&mut list[from..to], 0, c.word());
+    put_record(list, i, c);
 }

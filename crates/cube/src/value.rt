@@ -86,32 +86,32 @@ fn value_bits(list: &[u8]) -> Packed
     w
 }
 
-// The value at each of `size` assignments, to the front of a buffer, one by one.
-fn fill_each(n: usize, size: usize, list: &[u8], out: &mut [u8])
+// The value at each of so many assignments, to the front of a buffer, one by one.
+fn fill_each(n: usize, assignments: usize, list: &[u8], out: &mut [u8])
     requires { ⌜ All (Good n) (cubesOf (now list)) ⌝ }
-    requires { ⌜ (size ≡ 2 ^ n) × (size ≤ 4) ⌝ }
-    requires { ⌜ size ≤ length (now out) ⌝ }
+    requires { ⌜ (assignments ≡ 2 ^ n) × (assignments ≤ 4) ⌝ }
+    requires { ⌜ assignments ≤ length (now out) ⌝ }
     ensures { λ _. ⌜ now (out .exit) ≡ truthVector n (cubesOf (now (list .entry))) ++ drop (2 ^ n) (now (out .entry)) ⌝ }
 {
     let mut a: usize = 0;
-    while a < size {
+    while a < assignments {
         out[a] = (trues_at(n, list, a as u32) % 2) as u8;
         a += 1;
     }
 }
 
-// The value at each of `size` assignments, to the front of a buffer. A product at four assignments costs less than its bits at 256.
-fn fill_vector(n: usize, size: usize, list: &[u8], out: &mut [u8])
+// The value at each of so many assignments, to the front of a buffer. A product at four assignments costs less than its bits at 256.
+fn fill_vector(n: usize, assignments: usize, list: &[u8], out: &mut [u8])
     requires { ⌜ All (Good n) (cubesOf (now list)) ⌝ }
-    requires { ⌜ (size ≡ 2 ^ n) × (n ≤ 8) ⌝ }
-    requires { ⌜ size ≤ length (now out) ⌝ }
+    requires { ⌜ (assignments ≡ 2 ^ n) × (n ≤ 8) ⌝ }
+    requires { ⌜ assignments ≤ length (now out) ⌝ }
     ensures { λ _. ⌜ now (out .exit) ≡ truthVector n (cubesOf (now (list .entry))) ++ drop (2 ^ n) (now (out .entry)) ⌝ }
 {
-    if size <= 4 {
-        fill_each(n, size, list, out);
+    if assignments <= 4 {
+        fill_each(n, assignments, list, out);
         return;
     }
-    value_bits(list).put(&mut out[..size]);
+    value_bits(list).put(&mut out[..assignments]);
 }
 
 // The truth vector of a list: refusals 1 to 4 and 5, or its length, written to the front of the buffer.
@@ -122,12 +122,12 @@ pub fn truth_vector(n: usize, list: &[u8], out: &mut [u8]) -> Counted
     match list::check_within(VECTOR_VARIABLES, n, list) {
         Counted::Refused(r) => Counted::Refused(r),
         Counted::Count(_) => {
-            let size: usize = 1 << n;
-            if out.len() < size {
+            let assignments: usize = 1 << n;
+            if out.len() < assignments {
                 return Counted::Refused(Refusal::new(5, 0));
             }
-            fill_vector(n, size, list, out);
-            Counted::Count(size)
+            fill_vector(n, assignments, list, out);
+            Counted::Count(assignments)
         }
     }
 }

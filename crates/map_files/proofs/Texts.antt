@@ -10,7 +10,7 @@ use Rattle.io.specs.Counts.{Counts}
 use Rattle.cube.specs.declared.Cube.{Cube}
 use Rattle.text.specs.Places.{Laid}
 use Rattle.text.specs.Cubes.{cubeText}
-use Rattle.text.proofs.Laying.{after, kept, front-laid, length-cube, Front}
+use Rattle.text.proofs.Laying.{after, kept, at-front-laid, length-cube, AtFront}
 
 -- a number of bytes at the front of a buffer
 pub counted : (k : ℕ) (l : List ℕ) → k ≤ length l → Counts k l
@@ -25,8 +25,8 @@ pub filled-more : {line₀ line : List ℕ} {k : ℕ} (b : ℕ) → Filled line�
 filled-more b f h = record { upto = simp length-set (omega arith); same = simp length-set (f .same) }
 
 module _ {n p r : ℕ} (c : Cube) {line line′ line″ : List ℕ} (f : Laid line 0 (cubeText n c) p line′) (g : Laid line′ p (10 ∷ []) r line″) (h : n < length line) where
-  laid-line : Front (cubeText n c ++ (10 ∷ [])) r line″
-  laid-line = front-laid (after f g) (omega (arith, length-append (cubeText n c) (10 ∷ []), length-cube n c))
+  laid-line : AtFront (cubeText n c ++ (10 ∷ [])) r line″
+  laid-line = at-front-laid (after f g) (omega (arith, length-append (cubeText n c) (10 ∷ []), length-cube n c))
 
   pub line-text : take r line″ ≡ cubeText n c ++ (10 ∷ [])
   line-text = laid-line .text

@@ -22,7 +22,7 @@ const BUFFER_BYTES: usize = cube::list::RECORD_WIDTH * cube::list::MOST_RECORDS;
 // Whether a file was read, to its end or as far as it is taken, and how many bytes were.
 struct Loaded {
     found: bool,
-    size: usize,
+    count: usize,
 }
 
 // Whether a file that gave fewer bytes than were asked for has ended: one more read gives none, and doesn't fail.
@@ -34,26 +34,26 @@ fn has_ended(fd: i32) -> bool {
 
 // At most the buffer's length of an open file's bytes, to the front of the buffer.
 fn load_open(fd: i32, buf: &mut [u8]) -> Loaded
-    ensures { λ r. ⌜ Counts (r .size) (now (buf .exit)) ⌝ }
+    ensures { λ r. ⌜ Counts (r .count) (now (buf .exit)) ⌝ }
 {
-    let size = io::read_full(fd, buf);
-    if size == buf.len() {
-        return Loaded { found: true, size };
+    let count = io::read_full(fd, buf);
+    if count == buf.len() {
+        return Loaded { found: true, count };
     }
     let found = has_ended(fd);
-    Loaded { found, size }
+    Loaded { found, count }
 }
 
 // At most the buffer's length of a file's bytes, to the front of the buffer.
 fn load(path: &[u8], buf: &mut [u8]) -> Loaded
-    ensures { λ r. ⌜ Counts (r .size) (now (buf .exit)) ⌝ }
+    ensures { λ r. ⌜ Counts (r .count) (now (buf .exit)) ⌝ }
 {
     let fd = os::open_read(path);
     if fd < 0 {
         let none = io::count(0, buf);
         return Loaded {
             found: false,
-            size: none,
+            count: none,
         };
     }
     let loaded = load_open(fd, buf);
@@ -88,8 +88,8 @@ fn load_script(n: usize, list: &[u8], path: &[u8])
         print::no_file();
         return;
     }
-    let size = s.size;
-    burn(n, list, &script[..size]);
+    let count = s.count;
+    burn(n, list, &script[..count]);
 }
 
 // The list read and tested, before the script is looked for.
@@ -102,13 +102,13 @@ fn load_list(n: usize, list_path: &[u8], script_path: &[u8])
         print::no_file();
         return;
     }
-    let size = l.size;
-    match cube::list::check(n, &list[..size]) {
+    let count = l.count;
+    match cube::list::check(n, &list[..count]) {
         Counted::Refused(r) => {
             print::refusal(r);
         }
         Counted::Count(_) => {
-            load_script(n, &list[..size], script_path);
+            load_script(n, &list[..count], script_path);
         }
     }
 }
@@ -128,6 +128,6 @@ pub fn settle_named(line: &[u8], list_path: &[u8], script_path: &[u8]) {
 // The program: the line of standard input, `map.cub` and `map.scr`.
 pub fn run() {
     let mut bytes = [0u8; line::LINE_BYTES];
-    let size = line::read(&mut bytes);
-    settle_named(&bytes[..size], b"map.cub", b"map.scr");
+    let count = line::read(&mut bytes);
+    settle_named(&bytes[..count], b"map.cub", b"map.scr");
 }

@@ -5,8 +5,8 @@ use Rattle.bits.specs.Outcomes.{Determined}
 use Rattle.bits.proofs.Determined.{same}
 use Rattle.orders.proofs.third.Kinds as third-kinds
 use Rattle.orders.proofs.third.Reads as third-reads
-use Rattle.orders.proofs.image.Kinds as image-kinds
-use Rattle.orders.proofs.image.Reads as image-reads
+use Rattle.orders.proofs.code_after.Kinds as code-after-kinds
+use Rattle.orders.proofs.code_after.Reads as code-after-reads
 use Rattle.orders.proofs.follow.Kinds as follow-kinds
 use Rattle.orders.proofs.follow.Reads as follow-reads
 use Rattle.orders.proofs.inverse.Kinds as inverse-kinds
@@ -17,8 +17,8 @@ use Rattle.orders.proofs.letter_order.Reads as letter-order-reads
 pub third-determined : Determined 0 third-kinds.ps third-kinds.r third-reads.Learnt
 third-determined κs a z z′ ws ws′ p q = (same p q, refl)
 
-pub image-determined : Determined 0 image-kinds.ps image-kinds.r image-reads.Learnt
-image-determined κs a z z′ ws ws′ p q = (same p q, refl)
+pub code-after-determined : Determined 0 code-after-kinds.ps code-after-kinds.r code-after-reads.Learnt
+code-after-determined κs a z z′ ws ws′ p q = (same p q, refl)
 
 pub follow-determined : Determined 0 follow-kinds.ps follow-kinds.r follow-reads.Learnt
 follow-determined κs a z z′ ws ws′ p q = (same p q, refl)

@@ -1,4 +1,4 @@
-pub mod CodeLaws
-pub mod OrderLaws
+pub mod Codes
+pub mod Orders
 pub mod Tables
 pub mod Determined

@@ -11,7 +11,7 @@ use lib.ListN.{length, getD, List·getD-eq-default}
 use Rattle.bits.specs.Below.{allBelow}
 use Rattle.bits.proofs.Bools.{both-true, all-at₂}
 use Rattle.orders.specs.Codes.{third, thirdOf}
-use Rattle.orders.specs.Orders.{images, image, followings, follow, inverses, inverse}
+use Rattle.orders.specs.Orders.{codesAfter, codeAfter, followings, follow, inverses, inverse}
 
 -- ---- past the end of a table
 
@@ -30,13 +30,13 @@ column-past w (r ∷ t) e zero q h = sym (List·getD-eq-default r 0 {n = q} (le-
 column-past w (r ∷ t) e (suc p) q h = column-past w t (both-true (leb (length r) w) (narrow w t) e .1) p q h
 
 module _ (o x : ℕ) where
-  pub image-no-order : 6 ≤ o → 0 ≡ image o x
-  unfolding image
-  image-no-order h = row-past images o x h
+  pub code-after-no-order : 6 ≤ o → 0 ≡ codeAfter o x
+  unfolding codeAfter
+  code-after-no-order h = row-past codesAfter o x h
 
-  pub image-no-code : 3 ≤ x → 0 ≡ image o x
-  unfolding image narrow
-  image-no-code h = column-past 3 images refl o x h
+  pub code-after-no-code : 3 ≤ x → 0 ≡ codeAfter o x
+  unfolding codeAfter narrow
+  code-after-no-code h = column-past 3 codesAfter refl o x h
 
 module _ (p q : ℕ) where
   pub follow-no-first : 6 ≤ p → 0 ≡ follow p q

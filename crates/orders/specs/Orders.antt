@@ -15,8 +15,8 @@ abbrev pub noOrder : ℕ
 noOrder = 0
 
 -- what each order makes of 0, 1 and 2
-abbrev pub images : List (List ℕ)
-images =
+abbrev pub codesAfter : List (List ℕ)
+codesAfter =
     (0 ∷ 1 ∷ 2 ∷ []) ∷
     (0 ∷ 2 ∷ 1 ∷ []) ∷
     (1 ∷ 0 ∷ 2 ∷ []) ∷
@@ -24,8 +24,8 @@ images =
     (2 ∷ 0 ∷ 1 ∷ []) ∷
     (2 ∷ 1 ∷ 0 ∷ []) ∷ []
 
-unfoldable pub image : ℕ → ℕ → ℕ
-image o x = getD (getD images o []) x 0
+unfoldable pub codeAfter : ℕ → ℕ → ℕ
+codeAfter o x = getD (getD codesAfter o []) x 0
 
 -- row p, column q: the order p followed by the order q
 abbrev pub followings : List (List ℕ)

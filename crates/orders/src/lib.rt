@@ -1,7 +1,7 @@
 // Literal codes by themselves: the third of two codes, and the six orders of the codes 0, 1, 2. Each rule is a small constant table.
 ghost use mathlib.Core.Path.{_≡_};
 ghost use Rattle.orders.specs.Codes.{thirdOf};
-ghost use Rattle.orders.specs.Orders.{image, follow, inverse, letterOrder};
+ghost use Rattle.orders.specs.Orders.{codeAfter, follow, inverse, letterOrder};
 
 // The codes 0, 1, 2, and the orders 0 to 5.
 const CODES: u8 = 3;
@@ -51,8 +51,8 @@ pub fn third(x: u8, y: u8) -> u8
 }
 
 // What the order o makes of the code x; 0 where there is no such order or code.
-pub fn image(o: u8, x: u8) -> u8
-    ensures { λ r. ⌜ r ≡ image o x ⌝ }
+pub fn code_after(o: u8, x: u8) -> u8
+    ensures { λ r. ⌜ r ≡ codeAfter o x ⌝ }
 {
     if ORDERS <= o {
         return 0;

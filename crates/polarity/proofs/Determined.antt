@@ -7,7 +7,7 @@ use lib.ListN.{getD}
 use Rattle.bits.specs.Outcomes.{Determined}
 use Rattle.bits.proofs.Determined.{same, same-told}
 use Rattle.records.specs.Answers.{Outcome, accepted, refused, counted}
-use Rattle.records.proofs.Answering.{counted-back, counted-known}
+use Rattle.records.proofs.Answers.{counted-back, counted-known}
 use Rattle.polarity.specs.declared.Best.{Best}
 use Rattle.polarity.specs.declared.Best.the-variants as best-is
 use Rattle.polarity.specs.Calls.{found}

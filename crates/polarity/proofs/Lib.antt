@@ -1,9 +1,9 @@
 pub mod Subsets
 pub mod Parities
 pub mod Passes
-pub mod Listing
+pub mod Forms
 pub mod Theorems
 pub mod Uniqueness
-pub mod Checks
+pub mod Vectors
 pub mod Shown
 pub mod Determined

@@ -13,19 +13,12 @@ use borrow.Author.Tests.{eqb-true, eq-eqb, ne-eqb}
 use Rattle.bits.specs.Bits.{bit, withBit, within}
 use Rattle.bits.specs.Packed.{plusUpper, plusLower}
 use Rattle.bits.proofs.Bools.{below-or, all-at₂}
-use Rattle.bits.proofs.Bits.{bit-lt, bit-high, bit-xor, within-bit, weight-le, with-same, with-other, with-lt, is-with, pow-bit, pow-bit-other, differ-zero}
+use Rattle.bits.proofs.Bits.{bit-lt, bit-high, bit-xor, within-bit, weight-le, with-same, with-other, is-with, plus-with, plus-lt, pow-bit, pow-bit-other, differ-zero}
 use Rattle.polarity.specs.Forms.{parityWithin, coefficient}
 use Rattle.polarity.proofs.Subsets.{xor-assoc, xor-swap, xor-twice, xor-parity}
 use Rattle.polarity.proofs.Parities.{pow-double, parity-zero, parity-low, parity-top, parity-cong, parity-inside, parity-plus, parity-lt}
 
 -- ---- a set with variable k, and without it
-
-pub plus-with : (t k : ℕ) → bit t k ≡ 0 → t + 2 ^ k ≡ withBit t k 1
-unfolding withBit
-plus-with t k e = rw e (omega (arith, one-mul (2 ^ k)))
-
-pub plus-lt : (n k t : ℕ) → k < n → t < 2 ^ n → bit t k ≡ 0 → t + 2 ^ k < 2 ^ n
-plus-lt n k t hk ht e = subst (λ (x : ℕ). x < 2 ^ n) (sym (plus-with t k e)) (with-lt n k t 1 hk (lit< tt) ht)
 
 pub xor-with : (t k : ℕ) → bit t k ≡ 0 → bitXor t (2 ^ k) ≡ t + 2 ^ k
 xor-with t k e =

@@ -10,17 +10,18 @@ use lib.Bits.{bitXor}
 use lib.ListN.{List·getD-eq-default}
 use lib.Pow.{pow-mono, pow-pos}
 use Rattle.bits.specs.Below.{sumBelow}
-use Rattle.bits.specs.Packed.{bitAt, packed, plusUpper, plusLower, lowered, raised}
+use Rattle.bits.specs.Packed.{alone, bitAt, wordFrom, packed, plusUpper, plusLower, lowered, raised}
 use Rattle.bits.specs.declared.packed.Packed.{Packed}
-use Rattle.bits.proofs.Bits.{bit-zero}
+use Rattle.bits.proofs.Bits.{bit-zero, plus-lt}
 use Rattle.bits.proofs.Below.{sum-cong, sum-parts, sum-none}
 use Rattle.bits.proofs.packed.Passes.{plusUpper-cong, plusLower-cong, lowered-bit, raised-bit}
 use Rattle.bits.proofs.packed.Packing.{packed-bit}
+use Rattle.bits.proofs.packed.Alone.{packed-alone}
 use Rattle.polarity.specs.Forms.{parityWithin, coefficient, formFrom, countsOf}
 use Rattle.polarity.specs.Vectors.{byteAt, Vector}
 use Rattle.polarity.specs.Words.{Shows, passed, nonzero, countsIn}
-use Rattle.polarity.proofs.Passes.{plus-lt, minus-high, upper-none, lower-none, passes, passes-parity, coefficient-turned}
-use Rattle.polarity.proofs.Listing.{form-counts}
+use Rattle.polarity.proofs.Passes.{minus-high, upper-none, lower-none, passes, passes-parity, coefficient-turned}
+use Rattle.polarity.proofs.Forms.{form-counts}
 use Rattle.polarity.proofs.Theorems.{positive-coefficient}
 
 pub most : (n : ℕ) → n ≤ 8 → 2 ^ n ≤ 256
@@ -34,6 +35,10 @@ shows-vector n l v w e = record {
   where
     at : (t : ℕ) → t < 256 → bitAt w t ≡ byteAt l t
     at t h = ap (λ (x : Packed). bitAt x t) e ∙ packed-bit l (v .bits) t h
+
+-- with at most six variables
+pub alone-packed : (n : ℕ) (l : List ℕ) → Vector n l → n ≤ 6 → (x : ℕ) → x ≡ wordFrom l 0 → alone x ≡ packed l
+alone-packed n l v h x e = ap alone e ∙ sym (packed-alone l (omega (arith, v .long, pow-mono {j = 6} h)))
 
 pub shows-cong : (n : ℕ) (f g : ℕ → ℕ) (w : Packed) → ((t : ℕ) → t < 2 ^ n → f t ≡ g t) → Shows n f w → Shows n g w
 shows-cong n f g w e S = record { low = λ t m. S .low t m ∙ e t m; high = S .high }

@@ -21,7 +21,7 @@ use Rattle.polarity.specs.Vectors.{byteAt, Vector, coefficientVector, ve
 use Rattle.polarity.specs.Words.{nonzero}
 use Rattle.polarity.proofs.Subsets.{xor-twice}
 use Rattle.polarity.proofs.Parities.{parity-cong, parity-lt, parity-twice}
-use Rattle.polarity.proofs.Listing.{all-those, product-code, form-value, form-good, form-cong}
+use Rattle.polarity.proofs.Forms.{all-those, product-code, form-value, form-good, form-cong}
 
 -- ---- there and back
 

@@ -23,7 +23,7 @@ use Rattle.cube.specs.Lists.{listValue}
 use Rattle.cube.proofs.Codes.{code-absent, code-present, cube-ext, good-seen}
 use Rattle.polarity.specs.Forms.{coefficient, product, formFrom, formList, Ascending, variables, Form}
 use Rattle.polarity.specs.Words.{nonzero}
-use Rattle.polarity.proofs.Listing.{those-same, product-code, product-good, form-good}
+use Rattle.polarity.proofs.Forms.{those-same, product-code, product-good, form-good}
 use Rattle.polarity.proofs.Theorems.{literal-of-polarity-missing, form-unique}
 
 -- ---- a product is its set of variables

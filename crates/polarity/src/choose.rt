@@ -1,13 +1,18 @@
-// The best polarity of a truth vector. The coefficients are bits of four words. From those under one polarity, those with one more
+// The best polarity of a truth vector. The coefficients are bits of four words, or of one. From those under one polarity, those with one more
 // variable complemented come by one pass.
 use crate::Best;
 use crate::form;
+use crate::one_word;
 use crate::transform;
 use crate::vector;
 use bits::packed::Packed;
+use bits::packing;
+use bits::word;
 use records::Counted;
+ghost use mathlib.Core.Bool.{cond};
 ghost use mathlib.Core.Path.{_≡_};
 ghost use Prim.Native.Nat.{_+_, _^_, _≤_};
+ghost use Rattle.bits.specs.Packed.{alone};
 ghost use Rattle.polarity.specs.Forms.{size, bestPolarity};
 ghost use Rattle.polarity.specs.Vectors.{byteAt, Vector};
 ghost use Rattle.polarity.specs.Calls.{found, bestOutcome};
@@ -20,14 +25,27 @@ struct Chosen {
     least: usize,
 }
 
-// Of two that are each the best of a range, where the ranges lie side by side, the best of both: on a tie the lower.
+// x where the test passed, else y.
+fn either(t: bool, x: usize, y: usize) -> usize
+    ensures { λ r. ⌜ r ≡ cond t x y ⌝ }
+{
+    if t {
+        return x;
+    }
+    y
+}
+
+// Of two that are each the best of a range, where the ranges lie side by side, the best of both: on a tie the lower. Field by field, so that
+// all stay in registers: a struct that is chosen whole is chosen in memory.
 fn lesser_of(lower: Chosen, upper: Chosen) -> Chosen
     ensures { λ r. ⌜ r ≡ lesserOf lower upper ⌝ }
 {
-    if upper.least < lower.least {
-        return upper;
+    let t = upper.least < lower.least;
+    Chosen {
+        polarity: either(t, upper.polarity, lower.polarity),
+        products: either(t, upper.products, lower.products),
+        least: either(t, upper.least, lower.least),
     }
-    lower
 }
 
 // The best of one polarity.
@@ -89,11 +107,44 @@ fn best_from(k: usize, w: Packed, p: usize) -> Chosen
     lesser_of(best_from(j, w, p), best_from(j, w.lowered(j), p + h))
 }
 
+// The same from the bits of one word, for at least one variable and at most six. The compiler drops the three words that are 0.
+fn best_in_word(k: usize, x: u64, p: usize) -> Chosen
+    requires { ⌜ (1 ≤ k) × (k ≤ 6) × (p + 2 ^ k ≤ 256) ⌝ }
+    ensures { λ r. ⌜ r ≡ bestFrom k (alone x) p ⌝ }
+{
+    if k == 1 {
+        return best_of_two(Packed::alone(x), p);
+    }
+    let j = k - 1;
+    let h: usize = 1 << j;
+    lesser_of(
+        best_in_word(j, x, p),
+        best_in_word(j, word::lower_word(x, j), p + h),
+    )
+}
+
+// The best of all polarities of at most six variables; of none and of one without a call that calls itself.
+fn best_of_word(n: usize, x: u64) -> Chosen
+    requires { ⌜ n ≤ 6 ⌝ }
+    ensures { λ r. ⌜ r ≡ bestFrom n (alone x) 0 ⌝ }
+{
+    if n == 0 {
+        return best_of_one(Packed::alone(x), 0);
+    }
+    if n == 1 {
+        return best_of_two(Packed::alone(x), 0);
+    }
+    best_in_word(n, x, 0)
+}
+
 // The polarity of least rank, and of several such the smallest.
 fn find_best(n: usize, vector: &[u8]) -> Chosen
     requires { ⌜ Vector n (now vector) ⌝ }
     ensures { λ r. ⌜ (r .polarity ≡ bestPolarity n (byteAt (now (vector .entry)))) × (r .products ≡ size n (bestPolarity n (byteAt (now (vector .entry)))) (byteAt (now (vector .entry)))) ⌝ }
 {
+    if n <= word::VARIABLES {
+        return best_of_word(n, one_word::raised_below(n, packing::pack_word(vector, 0)));
+    }
     best_from(n, transform::raised_below(n, Packed::of(vector)), 0)
 }
 

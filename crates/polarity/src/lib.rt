@@ -1,6 +1,7 @@
 // Fixed-polarity forms of truth vectors.
 pub mod choose;
 pub mod form;
+mod one_word;
 pub mod transform;
 pub mod vector;
 

@@ -1,6 +1,9 @@
-// The coefficients of a vector under a polarity, and back, on the bits of four words. Both kinds of pass are their own inverse.
+// The coefficients of a vector under a polarity, and back, on the bits of four words, or of one. Both kinds of pass are their own inverse.
+use crate::one_word;
 use crate::vector;
 use bits::packed::Packed;
+use bits::packing;
+use bits::word;
 use records::Counted;
 use records::Refusal;
 ghost use mathlib.Core.Path.{_≡_};
@@ -66,6 +69,20 @@ fn transformed_bits(back: bool, n: usize, bytes: &[u8], p: usize) -> Packed
     turned_by(n, p, raised_below(n, w))
 }
 
+// The bytes of either transform, to a buffer of their number.
+fn put_transformed(back: bool, n: usize, bytes: &[u8], p: usize, out: &mut [u8])
+    requires { ⌜ Vector n (now bytes) × (p < 2 ^ n) × (length (now out) ≡ 2 ^ n) ⌝ }
+    ensures { λ _. ⌜ now (out .exit) ≡ listBelow (2 ^ n) (transformed back n p (byteAt (now (bytes .entry)))) ⌝ }
+{
+    if n <= word::VARIABLES {
+        let x = one_word::transformed_word(back, n, bytes, p);
+        packing::put_bits(x, out);
+        return;
+    }
+    let bits = transformed_bits(back, n, bytes, p);
+    bits.put(out);
+}
+
 // Refusals 1, 14, 15 and 5 of a vector, a polarity and a buffer of so many bytes, or the vector's length.
 fn check_room(n: usize, bytes: &[u8], p: u64, room: usize) -> Counted
     ensures { λ r. ⌜ counted r ≡ coefficientsOutcome n (now (bytes .entry)) p room ⌝ }
@@ -92,8 +109,7 @@ fn transform(back: bool, n: usize, bytes: &[u8], p: u64, out: &mut [u8]) -> Coun
     match check_room(n, bytes, p, out.len()) {
         Counted::Refused(r) => Counted::Refused(r),
         Counted::Count(m) => {
-            let bits = transformed_bits(back, n, bytes, p as usize);
-            bits.put(&mut out[..m]);
+            put_transformed(back, n, bytes, p as usize, &mut out[..m]);
             Counted::Count(m)
         }
     }

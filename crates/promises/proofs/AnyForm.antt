@@ -22,7 +22,7 @@ use Rattle.cube.specs.Cubes.{code, Good, holds}
 use Rattle.cube.specs.Lists.{trues, listValue}
 use Rattle.cube.proofs.Codes.{good-seen}
 use Rattle.polarity.specs.Forms.{parityWithin, coefficient, product, formFrom, formList}
-use Rattle.polarity.proofs.Listing.{tally-those, product-holds, form-value}
+use Rattle.polarity.proofs.Forms.{tally-those, product-holds, form-value}
 use Rattle.polarity.proofs.Theorems.{form-unique}
 use Rattle.polarity.proofs.Uniqueness.{form-is-only}
 

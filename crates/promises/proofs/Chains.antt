@@ -13,7 +13,7 @@ use lib.ListN.{length, getD}
 use Rattle.bits.specs.Sums.{firstBad}
 use Rattle.bits.proofs.Sums.{all-get, first-le, first-fails, first-lowest, first-none}
 use Rattle.records.specs.Answers.{Outcome, accepted, refused, refusal, unless, unlessAt, andThen}
-use Rattle.records.proofs.Answering.{and-then, and-not}
+use Rattle.records.proofs.Answers.{and-then, and-not}
 use Rattle.promises.specs.Refusals.{Lowest, Reason, at, lowest, numberOf, Wrong, NoneWrong, FirstWrong}
 
 -- ---- reasons

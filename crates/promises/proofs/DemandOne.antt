@@ -10,13 +10,13 @@ use lib.ListN.{length}
 use Rattle.records.specs.declared.Refusal.{Refusal}
 use Rattle.records.specs.Records.{zeros}
 use Rattle.records.specs.Answers.{Outcome, accepted, refused, refusal}
-use Rattle.records.proofs.Answering.{not-both, refused-same}
+use Rattle.records.proofs.Answers.{not-both, refused-same}
 use Rattle.cube.specs.declared.Cube.{Cube}
 use Rattle.cube.specs.Lists.{cubesOf, cubeCapacity}
 use Rattle.script.specs.Run.{Ran, stopped, ended}
 use Rattle.script.specs.Scripts.{stepsOf}
 use Rattle.script.specs.Calls.{runOf, ranOutcome, ranWork}
-use Rattle.script.proofs.Stopping.{stopped-steps, stopped-place, stopped-number}
+use Rattle.script.proofs.Refusals.{stopped-steps, stopped-place, stopped-number}
 use Rattle.settling.specs.Calls.{ranSettled, ranBurned}
 use Rattle.promises.specs.Calls.{Call, check, value, truthVector, coefficients, vectorBack, writeForm, bestPolarity, run, settle, answers, lent, leaves, Called}
 use Rattle.promises.specs.Refusals.{NoneWrong, FirstWrong, reasons, RefusedBefore, Stopped, RefusedAtStep, in-run, in-settle}

@@ -13,7 +13,7 @@ use Rattle.bits.specs.Bits.{bit}
 use Rattle.bits.specs.Sums.{All}
 use Rattle.records.specs.Records.{records, zeros}
 use Rattle.records.specs.Answers.{Outcome}
-use Rattle.records.proofs.Holding.{length-records, length-list}
+use Rattle.records.proofs.Records.{length-records, length-list}
 use Rattle.cube.specs.declared.Cube.{Cube}
 use Rattle.cube.specs.Cubes.{code, Good}
 use Rattle.cube.specs.Lists.{cubes, cubesOf, cubeCapacity, recordWidth, mostRecords, mostVariables, vectorVariables, listValue}
@@ -26,7 +26,7 @@ use Rattle.settling.specs.declared.Settled.the-variants as settled-is
 use Rattle.settling.specs.declared.Settlement.{Settlement}
 use Rattle.settling.specs.Candidates.{burnedList}
 use Rattle.settling.specs.Calls.{settled}
-use Rattle.settling.proofs.Outcomes.{Passing, passing, BurnedBy, settle-burned}
+use Rattle.settling.proofs.Outcomes.{AcceptedSettle, settle-checked, BurnedBy, settle-burned}
 use Rattle.promises.specs.Calls.{settle, Called}
 use Rattle.promises.specs.Refusals.{NoneWrong, reasons}
 use Rattle.promises.specs.Accepted.{EndOfScript, ScriptEnds}
@@ -50,8 +50,8 @@ module _ (n : ℕ) (list script work out : List ℕ) (s : Settlement) (work′ o
   acc : Accepting n list script work out s work′ out′
   acc = called-accepted n list script work out work′ out′ s c
 
-  passed : Passing n list script (length work) (length out)
-  passed = passing n list script (length work) (length out) (acc .end .values) (acc .end .checked)
+  passed : AcceptedSettle n list script (length work) (length out)
+  passed = settle-checked n list script (length work) (length out) (acc .end .values) (acc .end .checked)
 
   abbrev result : List Cube
   result = acc .end .result

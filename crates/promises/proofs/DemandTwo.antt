@@ -32,7 +32,7 @@ use Rattle.script.specs.Run.{ended, undo, run}
 use Rattle.script.specs.Counts.{howMany, lists, greatest}
 use Rattle.script.specs.Scripts.{stepsOf}
 use Rattle.script.specs.Calls.{runOf}
-use Rattle.script.proofs.Counting as counting
+use Rattle.script.proofs.Counts as counting
 use Rattle.polarity.specs.Forms.{parityWithin, coefficient, formFrom, formList, Form, size, bestPolarity}
 use Rattle.polarity.specs.Vectors.{byteAt, Vector, coefficientVector, vectorBack}
 use Rattle.polarity.proofs.Theorems as theorems

@@ -13,17 +13,17 @@ use Rattle.bits.specs.Sums.{sum, oneIf}
 use Rattle.bits.proofs.Below.{length-listBelow, getD-listBelow}
 use Rattle.records.specs.Records.{flat, image}
 use Rattle.records.specs.Answers.{Outcome, accepted}
-use Rattle.records.proofs.Answering.{not-both}
+use Rattle.records.proofs.Answers.{not-both}
 use Rattle.records.proofs.Images.{length-flat}
-use Rattle.records.proofs.Holding.{capacity-fits, capacity-most, written-front}
+use Rattle.records.proofs.Records.{capacity-fits, capacity-most, written-front}
 use Rattle.cube.specs.declared.Cube.{Cube}
 use Rattle.cube.specs.Cubes.{holds}
 use Rattle.cube.specs.Lists.{cubes, cubesOf, cubeCapacity, mostVariables, mostRecords, recordWidth, vectorVariables, listValue, trues, truthVector}
-use Rattle.cube.proofs.ListLaws.{lawful}
+use Rattle.cube.proofs.Lists.{lawful}
 use Rattle.cube.proofs.Meaning.{value-is-exor}
 use Rattle.polarity.specs.Forms.{coefficient, valueBack, formFrom, formList, size}
 use Rattle.polarity.specs.Vectors.{byteAt, Vector, coefficientVector, vectorBack}
-use Rattle.polarity.proofs.Listing.{form-good, form-cong}
+use Rattle.polarity.proofs.Forms.{form-good, form-cong}
 use Rattle.polarity.proofs.Parities.{parity-lt}
 use Rattle.polarity.proofs.Theorems.{there-and-back, back-and-there, form-has-the-value, best-has-fewest}
 use Rattle.script.specs.Run.{Ran, stopped, ended, run}

@@ -10,7 +10,7 @@ use lib.ListN.{length}
 use Rattle.records.specs.declared.Refusal.{Refusal}
 use Rattle.records.specs.Records.{listOf}
 use Rattle.records.specs.Answers.{Outcome, accepted, refused, refusal, unless, andThen}
-use Rattle.records.proofs.Answering.{and-then, and-not, after-refused, after-accepted}
+use Rattle.records.proofs.Answers.{and-then, and-not, after-refused, after-accepted}
 use Rattle.cube.specs.Cubes.{good, one}
 use Rattle.cube.specs.Lists.{mostVariables, vectorVariables, mostRecords, recordWidth, cubesOf, cubeCapacity}
 use Rattle.cube.specs.Calls.{checkList, valueOutcome, vectorOutcome, vectorAfter}

@@ -14,21 +14,21 @@ use Rattle.bits.proofs.Below.{length-listBelow, getD-listBelow}
 use Rattle.bits.proofs.Sums.{all-map}
 use Rattle.records.specs.Records.{records, listOf, flat, filled, image, Holds}
 use Rattle.records.proofs.Images.{length-flat}
-use Rattle.records.proofs.Holding.{holds-records}
+use Rattle.records.proofs.Records.{holds-records}
 use Rattle.cube.specs.declared.Cube.{Cube}
 use Rattle.cube.specs.Cubes.{good, Good, one}
 use Rattle.cube.specs.Lists.{cubes, cubesOf, mostRecords, recordWidth, vectorVariables}
 use Rattle.cube.proofs.Codes.{parts-good}
 use Rattle.cube.specs.Calls.{checkList}
-use Rattle.cube.proofs.ListLaws as list-laws
-use Rattle.cube.proofs.ListLaws.{lawful, good-at}
+use Rattle.cube.proofs.Lists as list-laws
+use Rattle.cube.proofs.Lists.{lawful, good-at}
 use Rattle.polarity.specs.Vectors.{Vector, checkVector}
-use Rattle.polarity.proofs.Checks.{check-accepts}
+use Rattle.polarity.proofs.Vectors.{check-accepts}
 use Rattle.steps.specs.Steps.{Allowed, meaning}
 use Rattle.script.specs.Scripts.{stepRecords, fits, stepsOf}
 use Rattle.script.specs.Calls.{checkScript}
-use Rattle.script.proofs.Codec.{meaning-fits}
-use Rattle.script.proofs.Reading.{script-accepts}
+use Rattle.script.proofs.Scripts.{meaning-fits}
+use Rattle.script.proofs.Scripts.{script-accepts}
 use Rattle.promises.specs.Calls as call
 use Rattle.promises.specs.Refusals.{NoneWrong, listReasons, scriptReasons, vectorReasons, reasons}
 use Rattle.promises.proofs.Chains.{none-both, judged-right}
@@ -52,7 +52,7 @@ pub fit-script : (n : ℕ) (script : List ℕ) → NoneWrong (scriptReasons n sc
 unfolding stepsOf
 fit-script n script none =
     let s = script-accepts n script _ (judged-right (scriptReasons n script) (checkScript n script) _ (by-script n script) none) in
-    all-map (λ r. fits n r ≡ true) (Allowed n) meaning (meaning-fits n) (listOf stepRecords script) (s .fit)
+    all-map (λ r. fits n r ≡ true) (Allowed n) meaning (meaning-fits n) (listOf stepRecords script) (s .each)
 
 pub is-vector : (n : ℕ) (l : List ℕ) → NoneWrong (vectorReasons n l) → Vector n l
 is-vector n l none = check-accepts n l _ (judged-right (vectorReasons n l) (checkVector n l) _ (by-vector n l) none)

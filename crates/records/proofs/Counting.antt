@@ -11,7 +11,7 @@ use Rattle.bits.specs.Sums.{oneIf, tally, firstBad}
 use Rattle.bits.proofs.Bools.{one-lt}
 use Rattle.bits.proofs.Sums.{tally-on, tally-end, tally-none}
 use Rattle.records.specs.Records.{Codec, listOf}
-use Rattle.records.proofs.Holding.{length-list}
+use Rattle.records.proofs.Records.{length-list}
 
 -- t of the first i records pass
 pub record Counting {A : Type 0} (C : Codec A) (test : A → Bool) (b : List ℕ) (t i : ℕ) : Type 0 where

@@ -96,7 +96,7 @@ module _ {A : Type 0} (enc : A → List ℕ) (w : ℕ) (len : (a : A) → length
   flat-listBelow zero f [] e h = refl
   flat-listBelow zero f (x ∷ s) e h = absurd (suc-ne-zero (length s) (e ∙ mul-zero w))
   flat-listBelow (suc k) f s e h =
-      let size : length s ≡ w * k + w = e ∙ mul-suc w k in
+      let long : length s ≡ w * k + w = e ∙ mul-suc w k in
       let front : length (take w s) ≡ w = length-take-le w s (omega arith) in
       let first : enc (f zero) ≡ take w s =
       ext-getD 0 (enc (f zero)) (take w s) (len (f zero) ∙ sym front) (λ r hr.
@@ -132,7 +132,7 @@ module _ {A : Type 0} (enc : A → List ℕ) (w : ℕ) (len : (a : A) → length
     unfolding filled
     image-zero n l h =
         let more : flat enc (l ++ (z ∷ [])) ≡ flat enc l ++ replicate w 0 = flat-append enc l (z ∷ []) ∙ ap (λ (t : List ℕ). flat enc l ++ t) (append-nil (enc z) ∙ zero-record) in
-        let size : length (flat enc (l ++ (z ∷ []))) ≡ length (flat enc l) + w = ap length more ∙ length-append (flat enc l) (replicate w 0) ∙ ap (λ (k : ℕ). length (flat enc l) + k) (length-replicate w 0) in
+        let long : length (flat enc (l ++ (z ∷ []))) ≡ length (flat enc l) + w = ap length more ∙ length-append (flat enc l) (replicate w 0) ∙ ap (λ (k : ℕ). length (flat enc l) + k) (length-replicate w 0) in
         let fits : length (flat enc l) + w ≤ n = omega (arith, length-flat l, mul-suc w (length l)) in
         let left : w + (n - length (flat enc (l ++ (z ∷ [])))) ≡ n - length (flat enc l) = omega arith in
         ap (λ (t : List ℕ). t ++ replicate (n - length (flat enc (l ++ (z ∷ [])))) 0) more

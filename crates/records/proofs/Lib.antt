@@ -1,9 +1,11 @@
-pub mod NumberLaws
+pub mod Widths
 pub mod Filling
 pub mod Images
-pub mod Holding
-pub mod FieldLaws
+pub mod Records
+pub mod Fields
 pub mod Looking
+pub mod Striding
 pub mod Counting
-pub mod Answering
+pub mod Answers
+pub mod Checks
 pub mod Determined

@@ -11,7 +11,7 @@ use lib.ListN.{length, getD, drop}
 use Rattle.bits.specs.Sums.{firstBad}
 use Rattle.bits.proofs.Sums.{looking-on, looking-here, looking-end}
 use Rattle.records.specs.Records.{Codec, listOf}
-use Rattle.records.proofs.Holding.{length-list}
+use Rattle.records.proofs.Records.{length-list}
 
 -- the first i records pass
 pub record Looking {A : Type 0} (C : Codec A) (test : A → Bool) (b : List ℕ) (i : ℕ) : Type 0 where

@@ -1,6 +1,7 @@
 -- What a call answers: document 01's values, or a refusal with its number and its place. Document 01, "Refusal numbers and places".
 -- Assumes nothing.
 use Prim.Native.Nat.{ℕ}
+use mathlib.Core.Path.{_≡_}
 use mathlib.Core.Bool.{Bool, true, false}
 use mathlib.Core.List.{List, [], _∷_}
 use lib.Dec.{eqb}
@@ -18,6 +19,11 @@ refusal number place = record { number = number; place = place }
 pub data Outcome : Type 0 where
   accepted : List ℕ → Outcome
   refused : Refusal → Outcome
+
+-- a chain of tests accepts
+pub record Accepts (o : Outcome) : Type 0 where
+  pub values : List ℕ
+  pub is : o ≡ accepted values
 
 -- the refusal with this number at this place, unless the test passes
 abbrev pub unless : Bool → ℕ → ℕ → Outcome → Outcome

@@ -3,3 +3,4 @@ pub mod Places
 pub mod Records
 pub mod Fields
 pub mod Answers
+pub mod Strides

@@ -21,13 +21,13 @@ abbrev pub flat : {A : Type 0} → (A → List ℕ) → List A → List ℕ
 flat enc [] = []
 flat enc (a ∷ l) = enc a ++ flat enc l
 
--- bytes at the front, and zeros after them up to a size
+-- bytes at the front, and zeros after them up to so many
 unfoldable pub filled : ℕ → List ℕ → List ℕ
-filled size s = s ++ replicate (size - length s) 0
+filled room s = s ++ replicate (room - length s) 0
 
 -- a buffer of so many bytes, all zero
 abbrev pub zeros : ℕ → List ℕ
-zeros size = replicate size 0
+zeros room = replicate room 0
 
 -- what a buffer d holds after it was filled with the bytes s: unchanged where they don't fit
 unfoldable pub filledBy : List ℕ → List ℕ → List ℕ
@@ -53,7 +53,7 @@ module _ {A : Type 0} (C : Codec A) where
 
   -- a buffer of so many bytes that holds a list, and zeros after it
   unfoldable pub image : ℕ → List A → List ℕ
-  image size l = filled size (flat (C .enc) l)
+  image room l = filled room (flat (C .enc) l)
 
   -- the buffer b holds the list l, and zeros after it
   unfoldable pub Holds : List ℕ → List A → Type 0
@@ -65,4 +65,4 @@ module _ {A : Type 0} (C : Codec A) where
 
   -- "Capacity of a lent work or output buffer: its length divided by" the width of a record, "rounded down, and at most" the limit
   unfoldable pub capacityOf : ℕ → ℕ → ℕ
-  capacityOf limit size = min (size / C .width) limit
+  capacityOf limit room = min (room / C .width) limit

@@ -42,12 +42,12 @@ pub fn clear(buf: &mut [u8])
 pub fn fill(buf: &mut [u8], list: &[u8])
     ensures { λ _. ⌜ now (buf .exit) ≡ filledBy (now (buf .entry)) (now (list .entry)) ⌝ }
 {
-    let size = list.len();
-    if buf.len() < size {
+    let end = list.len();
+    if buf.len() < end {
         return;
     }
     let mut k = 0;
-    while k < size {
+    while k < end {
         buf[k] = list[k];
         k += 1;
     }

@@ -1,13 +1,13 @@
 -- Two outcomes that satisfy the contract of a public function of this crate are equal.
 -- Assumes nothing.
-use mathlib.Core.Path.{_≡_, refl, ap}
+use mathlib.Core.Path.{_≡_, refl, ap, ap₂}
 use mathlib.Core.List.{List}
 use Prim.Native.Nat.{ℕ}
 use lib.ListN.{getD}
 use Rattle.bits.specs.Outcomes.{Determined}
 use Rattle.bits.proofs.Determined.{same, same-told}
 use Rattle.records.specs.Answers.{Outcome, accepted, refused, counted}
-use Rattle.records.proofs.Answering.{counted-back, counted-known}
+use Rattle.records.proofs.Answers.{counted-back, counted-known}
 use Rattle.script.specs.declared.Finished.{Finished}
 use Rattle.script.specs.declared.Finished.the-variants as finished-is
 use Rattle.script.specs.Calls.{finished}
@@ -17,12 +17,14 @@ use Rattle.script.proofs.record.put_step.Kinds as put-step-kinds
 use Rattle.script.proofs.record.put_step.Reads as put-step-reads
 use Rattle.script.proofs.check.check_script.Kinds as check-script-kinds
 use Rattle.script.proofs.check.check_script.Reads as check-script-reads
-use Rattle.script.proofs.run.pended.Kinds as pended-kinds
-use Rattle.script.proofs.run.pended.Reads as pended-reads
+use Rattle.script.proofs.run.pend_step.Kinds as pend-step-kinds
+use Rattle.script.proofs.run.pend_step.Reads as pend-step-reads
 use Rattle.script.proofs.run.advance.Kinds as advance-kinds
 use Rattle.script.proofs.run.advance.Reads as advance-reads
 use Rattle.script.proofs.run.undo.Kinds as undo-kinds
 use Rattle.script.proofs.run.undo.Reads as undo-reads
+use Rattle.script.proofs.run.run_checked.Kinds as run-checked-kinds
+use Rattle.script.proofs.run.run_checked.Reads as run-checked-reads
 use Rattle.script.proofs.run.run.Kinds as run-kinds
 use Rattle.script.proofs.run.run.Reads as run-reads
 
@@ -45,15 +47,19 @@ put-step-determined κs a z z′ ws ws′ p q = (refl, ap (λ (b : List ℕ). (b
 pub check-script-determined : Determined 1 check-script-kinds.ps check-script-kinds.r check-script-reads.Learnt
 check-script-determined κs a z z′ ws ws′ p q = (same-told counted counted-back counted-known p q, refl)
 
-pub pended-determined : Determined 0 pended-kinds.ps pended-kinds.r pended-reads.Learnt
-pended-determined κs a z z′ ws ws′ p q = (same p q, refl)
+pub pend-step-determined : Determined 1 pend-step-kinds.ps pend-step-kinds.r pend-step-reads.Learnt
+pend-step-determined κs a z z′ ws ws′ p q = (refl, ap (λ (os : List ℕ). (os, (tt, tt))) (same p q))
 
-pub advance-determined : Determined 1 advance-kinds.ps advance-kinds.r advance-reads.Learnt
+pub advance-determined : Determined 2 advance-kinds.ps advance-kinds.r advance-reads.Learnt
 advance-determined κs a z z′ ws ws′ p q =
-    (same (p .0) (q .0), ap (λ (b : List ℕ). (b, (tt, (tt, (tt, (tt, (tt, tt))))))) (same (p .1) (q .1)))
+    (same (p .0) (q .0), ap₂ (λ (b os : List ℕ). (b, (os, (tt, (tt, (tt, (tt, tt))))))) (same (p .1 .0) (q .1 .0)) (same (p .1 .1) (q .1 .1)))
 
 pub undo-determined : Determined 1 undo-kinds.ps undo-kinds.r undo-reads.Learnt
 undo-determined κs a z z′ ws ws′ p q = (refl, ap (λ (b : List ℕ). (b, (tt, (tt, (tt, tt))))) (same p q))
+
+pub run-checked-determined : Determined 3 run-checked-kinds.ps run-checked-kinds.r run-checked-reads.Learnt
+run-checked-determined κs a z z′ ws ws′ p q =
+    (same-told finished finished-back finished-known (p .0) (q .0), ap (λ (b : List ℕ). (tt, (tt, (tt, (b, tt))))) (same (p .1) (q .1)))
 
 pub run-determined : Determined 3 run-kinds.ps run-kinds.r run-reads.Learnt
 run-determined κs a z z′ ws ws′ p q =

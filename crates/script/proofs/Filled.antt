@@ -8,13 +8,13 @@ use lib.ListN.{length, getD}
 use Rattle.bits.specs.Sums.{All}
 use Rattle.records.specs.Records.{Holds, Held, records, listOf, filledBy, flat}
 use Rattle.records.proofs.Filling.{filled-by, length-filled-by}
-use Rattle.records.proofs.Holding.{length-records, holds-held, holds-records, filled-holds}
+use Rattle.records.proofs.Records.{length-records, holds-held, holds-records, filled-holds}
 use Rattle.cube.specs.Cubes.{Good}
 use Rattle.cube.specs.Lists.{cubes, cubesOf, recordWidth, mostVariables}
-use Rattle.cube.proofs.ListLaws.{lawful, Accepted, cubes-bytes}
+use Rattle.cube.proofs.Lists.{lawful, AcceptedList, cubes-bytes}
 use Rattle.steps.specs.Calls.{Ready}
 
-module _ (n : ℕ) (list work : List ℕ) (ok : Accepted mostVariables n list) (small : (i : ℕ) → getD list i 0 < 256) (fits : length list ≤ length work)
+module _ (n : ℕ) (list work : List ℕ) (ok : AcceptedList mostVariables n list) (small : (i : ℕ) → getD list i 0 < 256) (fits : length list ≤ length work)
     (w : List ℕ) (e : w ≡ filledBy work list) where
   abbrev count : ℕ
   count = length list / recordWidth

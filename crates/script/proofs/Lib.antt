@@ -1,10 +1,9 @@
 pub mod Runs
 pub mod Pending
 pub mod Value
-pub mod Counting
-pub mod Codec
-pub mod Stopping
-pub mod Reading
+pub mod Counts
+pub mod Scripts
+pub mod Refusals
 pub mod Filled
 pub mod Outcomes
 pub mod Determined

@@ -11,91 +11,90 @@ use lib.Dec.{leb}
 use lib.ListN.{length}
 use Rattle.records.specs.declared.Refusal.{Refusal}
 use Rattle.records.specs.Records.{image, zeros}
-use Rattle.records.specs.Answers.{Outcome, accepted, refused, refusal, unless, andThen}
-use Rattle.records.proofs.Answering.{not-both, accepted-values, refused-same, unless-accepted, both-accepted, and-then, and-not}
-use Rattle.records.proofs.Holding.{length-list}
+use Rattle.records.specs.Answers.{Outcome, accepted, refused, refusal, unless, andThen, Accepts}
+use Rattle.records.proofs.Answers.{not-both, accepted-values, refused-same, unless-accepted, both-accepted, and-then, and-not}
+use Rattle.records.proofs.Records.{length-list}
 use Rattle.cube.specs.declared.Cube.{Cube}
 use Rattle.cube.specs.Lists.{cubes, cubesOf, cubeCapacity, recordWidth, mostVariables}
 use Rattle.cube.specs.Calls.{checkList}
-use Rattle.cube.proofs.ListLaws.{Accepted, check-accepts}
+use Rattle.cube.proofs.Lists.{AcceptedList, check-accepts}
 use Rattle.script.specs.Run.{Ran, stopped, ended}
 use Rattle.script.specs.Calls.{checkScript, checkRun, runOf, ranOutcome, runOutcome, ranWork, workAfter, runAfter}
-use Rattle.script.specs.Progress.{Passed}
-use Rattle.script.proofs.Reading.{AcceptedScript, script-accepts}
+use Rattle.script.proofs.Scripts.{AcceptedScript, script-accepts}
 
 -- ---- the checks before any step
 
-module _ (n : ℕ) (list script : List ℕ) (size : ℕ) where
-  pub run-list-refused : (r : Refusal) → checkList mostVariables n list ≡ refused r → refused r ≡ checkRun n list script size
+module _ (n : ℕ) (list script : List ℕ) (room : ℕ) where
+  pub run-list-refused : (r : Refusal) → checkList mostVariables n list ≡ refused r → refused r ≡ checkRun n list script room
   unfolding checkRun
   run-list-refused r e = sym (and-not _ _ r e)
 
-  module _ (v : List ℕ) (e : checkList mostVariables n list ≡ accepted v) (cap : ℕ) (ec : cap ≡ cubeCapacity size) where
-    pub run-short : (r : Refusal) → r ≡ refusal 5 0 → cap < length list / recordWidth → refused r ≡ checkRun n list script size
+  module _ (v : List ℕ) (e : checkList mostVariables n list ≡ accepted v) (cap : ℕ) (ec : cap ≡ cubeCapacity room) where
+    pub run-short : (r : Refusal) → r ≡ refusal 5 0 → cap < length list / recordWidth → refused r ≡ checkRun n list script room
     unfolding checkRun
     run-short r er h =
-        let f : cubeCapacity size < length (cubesOf list) = omega (arith, ec, length-list cubes list) in
+        let f : cubeCapacity room < length (cubesOf list) = omega (arith, ec, length-list cubes list) in
         ap refused er ∙ sym (and-then _ _ v e ∙ ap (λ (t : Bool). unless t 5 0 (checkScript n script)) (lt-leb _ _ f))
 
-    pub run-script : length list / recordWidth ≤ cap → checkScript n script ≡ checkRun n list script size
+    pub run-script : length list / recordWidth ≤ cap → checkScript n script ≡ checkRun n list script room
     unfolding checkRun
     run-script h =
-        let f : length (cubesOf list) ≤ cubeCapacity size = omega (arith, ec, length-list cubes list) in
+        let f : length (cubesOf list) ≤ cubeCapacity room = omega (arith, ec, length-list cubes list) in
         sym (and-then _ _ v e ∙ ap (λ (t : Bool). unless t 5 0 (checkScript n script)) (le-leb _ _ f))
 
   -- what passed
-  pub record Runnable : Type 0 where
-    pub list-is : Accepted mostVariables n list
-    pub room : length list / recordWidth ≤ cubeCapacity size
+  pub record AcceptedRun : Type 0 where
+    pub list-is : AcceptedList mostVariables n list
+    pub fits : length list / recordWidth ≤ cubeCapacity room
     pub script-is : AcceptedScript n script
 
-  pub runnable : Passed (checkRun n list script size) → Runnable
+  pub run-checked : Accepts (checkRun n list script room) → AcceptedRun
   unfolding checkRun
-  runnable p =
+  run-checked p =
       let b = both-accepted (checkList mostVariables n list) _ (p .values) (p .is) in
-      let c = unless-accepted (leb (length (cubesOf list)) (cubeCapacity size)) 5 0 (checkScript n script) (p .values) (b .second) in
+      let c = unless-accepted (leb (length (cubesOf list)) (cubeCapacity room)) 5 0 (checkScript n script) (p .values) (b .second) in
       record {
         list-is = check-accepts mostVariables n list (b .values) (b .first);
-        room = omega (arith, leb-true (length (cubesOf list)) (cubeCapacity size) (c .0), length-list cubes list);
+        fits = omega (arith, leb-true (length (cubesOf list)) (cubeCapacity room) (c .0), length-list cubes list);
         script-is = script-accepts n script (p .values) (c .1);
       }
 
 -- ---- the outcome, for crates above: Three and Eight wait for it
 
-pub passed : (o : Outcome) (v : List ℕ) → o ≡ accepted v → Passed o
+pub passed : (o : Outcome) (v : List ℕ) → o ≡ accepted v → Accepts o
 passed o v e = record { values = v; is = e }
 
 -- an accepted run: its checks passed, and its steps ended in a list
-pub record RunEnded (n : ℕ) (list script : List ℕ) (size : ℕ) (v : List ℕ) : Type 0 where
-  pub checks : Passed (checkRun n list script size)
+pub record RunEnded (n : ℕ) (list script : List ℕ) (room : ℕ) (v : List ℕ) : Type 0 where
+  pub checks : Accepts (checkRun n list script room)
   pub result : List Cube
   pub peak : ℕ
-  pub ran : runOf n list script size ≡ ended result peak
+  pub ran : runOf n list script room ≡ ended result peak
   pub values : v ≡ length result ∷ peak ∷ []
 
 -- one refused at a step
-pub record RunStopped (n : ℕ) (list script : List ℕ) (size : ℕ) (r : Refusal) : Type 0 where
-  pub checks : Passed (checkRun n list script size)
-  pub ran : runOf n list script size ≡ stopped (r .number) (r .place)
+pub record RunStopped (n : ℕ) (list script : List ℕ) (room : ℕ) (r : Refusal) : Type 0 where
+  pub checks : Accepts (checkRun n list script room)
+  pub ran : runOf n list script room ≡ stopped (r .number) (r .place)
 
-module _ (n : ℕ) (list script : List ℕ) (size : ℕ) where
-  pub run-accepted : (v : List ℕ) → runOutcome n list script size ≡ accepted v → RunEnded n list script size v
+module _ (n : ℕ) (list script : List ℕ) (room : ℕ) where
+  pub run-accepted : (v : List ℕ) → runOutcome n list script room ≡ accepted v → RunEnded n list script room v
   unfolding runOutcome
   run-accepted v e =
-      let b = both-accepted (checkRun n list script size) _ v e in
-      go (passed (checkRun n list script size) (b .values) (b .first)) (runOf n list script size) refl (b .second)
+      let b = both-accepted (checkRun n list script room) _ v e in
+      go (passed (checkRun n list script room) (b .values) (b .first)) (runOf n list script room) refl (b .second)
     where
-      go : Passed (checkRun n list script size) → (t : Ran Cube) → runOf n list script size ≡ t → ranOutcome t ≡ accepted v → RunEnded n list script size v
+      go : Accepts (checkRun n list script room) → (t : Ran Cube) → runOf n list script room ≡ t → ranOutcome t ≡ accepted v → RunEnded n list script room v
       go p (stopped number step) is e = absurd (not-both (sym e))
       go p (ended l peak) is e = record { checks = p; result = l; peak = peak; ran = is; values = sym (accepted-values e) }
 
   -- refused before the first step, or at a step
-  pub run-refused-by : (r : Refusal) → runOutcome n list script size ≡ refused r → (checkRun n list script size ≡ refused r) ⊎ RunStopped n list script size r
+  pub run-refused-by : (r : Refusal) → runOutcome n list script room ≡ refused r → (checkRun n list script room ≡ refused r) ⊎ RunStopped n list script room r
   unfolding runOutcome
-  run-refused-by r e = go (checkRun n list script size) (runOf n list script size) refl refl e
+  run-refused-by r e = go (checkRun n list script room) (runOf n list script room) refl refl e
     where
-      go : (o : Outcome) (t : Ran Cube) → checkRun n list script size ≡ o → runOf n list script size ≡ t → andThen o (ranOutcome t) ≡ refused r
-          → (checkRun n list script size ≡ refused r) ⊎ RunStopped n list script size r
+      go : (o : Outcome) (t : Ran Cube) → checkRun n list script room ≡ o → runOf n list script room ≡ t → andThen o (ranOutcome t) ≡ refused r
+          → (checkRun n list script room ≡ refused r) ⊎ RunStopped n list script room r
       go (refused q) t eo et e = inl (eo ∙ e)
       go (accepted v) (ended l peak) eo et e = absurd (not-both e)
       go (accepted v) (stopped number step) eo et e =

@@ -17,9 +17,9 @@ use Rattle.cube.specs.Cubes.{code, Good}
 use Rattle.cube.specs.Lists.{mostVariables}
 use Rattle.cube.proofs.Codes.{code-lt, cube-ext}
 use Rattle.orders.specs.Codes.{exchange}
-use Rattle.orders.specs.Orders.{orderCount, noOrder, image, follow, inverse, letterOrder}
-use Rattle.orders.proofs.CodeLaws.{exchange-permutes}
-use Rattle.orders.proofs.OrderLaws.{image-permutes, follow-lt, inverse-lt, image-follow, inverse-following, image-none, inverse-none, letter-lt, image-letter, letter-inverse}
+use Rattle.orders.specs.Orders.{orderCount, noOrder, codeAfter, follow, inverse, letterOrder}
+use Rattle.orders.proofs.Codes.{exchange-permutes}
+use Rattle.orders.proofs.Orders.{code-after-permutes, follow-lt, inverse-lt, code-after-follow, inverse-following, code-after-none, inverse-none, letter-lt, code-after-letter, letter-inverse}
 use Rattle.steps.specs.Steps.{Step, drop, join, split, turn, L, Allowed, exchanged, reordered}
 use Rattle.steps.proofs.Linear.{exchanged-moved, reordered-moved, code-moved, code-moved-other, reordered-good}
 use Rattle.steps.proofs.Kept.{takenBack, taken-back-good}
@@ -92,26 +92,26 @@ module _ (os : List ℕ) (a : All IsOrder os) (c : Cube) where
   restored-good n zero h g = g
   restored-good n (suc m) h g = reordered-good n m (inverse (getD os m noOrder)) h (back-lt m) (restored m os c) (restored-good n m (omega arith) g)
 
-  code-back : (d : Cube) (m : ℕ) → code (reordered m (inverse (getD os m noOrder)) d) m ≡ image (inverse (getD os m noOrder)) (code d m)
+  code-back : (d : Cube) (m : ℕ) → code (reordered m (inverse (getD os m noOrder)) d) m ≡ codeAfter (inverse (getD os m noOrder)) (code d m)
   code-back d m = ap (λ (x : Cube). code x m) (reordered-moved m (inverse (getD os m noOrder)) d)
-      ∙ code-moved (image (inverse (getD os m noOrder))) (image-permutes (inverse (getD os m noOrder)) (back-lt m)) m d
+      ∙ code-moved (codeAfter (inverse (getD os m noOrder))) (code-after-permutes (inverse (getD os m noOrder)) (back-lt m)) m d
 
   code-back-other : (d : Cube) (m k : ℕ) → k ≢ m → code (reordered m (inverse (getD os m noOrder)) d) k ≡ code d k
   code-back-other d m k e = ap (λ (x : Cube). code x k) (reordered-moved m (inverse (getD os m noOrder)) d)
-      ∙ code-moved-other (image (inverse (getD os m noOrder))) (image-permutes (inverse (getD os m noOrder)) (back-lt m)) m d k e
+      ∙ code-moved-other (codeAfter (inverse (getD os m noOrder))) (code-after-permutes (inverse (getD os m noOrder)) (back-lt m)) m d k e
 
   pub restored-above : (m k : ℕ) → m ≤ k → code (restored m os c) k ≡ code c k
   unfolding restored
   restored-above zero k h = refl
   restored-above (suc m) k h = code-back-other (restored m os c) m k (omega arith) ∙ restored-above m k (omega arith)
 
-  pub restored-code : (m k : ℕ) → k < m → code (restored m os c) k ≡ image (inverse (getD os k noOrder)) (code c k)
+  pub restored-code : (m k : ℕ) → k < m → code (restored m os c) k ≡ codeAfter (inverse (getD os k noOrder)) (code c k)
   unfolding restored
   restored-code zero k h = absurd (not-suc-le-zero h)
   restored-code (suc m) k h =
       elim (ℕ-discrete k m) [
-        | yes e ↦ subst (λ (k : ℕ). code (restored (suc m) os c) k ≡ image (inverse (getD os k noOrder)) (code c k)) (sym e)
-            (code-back (restored m os c) m ∙ ap (image (inverse (getD os m noOrder))) (restored-above m m (omega arith)))
+        | yes e ↦ subst (λ (k : ℕ). code (restored (suc m) os c) k ≡ codeAfter (inverse (getD os k noOrder)) (code c k)) (sym e)
+            (code-back (restored m os c) m ∙ ap (codeAfter (inverse (getD os m noOrder))) (restored-above m m (omega arith)))
         | no d ↦ code-back-other (restored m os c) m k d ∙ restored-code m k (omega arith)
       ]
 
@@ -129,26 +129,26 @@ restored-none os l = sym (map-same l)
 -- ---- what is pending at a variable, taken back, undoes the L steps there
 
 -- to take back an L step's order after another: its exchange, and then the other taken back
-back-letter : (o b x : ℕ) → o < orderCount → b < 2 → x < 3 → image (inverse o) (exchange b x) ≡ image (inverse (follow o (letterOrder b))) x
+back-letter : (o b x : ℕ) → o < orderCount → b < 2 → x < 3 → codeAfter (inverse o) (exchange b x) ≡ codeAfter (inverse (follow o (letterOrder b))) x
 back-letter o b x ho hb hx =
-    ap (image (inverse o)) (sym (image-letter b x hb hx) ∙ ap (λ (q : ℕ). image q x) (sym (letter-inverse b hb)))
-    ∙ sym (image-follow (inverse (letterOrder b)) (inverse o) x (inverse-lt (letterOrder b) (letter-lt b)) (inverse-lt o ho) hx)
-    ∙ ap (λ (q : ℕ). image q x) (sym (inverse-following o (letterOrder b) ho (letter-lt b)))
+    ap (codeAfter (inverse o)) (sym (code-after-letter b x hb hx) ∙ ap (λ (q : ℕ). codeAfter q x) (sym (letter-inverse b hb)))
+    ∙ sym (code-after-follow (inverse (letterOrder b)) (inverse o) x (inverse-lt (letterOrder b) (letter-lt b)) (inverse-lt o ho) hx)
+    ∙ ap (λ (q : ℕ). codeAfter q x) (sym (inverse-following o (letterOrder b) ho (letter-lt b)))
 
 -- one step more is pending
 pend-step-code : (n : ℕ) (x : Step) → Allowed n x → (os : List ℕ) → All IsOrder os → n ≤ length os → (c : Cube) (k : ℕ)
-    → image (inverse (getD os k noOrder)) (code (takenBack x c) k) ≡ image (inverse (getD (pendStep os x) k noOrder)) (code c k)
+    → codeAfter (inverse (getD os k noOrder)) (code (takenBack x c) k) ≡ codeAfter (inverse (getD (pendStep os x) k noOrder)) (code c k)
 pend-step-code n (drop i j) h os a l c k = refl
 pend-step-code n (join i j) h os a l c k = refl
 pend-step-code n (split v i) h os a l c k = refl
 pend-step-code n (turn v i j) h os a l c k = refl
 pend-step-code n (L v b) h os a l c k =
     elim (ℕ-discrete k v) [
-      | yes e ↦ subst (λ (k : ℕ). image (inverse (getD os k noOrder)) (code (exchanged v b c) k) ≡ image (inverse (getD (set os v r) k noOrder)) (code c k)) (sym e)
-          (ap (image (inverse o)) (ap (λ (d : Cube). code d v) (exchanged-moved v b c) ∙ code-moved (exchange b) (exchange-permutes b (h .1)) v c)
+      | yes e ↦ subst (λ (k : ℕ). codeAfter (inverse (getD os k noOrder)) (code (exchanged v b c) k) ≡ codeAfter (inverse (getD (set os v r) k noOrder)) (code c k)) (sym e)
+          (ap (codeAfter (inverse o)) (ap (λ (d : Cube). code d v) (exchanged-moved v b c) ∙ code-moved (exchange b) (exchange-permutes b (h .1)) v c)
           ∙ back-letter o b (code c v) (order-at os v a) (h .1) (code-lt c v)
-          ∙ ap (λ (q : ℕ). image (inverse q) (code c v)) (sym (getD-set-same os v r noOrder (le-trans (h .0) l))))
-      | no d ↦ ap₂ (λ (q y : ℕ). image (inverse q) y) (sym (getD-set-other os v k r noOrder d))
+          ∙ ap (λ (q : ℕ). codeAfter (inverse q) (code c v)) (sym (getD-set-same os v r noOrder (le-trans (h .0) l))))
+      | no d ↦ ap₂ (λ (q y : ℕ). codeAfter (inverse q) y) (sym (getD-set-other os v k r noOrder d))
           (ap (λ (d : Cube). code d k) (exchanged-moved v b c) ∙ code-moved-other (exchange b) (exchange-permutes b (h .1)) v c k d)
     ]
   where
@@ -159,7 +159,7 @@ pend-step-code n (L v b) h os a l c k =
     r = follow o (letterOrder b)
 
 pend-code : (n : ℕ) (xs : List Step) → All (Allowed n) xs → (os : List ℕ) → All IsOrder os → n ≤ length os → (c : Cube) (k : ℕ)
-    → image (inverse (getD os k noOrder)) (code (undone xs c) k) ≡ image (inverse (getD (pend os xs) k noOrder)) (code c k)
+    → codeAfter (inverse (getD os k noOrder)) (code (undone xs c) k) ≡ codeAfter (inverse (getD (pend os xs) k noOrder)) (code c k)
 unfolding undoneBy pend
 pend-code n [] h os a l c k = refl
 pend-code n (x ∷ xs) h os a l c k =
@@ -167,8 +167,8 @@ pend-code n (x ∷ xs) h os a l c k =
     ∙ pend-code n xs (h .1) (pendStep os x) (pend-step-orders os x a) (omega (arith, pend-step-length os x)) c k
 
 -- where nothing is pending nothing is taken back
-back-none : (k x : ℕ) → x < 3 → image (inverse (getD nonePending k noOrder)) x ≡ x
-back-none k x h = ap (λ (o : ℕ). image (inverse o) x) (sym (zeros-at mostVariables k)) ∙ ap (λ (o : ℕ). image o x) inverse-none ∙ image-none x h
+back-none : (k x : ℕ) → x < 3 → codeAfter (inverse (getD nonePending k noOrder)) x ≡ x
+back-none k x h = ap (λ (o : ℕ). codeAfter (inverse o) x) (sym (zeros-at mostVariables k)) ∙ ap (λ (o : ℕ). codeAfter o x) inverse-none ∙ code-after-none x h
 
 module _ (n : ℕ) (few : n ≤ mostVariables) (xs : List Step) (fits : All (Allowed n) xs) where
   pub undone-restored : (c : Cube) → Good n c → undone xs c ≡ restored n (pend nonePending xs) c

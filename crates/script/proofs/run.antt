@@ -3,3 +3,4 @@ pub mod Advancing
 pub mod Running
 pub mod Undoing
 pub mod Finishing
+pub mod Checked

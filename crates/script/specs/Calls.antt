@@ -24,14 +24,14 @@ checkScript n b =
 
 -- "Run: 1 to 5, 7, 8, 9", before any step, in a work buffer of so many bytes
 unfoldable pub checkRun : ℕ → List ℕ → List ℕ → ℕ → Outcome
-checkRun n list script size =
+checkRun n list script room =
     andThen (checkList mostVariables n list)
-    (unless (leb (length (cubesOf list)) (cubeCapacity size)) 5 0
+    (unless (leb (length (cubesOf list)) (cubeCapacity room)) 5 0
     (checkScript n script))
 
 -- "then steps in turn, each 10, 11, 12, 13": the run of an accepted list and script
 unfoldable pub runOf : ℕ → List ℕ → List ℕ → ℕ → Ran Cube
-runOf n list script size = run n (cubeCapacity size) (stepsOf script) (cubesOf list)
+runOf n list script room = run n (cubeCapacity room) (stepsOf script) (cubesOf list)
 
 abbrev pub ranOutcome : Ran Cube → Outcome
 ranOutcome (stopped number step) = refused (refusal number step)
@@ -39,12 +39,12 @@ ranOutcome (ended l peak) = accepted (length l ∷ peak ∷ [])
 
 -- "run, count and peak"
 unfoldable pub runOutcome : ℕ → List ℕ → List ℕ → ℕ → Outcome
-runOutcome n list script size = andThen (checkRun n list script size) (ranOutcome (runOf n list script size))
+runOutcome n list script room = andThen (checkRun n list script room) (ranOutcome (runOf n list script room))
 
 -- "One found at a step leaves every byte of the work buffer zero"; "An accepted run fills the front of the work buffer with its list and clears the rest"
 abbrev pub ranWork : ℕ → Ran Cube → List ℕ
-ranWork size (stopped number step) = zeros size
-ranWork size (ended l peak) = image cubes size l
+ranWork room (stopped number step) = zeros room
+ranWork room (ended l peak) = image cubes room l
 
 -- "A refusal found before the first step writes nothing"
 abbrev pub workAfter : Outcome → List ℕ → Ran Cube → List ℕ

@@ -8,14 +8,14 @@ use mathlib.Core.List.{List}
 use lib.ListN.{length}
 use Rattle.records.specs.Records.{records, image, zeros}
 use Rattle.cube.specs.Lists.{cubes}
-use Rattle.records.specs.Answers.{Outcome, accepted}
 use Rattle.steps.specs.Moves.{After, stop, next}
 use Rattle.steps.specs.Steps.{Step, step}
 use Rattle.steps.specs.Calls.{Ready}
 use Rattle.script.specs.declared.Finished.{Finished}
 use Rattle.script.specs.declared.Progress.{Progress}
+use Rattle.script.specs.declared.Standing.{Standing}
 use Rattle.script.specs.Run.{Ran, stopped, ended, stepsFrom}
-use Rattle.script.specs.Pending.{nonePending, pendStep, pend}
+use Rattle.script.specs.Pending.{nonePending, pend}
 use Rattle.script.specs.Calls.{ranWork, ranOutcome, runOf, finished}
 
 -- so many records, the greatest count met so far, and what is pending
@@ -26,10 +26,14 @@ standing count peak pending = record { done = true; number = 0; place = 0; count
 abbrev pub halted : ℕ → ℕ → Progress
 halted number step = record { done = false; number = number; place = step; count = 0; peak = 0; pending = nonePending }
 
--- one step more, x, of number k
-abbrev pub advanced : ℕ → Step → Progress → After Cube → Progress
-advanced k x p (stop number) = halted number k
-advanced k x p (next l) = standing (length l) (max (p .peak) (length l)) (pendStep (p .pending) x)
+-- where a run stands with so many records and the greatest count met so far
+abbrev pub at : ℕ → ℕ → Standing
+at count peak = record { done = true; number = 0; count = count; peak = peak }
+
+-- one step more
+abbrev pub advanced : Standing → After Cube → Standing
+advanced p (stop number) = record { done = false; number = number; count = 0; peak = 0 }
+advanced p (next l) = at (length l) (max (p .peak) (length l))
 
 -- and the work buffer after it
 abbrev pub workAdvanced : List ℕ → After Cube → List ℕ
@@ -46,11 +50,6 @@ pub record Stepping (n cap first : ℕ) (xs : List Step) (work work′ : List �
   pub answer : r ≡ progressOf (stepsFrom (step n cap) 0 first xs (records cubes first work)) (pend nonePending xs)
   pub buffer : work′ ≡ ranWork (length work) (stepsFrom (step n cap) 0 first xs (records cubes first work))
   pub ready : r .done ≡ true → Ready n (r .count) cap work′
-
--- a chain of tests was accepted
-pub record Passed (o : Outcome) : Type 0 where
-  pub values : List ℕ
-  pub is : o ≡ accepted values
 
 -- the run of an accepted list and script: the answer r, and the work buffer after it
 pub record Answered (n : ℕ) (list script work work′ : List ℕ) (r : Finished) : Type 0 where

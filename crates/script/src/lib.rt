@@ -12,6 +12,14 @@ pub enum Finished {
     Refused(Refusal),
 }
 
+// Where a run stands after a step: the count and the peak; or the number that the step is refused by.
+pub struct Standing {
+    pub done: bool,
+    pub number: u8,
+    pub count: usize,
+    pub peak: usize,
+}
+
 // How far the steps went: where the run stands, with the count, the peak and an order pending for each variable; or to a refusal.
 pub struct Progress {
     pub done: bool,

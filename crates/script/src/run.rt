@@ -1,6 +1,7 @@
 // Running a script: the steps in turn, and then the undoing of what is pending.
 use crate::Finished;
 use crate::Progress;
+use crate::Standing;
 use crate::check;
 use cube::list::MOST_VARIABLES;
 use records::Counted;
@@ -15,75 +16,70 @@ ghost use Prim.Native.Nat.{_≤_, _<_};
 ghost use lib.ListN.{length};
 ghost use Rattle.bits.specs.Sums.{All};
 ghost use Rattle.records.specs.Records.{Held, records, listOf, image};
-ghost use Rattle.records.specs.Answers.{counted};
 ghost use Rattle.cube.specs.Cubes.{Good};
-ghost use Rattle.cube.specs.Lists.{cubes, mostVariables};
+ghost use Rattle.cube.specs.Lists.{cubes, cubesOf, cubeCapacity, mostVariables};
+ghost use Rattle.cube.specs.Calls.{checkList};
 ghost use Rattle.orders.specs.Orders.{orderCount, inverse};
 ghost use Rattle.steps.specs.Steps.{meaning, reordered, step};
 ghost use Rattle.steps.specs.Calls.{Ready, Known};
 ghost use Rattle.script.specs.Pending.{pendStep, restored};
 ghost use Rattle.script.specs.Scripts.{stepRecords, fits, stepsOf};
-ghost use Rattle.script.specs.Progress.{advanced, workAdvanced, Stepping, Passed, Answered};
+ghost use Rattle.script.specs.Progress.{advanced, workAdvanced, Stepping, Answered};
 ghost use Rattle.script.specs.Calls.{checkRun, runOutcome, runAfter, finished};
+ghost use Rattle.records.specs.Answers.{Accepts};
 
 // No order is pending at any variable.
 pub const NONE_PENDING: [u8; MOST_VARIABLES] = [0; MOST_VARIABLES];
 
 // What is pending after one more step: the order of an L step follows that of its variable.
-pub fn pended(pending: [u8; MOST_VARIABLES], x: StepRecord) -> [u8; MOST_VARIABLES]
-    ensures { λ r. ⌜ r ≡ pendStep pending (meaning x) ⌝ }
+pub fn pend_step(pending: &mut [u8], x: StepRecord)
+    ensures { λ _. ⌜ now (pending .exit) ≡ pendStep (now (pending .entry)) (meaning x) ⌝ }
 {
     let op = x.op;
     let v = x.v as usize;
     if op < 5 {
-        return pending;
+        return;
     }
-    if MOST_VARIABLES <= v {
-        return pending;
+    if pending.len() <= v {
+        return;
     }
-    let mut next = pending;
-    let before = next[v];
-    next[v] = orders::follow(before, orders::letter_order(x.literal));
-    next
+    let before = pending[v];
+    pending[v] = orders::follow(before, orders::letter_order(x.literal));
 }
 
-// The step x, of number k, done from where the run stands; a refusal clears the work buffer.
+// The step x done from where the run stands; a refusal clears the work buffer.
 pub fn advance(
     work: &mut [u8],
+    pending: &mut [u8],
     n: usize,
     cap: usize,
-    k: usize,
     x: StepRecord,
-    at: Progress,
-) -> Progress
+    at: Standing,
+) -> Standing
     requires { ⌜ Ready n (at .count) cap (now work) ⌝ }
     requires { ⌜ Known n x ⌝ }
-    ensures { λ r. ⌜ r ≡ advanced k (meaning x) at (step n cap (meaning x) (records cubes (at .count) (now (work .entry)))) ⌝ }
+    ensures { λ r. ⌜ r ≡ advanced at (step n cap (meaning x) (records cubes (at .count) (now (work .entry)))) ⌝ }
     ensures { λ _. ⌜ now (work .exit) ≡ workAdvanced (now (work .entry)) (step n cap (meaning x) (records cubes (at .count) (now (work .entry)))) ⌝ }
+    ensures { λ _. ⌜ now (pending .exit) ≡ pendStep (now (pending .entry)) (meaning x) ⌝ }
 {
+    pend_step(pending, x);
     match steps::step::do_step(work, n, at.count, cap, x) {
         Stepped::Refused(number) => {
             records::clear(work);
-            Progress {
+            Standing {
                 done: false,
                 number,
-                place: k,
                 count: 0,
                 peak: 0,
-                pending: NONE_PENDING,
             }
         }
         Stepped::Count(count) => {
             let peak = larger(at.peak, count);
-            let before = at.pending;
-            let pending = pended(before, x);
-            Progress {
+            Standing {
                 done: true,
                 number: 0,
-                place: 0,
                 count,
                 peak,
-                pending,
             }
         }
     }
@@ -96,26 +92,38 @@ fn run_steps(work: &mut [u8], n: usize, first: usize, cap: usize, script: &[u8])
     ensures { λ r. ⌜ Stepping n cap first (stepsOf (now (script .entry))) (now (work .entry)) (now (work .exit)) r ⌝ }
 {
     let steps = script.len() / check::STEP_WIDTH;
-    let mut at = Progress {
+    let mut pending = NONE_PENDING;
+    let mut at = Standing {
         done: true,
         number: 0,
-        place: 0,
         count: first,
         peak: first,
-        pending: NONE_PENDING,
     };
     let mut k = 0;
     while k < steps {
         let x = check::step_at(script, k);
-        let next = advance(work, n, cap, k, x, at);
-        let done = next.done;
-        if !done {
-            return next;
+        let next = advance(work, &mut pending, n, cap, x, at);
+        if !next.done {
+            return Progress {
+                done: false,
+                number: next.number,
+                place: k,
+                count: 0,
+                peak: 0,
+                pending: NONE_PENDING,
+            };
         }
         at = next;
         k += 1;
     }
-    at
+    Progress {
+        done: true,
+        number: 0,
+        place: 0,
+        count: at.count,
+        peak: at.peak,
+        pending,
+    }
 }
 
 // The order o, pending at the variable v, taken back in every record; nothing to do where it is no order.
@@ -147,24 +155,9 @@ pub fn undo(work: &mut [u8], n: usize, count: usize, pending: [u8; MOST_VARIABLE
     }
 }
 
-// Refusals 1 to 5, 7, 8 and 9, or the number of the script's steps.
-fn check_run(n: usize, list: &[u8], script: &[u8], size: usize) -> Counted
-    ensures { λ r. ⌜ counted r ≡ checkRun n (now (list .entry)) (now (script .entry)) size ⌝ }
-{
-    match cube::list::check(n, list) {
-        Counted::Refused(r) => Counted::Refused(r),
-        Counted::Count(_) => {
-            if cube::list::capacity(size) < list.len() / cube::list::RECORD_WIDTH {
-                return Counted::Refused(Refusal::new(5, 0));
-            }
-            check::check_script(n, script)
-        }
-    }
-}
-
 // The run of an accepted list and script.
 fn run_accepted(n: usize, list: &[u8], script: &[u8], work: &mut [u8]) -> Finished
-    requires { ⌜ Passed (checkRun n (now list) (now script) (length (now work))) ⌝ }
+    requires { ⌜ Accepts (checkRun n (now list) (now script) (length (now work))) ⌝ }
     ensures { λ r. ⌜ Answered n (now (list .entry)) (now (script .entry)) (now (work .entry)) (now (work .exit)) r ⌝ }
 {
     let first = list.len() / cube::list::RECORD_WIDTH;
@@ -180,13 +173,31 @@ fn run_accepted(n: usize, list: &[u8], script: &[u8], work: &mut [u8]) -> Finish
     Finished::Refused(Refusal::new(p.number, p.place))
 }
 
+// The run of a checked list that the work buffer has room for: refusals 7, 8 and 9, then 10 to 13 at a step; or the count and the peak.
+pub fn run_checked(n: usize, list: &[u8], script: &[u8], work: &mut [u8]) -> Finished
+    requires { ⌜ Accepts (checkList mostVariables n (now list)) ⌝ }
+    requires { ⌜ length (cubesOf (now list)) ≤ cubeCapacity (length (now work)) ⌝ }
+    ensures { λ r. ⌜ finished r ≡ runOutcome n (now (list .entry)) (now (script .entry)) (length (now (work .entry))) ⌝ }
+    ensures { λ _. ⌜ now (work .exit) ≡ runAfter n (now (list .entry)) (now (script .entry)) (now (work .entry)) ⌝ }
+{
+    match check::check_script(n, script) {
+        Counted::Refused(r) => Finished::Refused(r),
+        Counted::Count(_) => run_accepted(n, list, script, work),
+    }
+}
+
 // Runs a script on a list: refusals 1 to 5, 7, 8, 9 before anything is written, then 10 to 13 at a step; or the count and the peak.
 pub fn run(n: usize, list: &[u8], script: &[u8], work: &mut [u8]) -> Finished
     ensures { λ r. ⌜ finished r ≡ runOutcome n (now (list .entry)) (now (script .entry)) (length (now (work .entry))) ⌝ }
     ensures { λ _. ⌜ now (work .exit) ≡ runAfter n (now (list .entry)) (now (script .entry)) (now (work .entry)) ⌝ }
 {
-    match check_run(n, list, script, work.len()) {
+    match cube::list::check(n, list) {
         Counted::Refused(r) => Finished::Refused(r),
-        Counted::Count(_) => run_accepted(n, list, script, work),
+        Counted::Count(_) => {
+            if cube::list::capacity(work.len()) < list.len() / cube::list::RECORD_WIDTH {
+                return Finished::Refused(Refusal::new(5, 0));
+            }
+            run_checked(n, list, script, work)
+        }
     }
 }

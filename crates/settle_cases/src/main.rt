@@ -62,7 +62,7 @@ fn cases(table: &[u8]) {
 fn main() {
     let mut table = io::buffer();
     let fd = os::open_read(b"cases");
-    let size = io::read_full(fd, &mut table);
+    let count = io::read_full(fd, &mut table);
     libc::close(fd);
-    cases(&table[..size]);
+    cases(&table[..count]);
 }

@@ -14,7 +14,7 @@ use Rattle.cube.specs.declared.Cube.{Cube}
 use Rattle.cube.specs.Lists.{vectorVariables, listValue, truthVector}
 use Rattle.polarity.specs.Forms.{coefficient, formList, size, countsOf, rank}
 use Rattle.polarity.specs.Vectors.{byteAt}
-use Rattle.polarity.proofs.Listing.{form-cong}
+use Rattle.polarity.proofs.Forms.{form-cong}
 use Rattle.polarity.proofs.Parities.{parity-cong}
 use Rattle.polarity.proofs.Theorems.{form-has-the-value, best-has-fewest}
 use Rattle.settling.specs.Candidates.{bestOf, bestForm, better, burnedList}

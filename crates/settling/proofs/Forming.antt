@@ -41,8 +41,8 @@ vector-accepted n l v =
     simp (le-leb _ _ (v .few), eq-eqb _ _ (v .long), eq-eqb _ _ all)
 
 -- as many bytes as assignments, and at most 256
-pub size-is : (n : ℕ) → n ≤ vectorVariables → (1 * 2 ^ n) % 2 ^ 64 ≡ 2 ^ n
-size-is n h = shl-one n 64 (omega (arith, h))
+pub power-is : (n : ℕ) → n ≤ vectorVariables → (1 * 2 ^ n) % 2 ^ 64 ≡ 2 ^ n
+power-is n h = shl-one n 64 (omega (arith, h))
 
-pub size-small : (n : ℕ) → n ≤ vectorVariables → (1 * 2 ^ n) % 2 ^ 64 ≤ 256
-size-small n h = omega (arith, size-is n h, pow-mono h)
+pub power-small : (n : ℕ) → n ≤ vectorVariables → (1 * 2 ^ n) % 2 ^ 64 ≤ 256
+power-small n h = omega (arith, power-is n h, pow-mono h)

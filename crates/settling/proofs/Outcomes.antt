@@ -16,14 +16,14 @@ use Rattle.bits.proofs.Sums.{all-map}
 use Rattle.records.specs.declared.Refusal.{Refusal}
 use Rattle.records.specs.Records.{Holds, listOf, records, image, filled, flat, zeros}
 use Rattle.records.specs.Answers.{Outcome, accepted, refused, refusal, andThen}
-use Rattle.records.proofs.Answering.{not-both, refused-same, both-accepted, unless-accepted}
+use Rattle.records.proofs.Answers.{not-both, refused-same, both-accepted, unless-accepted}
 use Rattle.records.proofs.Images.{length-flat}
-use Rattle.records.proofs.Holding.{capacity-fits, holds-records, image-holds}
+use Rattle.records.proofs.Records.{capacity-fits, holds-records, image-holds}
 use Rattle.cube.specs.declared.Cube.{Cube}
 use Rattle.cube.specs.Cubes.{Good}
 use Rattle.cube.specs.Lists.{cubes, cubesOf, cubeCapacity, recordWidth, mostRecords, mostVariables, vectorVariables, listValue, truthVector}
 use Rattle.cube.specs.Calls.{checkList}
-use Rattle.cube.proofs.ListLaws.{lawful, Accepted, check-accepts}
+use Rattle.cube.proofs.Lists.{lawful, AcceptedList, check-accepts}
 use Rattle.polarity.specs.Forms.{formList}
 use Rattle.polarity.specs.Vectors.{byteAt}
 use Rattle.polarity.proofs.Theorems.{form-is-good}
@@ -31,8 +31,8 @@ use Rattle.steps.specs.Steps.{Allowed, meaning}
 use Rattle.script.specs.Run.{Ran, stopped, ended}
 use Rattle.script.specs.Scripts.{stepRecords, fits, stepsOf}
 use Rattle.script.specs.Calls.{checkScript, runOf}
-use Rattle.script.proofs.Codec.{meaning-fits}
-use Rattle.script.proofs.Reading.{AcceptedScript, script-accepts}
+use Rattle.script.proofs.Scripts.{meaning-fits}
+use Rattle.script.proofs.Scripts.{AcceptedScript, script-accepts}
 use Rattle.script.proofs.Value.{run-value, run-good}
 use Rattle.settling.specs.declared.Settled.the-variants as settled-is
 use Rattle.settling.specs.declared.Settlement.{Settlement}
@@ -43,16 +43,16 @@ use Rattle.settling.proofs.Fewest.{burned-le-given, burned-le-result, b
 
 -- ---- what passed before the first step
 
-pub record Passing (n : ℕ) (list script : List ℕ) (work out : ℕ) : Type 0 where
-  pub list-is : Accepted mostVariables n list
+pub record AcceptedSettle (n : ℕ) (list script : List ℕ) (work out : ℕ) : Type 0 where
+  pub list-is : AcceptedList mostVariables n list
   pub work-room : length (cubesOf list) ≤ cubeCapacity work
   pub out-room : length (cubesOf list) ≤ cubeCapacity out
   pub script-is : AcceptedScript n script
   pub fit : All (Allowed n) (stepsOf script)
 
-pub passing : (n : ℕ) (list script : List ℕ) (work out : ℕ) (v : List ℕ) → checkSettle n list script work out ≡ accepted v → Passing n list script work out
+pub settle-checked : (n : ℕ) (list script : List ℕ) (work out : ℕ) (v : List ℕ) → checkSettle n list script work out ≡ accepted v → AcceptedSettle n list script work out
 unfolding checkSettle stepsOf
-passing n list script work out v e =
+settle-checked n list script work out v e =
     let b = both-accepted (checkList mostVariables n list) _ v e in
     let c = unless-accepted (leb (length (cubesOf list)) (cubeCapacity work)) 5 0 _ v (b .second) in
     let d = unless-accepted (leb (length (cubesOf list)) (cubeCapacity out)) 5 0 (checkScript n script) v (c .1) in
@@ -62,7 +62,7 @@ passing n list script work out v e =
       work-room = leb-true _ _ (c .0);
       out-room = leb-true _ _ (d .0);
       script-is = s;
-      fit = all-map (λ r. fits n r ≡ true) (Allowed n) meaning (meaning-fits n) (listOf stepRecords script) (s .fit);
+      fit = all-map (λ r. fits n r ≡ true) (Allowed n) meaning (meaning-fits n) (listOf stepRecords script) (s .each);
     }
 
 -- ---- an accepted outcome
@@ -121,8 +121,8 @@ pub record BurnedBy (n : ℕ) (list script : List ℕ) (work : ℕ) (out : List 
   pub no-form-has-fewer : n ≤ vectorVariables → (p : ℕ) → p < 2 ^ n → length burned ≤ length (formList n p (listValue n (cubesOf list)))
 
 module _ (n : ℕ) (list script : List ℕ) (work : ℕ) (out : List ℕ) (e : Ended n list script work (length out)) where
-  passed : Passing n list script work (length out)
-  passed = passing n list script work (length out) (e .values) (e .checked)
+  passed : AcceptedSettle n list script work (length out)
+  passed = settle-checked n list script work (length out) (e .values) (e .checked)
 
   burned : List Cube
   burned = burnedList n (e .result) (cubesOf list)

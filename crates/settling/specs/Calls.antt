@@ -65,9 +65,3 @@ settleOut n list script work out =
 abbrev pub settled : Settled → Outcome
 settled (settled-is.Burned s) = accepted (s .given ∷ s .peak ∷ s .script ∷ (fixedValues (s .fixed) ++ (s .burned ∷ [])))
 settled (settled-is.Refused r) = refused r
-
--- settle was called with n, a list, a script and two buffers; its answer was o, and it left work′ and out′ in the buffers
-pub record Called (n : ℕ) (list script work out : List ℕ) (o : Outcome) (work′ out′ : List ℕ) : Type 0 where
-  pub answer : o ≡ settleOutcome n list script (length work) (length out)
-  pub work-is : work′ ≡ settleWork n list script work (length out)
-  pub out-is : out′ ≡ settleOut n list script (length work) out

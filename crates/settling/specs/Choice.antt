@@ -13,13 +13,13 @@ use Rattle.cube.specs.Calls.{checkList}
 use Rattle.polarity.specs.declared.Counts.{Counts}
 use Rattle.polarity.specs.Forms.{formList, countsOf, rankOf, rank}
 use Rattle.polarity.specs.Vectors.{byteAt, Vector}
-use Rattle.script.specs.Progress.{Passed}
 use Rattle.settling.specs.declared.BestForm.{BestForm}
 use Rattle.settling.specs.declared.Burning.{Burning}
 use Rattle.settling.specs.declared.Candidate.{Candidate}
 use Rattle.settling.specs.declared.Origin.{Origin}
 use Rattle.settling.specs.declared.Origin.the-variants as origin-is
 use Rattle.settling.specs.Candidates.{burnedList, fixedOf}
+use Rattle.records.specs.Answers.{Accepts}
 
 -- ---- the choice
 
@@ -43,7 +43,7 @@ Named n origin-is.Given = Unit {0}
 Named n (origin-is.Form p) = (n ≤ vectorVariables) × (p < 2 ^ n)
 
 -- a candidate stands for a list: it has the list's rank, and its origin names the list
-pub record Stands (n : ℕ) (result given l : List Cube) (c : Candidate) : Type 0 where
+pub record StandsFor (n : ℕ) (result given l : List Cube) (c : Candidate) : Type 0 where
   pub rank-is : c .rank ≡ rank l
   pub list-is : listFrom n result given (c .origin) ≡ l
   pub named : Named n (c .origin)
@@ -82,7 +82,7 @@ pub record Burnable (n : ℕ) (list result : List ℕ) (best : BestForm) (origin
 -- the script's result is whole, and the given list is accepted and fits the output
 pub record Burns (n : ℕ) (list result : List ℕ) (out : ℕ) : Type 0 where
   pub whole : length result % recordWidth ≡ 0
-  pub passed : Passed (checkList mostVariables n list)
+  pub passed : Accepts (checkList mostVariables n list)
   pub room : length (cubesOf list) ≤ cubeCapacity out
 
 -- the list to burn fills the front of the output buffer, zeros after it

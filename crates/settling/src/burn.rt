@@ -42,8 +42,14 @@ fn burn_form(n: usize, vector: &[u8], p: usize, out: &mut [u8]) -> usize
     ensures { λ r. ⌜ BurnedIs (formList n p (byteAt (take (2 ^ n) (now (vector .entry))))) (now (out .entry)) (now (out .exit)) r ⌝ }
 {
     let mut coefficients = [0u8; 256];
-    let size: usize = 1 << n;
-    put_form(n, &vector[..size], p, &mut coefficients[..size], out)
+    let assignments: usize = 1 << n;
+    put_form(
+        n,
+        &vector[..assignments],
+        p,
+        &mut coefficients[..assignments],
+        out,
+    )
 }
 
 // The list that an origin names.

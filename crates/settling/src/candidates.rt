@@ -12,9 +12,9 @@ ghost use lib.ListN.{length};
 ghost use Rattle.cube.specs.Lists.{cubesOf, mostVariables, truthVector, vectorVariables};
 ghost use Rattle.cube.specs.Calls.{checkList};
 ghost use Rattle.polarity.specs.Forms.{countsOf};
-ghost use Rattle.script.specs.Progress.{Passed};
 ghost use Rattle.settling.specs.Candidates.{burnedList, fixedOf};
-ghost use Rattle.settling.specs.Choice.{candidateOf, betterOf, Stands, FormCounts, FormIs};
+ghost use Rattle.settling.specs.Choice.{candidateOf, betterOf, StandsFor, FormCounts, FormIs};
+ghost use Rattle.records.specs.Answers.{Accepts};
 
 // The better of two candidates; ties go to the earlier.
 fn better(earlier: Candidate, later: Candidate) -> Candidate
@@ -69,7 +69,7 @@ fn count_form(vector: [u8; 256], p: usize, size: usize) -> Counts
 // The candidate that is burned: each in turn against the best before it.
 pub(crate) fn choose(n: usize, list: &[u8], result: &[u8], best: BestForm) -> Candidate
     requires { ⌜ FormIs n (cubesOf (now list)) best ⌝ }
-    ensures { λ r. ⌜ Stands n (cubesOf (now (result .entry))) (cubesOf (now (list .entry))) (burnedList n (cubesOf (now (result .entry))) (cubesOf (now (list .entry)))) r ⌝ }
+    ensures { λ r. ⌜ StandsFor n (cubesOf (now (result .entry))) (cubesOf (now (list .entry))) (burnedList n (cubesOf (now (result .entry))) (cubesOf (now (list .entry)))) r ⌝ }
 {
     let script = candidate(count_list(result), Origin::Script);
     let given = candidate(count_list(list), Origin::Given);
@@ -87,7 +87,7 @@ pub(crate) fn choose(n: usize, list: &[u8], result: &[u8], best: BestForm) -> Ca
 
 // The best polarity of the given list's function, whose truth vector is written.
 fn best_of(n: usize, list: &[u8], vector: &mut [u8]) -> Fixed
-    requires { ⌜ Passed (checkList vectorVariables n (now list)) ⌝ }
+    requires { ⌜ Accepts (checkList vectorVariables n (now list)) ⌝ }
     requires { ⌜ length (now vector) ≡ 2 ^ n ⌝ }
     ensures { λ r. ⌜ r ≡ fixedOf n (cubesOf (now (list .entry))) ⌝ }
     ensures { λ _. ⌜ now (vector .exit) ≡ truthVector n (cubesOf (now (list .entry))) ⌝ }
@@ -101,7 +101,7 @@ fn best_of(n: usize, list: &[u8], vector: &mut [u8]) -> Fixed
 
 // The best polarity of the given list's function, with the truth vector, where there are at most 8 variables.
 pub(crate) fn best_form(n: usize, list: &[u8]) -> BestForm
-    requires { ⌜ Passed (checkList mostVariables n (now list)) ⌝ }
+    requires { ⌜ Accepts (checkList mostVariables n (now list)) ⌝ }
     ensures { λ r. ⌜ FormIs n (cubesOf (now (list .entry))) r ⌝ }
 {
     let mut vector = [0u8; 256];
@@ -111,7 +111,7 @@ pub(crate) fn best_form(n: usize, list: &[u8]) -> BestForm
             vector,
         };
     }
-    let size: usize = 1 << n;
-    let fixed = best_of(n, list, &mut vector[..size]);
+    let assignments: usize = 1 << n;
+    let fixed = best_of(n, list, &mut vector[..assignments]);
     BestForm { fixed, vector }
 }

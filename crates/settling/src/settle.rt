@@ -41,7 +41,7 @@ pub fn settle(n: usize, list: &[u8], script: &[u8], work: &mut [u8], out: &mut [
             if cube::list::capacity(out.len()) < given {
                 return Settled::Refused(Refusal::new(5, 0));
             }
-            match script::run::run(n, list, script, work) {
+            match script::run::run_checked(n, list, script, work) {
                 Finished::Refused(r) => Settled::Refused(r),
                 Finished::Done(count, peak) => {
                     let end = cube::list::RECORD_WIDTH * count;

@@ -15,7 +15,7 @@ use Rattle.cube.specs.Cubes.{code, put, one, apart}
 use Rattle.cube.proofs.Codes.{code-lt}
 use Rattle.cube.proofs.Apart.{apart-one, Two, apart-two, two-swap}
 use Rattle.orders.specs.Codes.{third}
-use Rattle.orders.proofs.CodeLaws.{third-lt, Permutes}
+use Rattle.orders.proofs.Codes.{third-lt, Permutes}
 use Rattle.steps.specs.Moves.{Move, refuse, joins, turns, applied, mapMove}
 use Rattle.steps.specs.Steps.{Step, drop, join, split, turn, L, cubeAt, thirdAt, atTwoPlaces, dropped, dropMove, joined, joinMove, turned, turnMove, step}
 use Rattle.steps.proofs.Linear.{moved, code-moved, code-moved-other, moved-put-same, moved-put-other}

@@ -12,7 +12,7 @@ use Rattle.cube.specs.Cubes.{code, put, Good}
 use Rattle.cube.proofs.Codes.{code-lt, code-same, code-other, put-good, cube-ext}
 use Rattle.cube.proofs.Apart.{apart-none, apart-one, Two}
 use Rattle.orders.specs.Codes.{third, lower, higher}
-use Rattle.orders.proofs.CodeLaws.{third-lt, lower-lt, lower-other, higher-lt, higher-third}
+use Rattle.orders.proofs.Codes.{third-lt, lower-lt, lower-other, higher-lt, higher-third}
 use Rattle.steps.specs.Moves.{Move, refuse}
 use Rattle.steps.specs.Steps.{thirdAt, dropMove, joinMove, splitMove, turnMove}
 use Rattle.steps.specs.Changes.{Placed, Writes}

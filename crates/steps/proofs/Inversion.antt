@@ -14,7 +14,7 @@ use Rattle.cube.specs.declared.Cube.{Cube}
 use Rattle.cube.specs.Cubes.{code, put, one, apart, Good}
 use Rattle.cube.proofs.Codes.{cube-ext}
 use Rattle.cube.proofs.Apart.{apart-none, Two, apart-two, two-swap}
-use Rattle.cube.proofs.ListLaws.{good-at}
+use Rattle.cube.proofs.Lists.{good-at}
 use Rattle.orders.specs.Codes.{lower, higher}
 use Rattle.steps.specs.Moves.{Move, refuse, drops, joins, splits, turns, stop, next, applied, dropAt, joinAt, splitAt, turnAt}
 use Rattle.steps.specs.Steps.{Step, drop, join, split, turn, L, cubeAt, thirdAt, atTwoPlaces, dropped, dropMove, joined, joinMove, splitMove, turned, turnMove, exchanged, step}

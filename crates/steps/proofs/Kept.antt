@@ -12,7 +12,7 @@ use Rattle.bits.proofs.Sums.{tally-sum, sum-map, all-map}
 use Rattle.cube.specs.declared.Cube.{Cube}
 use Rattle.cube.specs.Cubes.{one, Good, holds}
 use Rattle.cube.specs.Lists.{trues, listValue}
-use Rattle.cube.proofs.ListLaws.{good-at}
+use Rattle.cube.proofs.Lists.{good-at}
 use Rattle.steps.specs.Moves.{Move, drops, joins, splits, turns, next, applied}
 use Rattle.steps.specs.Steps.{Step, drop, join, split, turn, L, Allowed, cubeAt, thirdAt, exchanged, step, isSplit, isJoin, isDrop}
 use Rattle.steps.specs.Effects.{IsRewrite}

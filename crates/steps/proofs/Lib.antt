@@ -8,8 +8,5 @@ pub mod ApartFrom
 pub mod Rules
 pub mod Transformation
 pub mod Commute
-pub mod Deciding
 pub mod Making
-pub mod Performing
-pub mod Stepping
 pub mod Determined

@@ -18,9 +18,9 @@ use Rattle.cube.specs.declared.Cube.{Cube}
 use Rattle.cube.specs.Cubes.{code, put, Good, met, holds}
 use Rattle.cube.proofs.Codes.{code-lt, code-same, code-other, put-put, put-comm, put-good, put-self}
 use Rattle.orders.specs.Codes.{third, exchange}
-use Rattle.orders.specs.Orders.{orderCount, image}
-use Rattle.orders.proofs.CodeLaws.{two-codes, third-lt, Permutes, exchange-permutes, exchange-twice}
-use Rattle.orders.proofs.OrderLaws.{image-permutes}
+use Rattle.orders.specs.Orders.{orderCount, codeAfter}
+use Rattle.orders.proofs.Codes.{two-codes, third-lt, Permutes, exchange-permutes, exchange-twice}
+use Rattle.orders.proofs.Orders.{code-after-permutes}
 use Rattle.steps.specs.Steps.{exchanged, reordered}
 
 -- the literals of two different codes add up to that of the third
@@ -90,7 +90,7 @@ pub exchanged-moved : (v b : ℕ) (c : Cube) → exchanged v b c ≡ moved (exch
 unfolding exchanged moved
 exchanged-moved v b c = refl
 
-pub reordered-moved : (v o : ℕ) (c : Cube) → reordered v o c ≡ moved (image o) v c
+pub reordered-moved : (v o : ℕ) (c : Cube) → reordered v o c ≡ moved (codeAfter o) v c
 unfolding reordered moved
 reordered-moved v o c = refl
 
@@ -179,4 +179,4 @@ module _ (n v b : ℕ) (hv : v < n) (hb : b < 2) where
 
 pub reordered-good : (n v o : ℕ) → v < n → o < orderCount → (c : Cube) → Good n c → Good n (reordered v o c)
 unfolding reordered moved
-reordered-good n v o hv ho c g = moved-good (image o) (image-permutes o ho) v n c hv g
+reordered-good n v o hv ho c g = moved-good (codeAfter o) (code-after-permutes o ho) v n c hv g

@@ -13,7 +13,7 @@ use Rattle.cube.specs.declared.Cube.{Cube}
 use Rattle.cube.specs.Cubes.{code, put, one, apart, Good}
 use Rattle.cube.proofs.Codes.{code-same, code-other, put-put, put-comm, put-good}
 use Rattle.orders.specs.Codes.{third, lower, higher}
-use Rattle.orders.proofs.CodeLaws.{third-comm}
+use Rattle.orders.proofs.Codes.{third-comm}
 use Rattle.steps.specs.Moves.{joins, splits, turns, drops, dropAt, joinAt, splitAt, turnAt, next, applied}
 use Rattle.steps.specs.Steps.{Step, drop, join, split, turn, Allowed, dropped, dropMove, joined, joinMove, splitMove, turned, turnMove, step}
 use Rattle.steps.specs.Effects.{TwoPlaces, IsRewrite}

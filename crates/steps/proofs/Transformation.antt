@@ -17,7 +17,7 @@ use Rattle.cube.specs.declared.Cube.{Cube}
 use Rattle.cube.specs.Cubes.{code, put, Good, met, holds}
 use Rattle.cube.proofs.Codes.{code-lt, code-same, code-other, put-self}
 use Rattle.orders.specs.Codes.{exchange}
-use Rattle.orders.proofs.CodeLaws.{exchange-lt}
+use Rattle.orders.proofs.Codes.{exchange-lt}
 use Rattle.steps.specs.Steps.{exchanged}
 use Rattle.steps.specs.Rules.{Same, Transformed}
 use Rattle.steps.proofs.Linear.{all-one, moved, moved-comm, exchanged-list-twice}

@@ -10,7 +10,7 @@ use Rattle.records.specs.Records.{Codec}
 use Rattle.cube.specs.declared.Cube.{Cube}
 use Rattle.cube.specs.Cubes.{one, withCode}
 use Rattle.cube.specs.CubeRecord.{cubes, narrow, recordNumber}
-use Rattle.orders.specs.Orders.{image}
+use Rattle.orders.specs.Orders.{codeAfter}
 use Rattle.steps.specs.declared.Change.{Change}
 use Rattle.steps.specs.declared.Change.the-variants as change-is
 use Rattle.steps.specs.declared.reorder.Masks.{Masks}
@@ -71,19 +71,19 @@ abbrev pub Done : (work work′ : List ℕ) (e : After Cube) (r : Stepped) → T
 Done = DoneBy cubes
 
 -- the product of the one literal that the order o makes of the code x, at the variable v
-abbrev pub imageAt : ℕ → ℕ → ℕ → Cube
-imageAt v o x = withCode one v (image o x)
+abbrev pub literalAfter : ℕ → ℕ → ℕ → Cube
+literalAfter v o x = withCode one v (codeAfter o x)
 
 -- the order o at the variable v, as masks
 unfoldable pub masksAt : ℕ → ℕ → Masks
 masksAt v o = record {
   own = recordNumber (record {
-    seen = bitXor (bitXor (2 ^ v) (imageAt v o 0 .seen)) (imageAt v o 2 .seen);
-    value = bitXor (bitXor (2 ^ v) (imageAt v o 0 .value)) (imageAt v o 1 .value);
+    seen = bitXor (bitXor (2 ^ v) (literalAfter v o 0 .seen)) (literalAfter v o 2 .seen);
+    value = bitXor (bitXor (2 ^ v) (literalAfter v o 0 .value)) (literalAfter v o 1 .value);
   });
   other = recordNumber (record {
-    seen = bitXor (imageAt v o 0 .seen) (imageAt v o 1 .seen);
-    value = bitXor (imageAt v o 0 .value) (imageAt v o 2 .value);
+    seen = bitXor (literalAfter v o 0 .seen) (literalAfter v o 1 .seen);
+    value = bitXor (literalAfter v o 0 .value) (literalAfter v o 2 .value);
   });
-  always = recordNumber (imageAt v o 2);
+  always = recordNumber (literalAfter v o 2);
 }

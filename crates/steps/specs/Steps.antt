@@ -8,7 +8,7 @@ use lib.ListN.{length, getD}
 use Rattle.cube.specs.declared.Cube.{Cube}
 use Rattle.cube.specs.Cubes.{code, put, one, apart}
 use Rattle.orders.specs.Codes.{third, lower, higher, exchange}
-use Rattle.orders.specs.Orders.{image}
+use Rattle.orders.specs.Orders.{codeAfter}
 use Rattle.steps.specs.declared.StepRecord.{StepRecord}
 use Rattle.steps.specs.Moves.{Move, refuse, drops, joins, splits, turns, After, next, applied}
 
@@ -102,7 +102,7 @@ exchanged v b c = put c v (exchange b (code c v))
 
 -- a cube with its code at v moved by one of the six orders
 unfoldable pub reordered : ℕ → ℕ → Cube → Cube
-reordered v o c = put c v (image o (code c v))
+reordered v o c = put c v (codeAfter o (code c v))
 
 -- ---- one step on a list of cubes over n variables, with room for cap of them
 

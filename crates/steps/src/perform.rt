@@ -38,9 +38,9 @@ fn remove(work: &mut [u8], count: usize, i: usize)
     ensures { λ _. ⌜ now (work .exit) ≡ image cubes (length (now (work .entry))) (removeAt one (records cubes count (now (work .entry))) i) ⌝ }
 {
     let last = count - 1;
-    let c = list::cube_at(work, last);
-    list::put_cube(work, i, c);
-    list::put_cube(work, last, Cube::ONE);
+    let c = list::record_at(work, last);
+    list::put_record(work, i, c);
+    list::put_record(work, last, Cube::ONE);
 }
 
 // The change made to the count records, at places i and j.
@@ -60,18 +60,18 @@ pub(crate) fn perform(work: &mut [u8], count: usize, i: usize, j: usize, change:
             Stepped::Count(count - 2)
         }
         Change::Join(c) => {
-            list::put_cube(work, i, c);
+            list::put_record(work, i, c);
             remove(work, count, j);
             Stepped::Count(count - 1)
         }
         Change::Split(c, d) => {
-            list::put_cube(work, i, c);
-            list::put_cube(work, count, d);
+            list::put_record(work, i, c);
+            list::put_record(work, count, d);
             Stepped::Count(count + 1)
         }
         Change::Turn(c, d) => {
-            list::put_cube(work, i, c);
-            list::put_cube(work, j, d);
+            list::put_record(work, i, c);
+            list::put_record(work, j, d);
             Stepped::Count(count)
         }
     }

@@ -28,9 +28,9 @@ fn masks_at(v: u32, o: u8) -> Masks
     ensures { λ r. ⌜ r ≡ masksAt v o ⌝ }
 {
     let at: u32 = 1 << v;
-    let x = Cube::literal(v, orders::image(o, 0));
-    let y = Cube::literal(v, orders::image(o, 1));
-    let z = Cube::literal(v, orders::image(o, 2));
+    let x = Cube::literal(v, orders::code_after(o, 0));
+    let y = Cube::literal(v, orders::code_after(o, 1));
+    let z = Cube::literal(v, orders::code_after(o, 2));
     let own = Cube {
         seen: at ^ x.seen ^ z.seen,
         value: at ^ x.value ^ y.value,

@@ -22,7 +22,7 @@ fn look(work: &[u8], count: usize, i: usize) -> Cube
     if count <= i {
         return Cube::ONE;
     }
-    list::cube_at(work, i)
+    list::record_at(work, i)
 }
 
 // One step on the count records of the work buffer, which has room for cap of them.

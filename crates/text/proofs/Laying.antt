@@ -13,10 +13,10 @@ use Rattle.cube.specs.Cubes.{code}
 use Rattle.text.specs.Places.{noPlace, nextPlace, ends, laid, Laid}
 use Rattle.text.specs.Cubes.{glyph, cubeText}
 
-ends-append : (size at : ℕ) (s t : List ℕ) → ends size (ends size at s) t ≡ ends size at (s ++ t)
+ends-append : (room at : ℕ) (s t : List ℕ) → ends room (ends room at s) t ≡ ends room at (s ++ t)
 unfolding ends
-ends-append size at [] t = refl
-ends-append size at (x ∷ s) t = ends-append size (nextPlace size at) s t
+ends-append room at [] t = refl
+ends-append room at (x ∷ s) t = ends-append room (nextPlace room at) s t
 
 pub length-laid : (b : List ℕ) (at : ℕ) (s : List ℕ) → length (laid b at s) ≡ length b
 unfolding laid
@@ -100,13 +100,13 @@ module _ {n : ℕ} {c : Cube} {b b′ : List ℕ} {at p k : ℕ} (f : Spelt n c 
 
 -- ---- where there is room
 
-ends-room : (size at : ℕ) (s : List ℕ) → at + length s ≤ size → ends size at s ≡ at + length s
+ends-room : (room at : ℕ) (s : List ℕ) → at + length s ≤ room → ends room at s ≡ at + length s
 unfolding ends
-ends-room size at [] h = omega arith
-ends-room size at (x ∷ s) h =
-    let here : at < size = omega arith in
+ends-room room at [] h = omega arith
+ends-room room at (x ∷ s) h =
+    let here : at < room = omega arith in
     let shift : at + 1 + length s ≡ at + suc (length s) = omega arith in
-    rw (lt-ltb at size here) (ends-room size (at + 1) s (omega arith) ∙ shift)
+    rw (lt-ltb at room here) (ends-room room (at + 1) s (omega arith) ∙ shift)
 
 laid-room : (b : List ℕ) (at : ℕ) (s : List ℕ) → at + length s ≤ length b → laid b at s ≡ sets b at s
 unfolding laid
@@ -133,13 +133,13 @@ stands {b} {s} {b′} {at} {r} f h =
     }
 
 -- at the front of a buffer: it ends at r, and the first r bytes are it
-pub record Front (s : List ℕ) (r : ℕ) (b : List ℕ) : Type 0 where
+pub record AtFront (s : List ℕ) (r : ℕ) (b : List ℕ) : Type 0 where
   pub ends-at : r ≡ length s
   pub within : r ≤ length b
   pub text : take r b ≡ s
 
-pub front-laid : {b s b′ : List ℕ} {r : ℕ} → Laid b 0 s r b′ → length s ≤ length b → Front s r b′
-front-laid {b} {s} {b′} {r} f h =
+pub at-front-laid : {b s b′ : List ℕ} {r : ℕ} → Laid b 0 s r b′ → length s ≤ length b → AtFront s r b′
+at-front-laid {b} {s} {b′} {r} f h =
     let st : Stands b 0 s r b′ = stands f (omega arith) in
     let long : r ≡ length s = omega (arith, st .ends-at) in
     record { ends-at = long; within = omega (arith, kept f); text = ap (take r) (st .from) ∙ take-at s (drop (0 + length s) b) r (sym long) }

@@ -20,7 +20,7 @@ use Rattle.steps.specs.declared.StepRecord.{StepRecord}
 use Rattle.steps.specs.Steps.{Step, meaning}
 use Rattle.steps.specs.Steps as step-of
 use Rattle.script.specs.Scripts.{fits, recordOf}
-use Rattle.script.proofs.Codec.{record-meaning}
+use Rattle.script.proofs.Scripts.{record-meaning}
 use Rattle.text.specs.declared.ReadNumber.{ReadNumber}
 use Rattle.text.specs.declared.ReadNumber.the-variants as number-is
 use Rattle.text.specs.declared.ReadCube.the-variants as cube-is
@@ -295,7 +295,7 @@ step-back (step-of.turn v i j) b t rest p none e =
     omega (arith, length-append (fieldText v) (fieldText i ++ fieldText j)) in
     let two : Two 65535 65535 t q i j _ = two-back 65535 65535 i j (b .i-word) (b .j-word) t rest q _ none long then in
     sym (step-read t p refl (word-turn t (fieldText v ++ tail) p whole)
-    (fields-read 4 (p + 4) t refl (field-back 255 v (b .v-byte) t tail (p + 4) q refl refl at) refl (two .first) refl refl (two .second) refl (unused 255 t _)))
+    (fields-read 4 (p + 4) t refl (field-back 255 v (b .v-byte) t tail (p + 4) q refl refl at) refl {b = two .between} (two .first) refl refl (two .second) refl (unused 255 t _)))
 step-back (step-of.L v x) b t rest p none e =
     let at : drop (p + 1) t ≡ (fieldText v ++ fieldText x) ++ rest = after-text lWord t ((fieldText v ++ fieldText x) ++ rest) p (p + 1) refl e in
     let long : p + length (lWord ++ (fieldText v ++ fieldText x)) ≡ p + 1 + length (fieldText v ++ fieldText x) = omega arith in

@@ -52,7 +52,7 @@ module _ {number at p k : ℕ} {word t : List ℕ} (m : Matching number word t a
 
 -- ---- numbers: what is read from p on, after x
 
-pub record Counting (most : ℕ) (t : List ℕ) (at p x : ℕ) : Type 0 where
+pub record Digits (most : ℕ) (t : List ℕ) (at p x : ℕ) : Type 0 where
   pub same : digitsFrom most (drop p t) p x ≡ numberAt most t at
 
 module _ (most at : ℕ) (t : List ℕ) {b : ℕ} {s : Bool} (e : b ≡ getD t at 0) (d : s ≡ isDigit b) where
@@ -60,11 +60,11 @@ module _ (most at : ℕ) (t : List ℕ) {b : ℕ} {s : Bool} (e : b ≡ getD t a
   unfolding numberAt
   no-digit h = simp (sym e, sym d ∙ not-true s h)
 
-  pub counting-none : not s ≡ false → Counting most t at at 0
+  pub digits-none : not s ≡ false → Digits most t at at 0
   unfolding numberAt
-  counting-none h = record { same = simp (sym e, sym d ∙ not-false s h) }
+  digits-none h = record { same = simp (sym e, sym d ∙ not-false s h) }
 
-module _ {most at p x : ℕ} {t : List ℕ} (m : Counting most t at p x) where
+module _ {most at p x : ℕ} {t : List ℕ} (m : Digits most t at p x) where
   on-digit : p < length t → digitsFrom most (getD t p 0 ∷ drop (p + 1) t) p x ≡ numberAt most t at
   on-digit h = rw (drop-cons t p 0 h, ← add-one p) at (m .same)
 
@@ -85,7 +85,7 @@ module _ {most at p x : ℕ} {t : List ℕ} (m : Counting most t at p x) where
       unfolding digitsFrom
       digits-above l = simp (sym d ∙ not-false s k, sym room ∙ not-true u l) at (on-digit h)
 
-      pub digits-more : not u ≡ false → Counting most t at (p + 1) (x * 10 + v)
+      pub digits-more : not u ≡ false → Digits most t at (p + 1) (x * 10 + v)
       unfolding digitsFrom
       digits-more l = record { same = rw g (simp (sym d ∙ not-false s k, sym room ∙ not-false u l) at (on-digit h)) }
 

@@ -3,4 +3,5 @@ pub mod Places
 pub mod Numbers
 pub mod Cubes
 pub mod Steps
+pub mod Printing
 pub mod Reading

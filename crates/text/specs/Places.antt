@@ -13,12 +13,12 @@ noPlace = 18446744073709551615
 
 -- the place after a byte at `at`, in a buffer of so many bytes
 abbrev pub nextPlace : ℕ → ℕ → ℕ
-nextPlace size at = cond (ltb at size) (at + 1) noPlace
+nextPlace room at = cond (ltb at room) (at + 1) noPlace
 
 -- the place after a text
 unfoldable pub ends : ℕ → ℕ → List ℕ → ℕ
-ends size at [] = at
-ends size at (x ∷ s) = ends size (nextPlace size at) s
+ends room at [] = at
+ends room at (x ∷ s) = ends room (nextPlace room at) s
 
 -- the buffer after it, byte by byte
 unfoldable pub laid : List ℕ → ℕ → List ℕ → List ℕ

@@ -5,11 +5,11 @@ use crate::number;
 use crate::place;
 use steps::StepRecord;
 ghost use mathlib.Core.Path.{_≡_};
-ghost use mathlib.Core.List.{_++_};
 ghost use Rattle.steps.specs.Steps.{meaning};
 ghost use Rattle.script.specs.Scripts.{usesJ};
 ghost use Rattle.text.specs.Places.{Laid};
-ghost use Rattle.text.specs.Steps.{fieldText, stepText};
+ghost use Rattle.text.specs.Steps.{stepText};
+ghost use Rattle.text.specs.Printing.{wordOf, fieldIf};
 ghost use Rattle.text.specs.Reading.{fieldAt, operationAt, fieldsAt, stepAt};
 
 // The greatest variable and literal, and the greatest place, that a step's record holds.
@@ -17,20 +17,34 @@ const MOST_BYTE: usize = 255;
 
 const MOST_PLACE: usize = 65535;
 
-// A space and a number.
-fn put_field(out: &mut [u8], at: usize, x: usize) -> usize
-    ensures { λ r. ⌜ Laid (now (out .entry)) at (fieldText x) r (now (out .exit)) ⌝ }
+// The word of an operation.
+fn put_word(out: &mut [u8], at: usize, op: u8) -> usize
+    ensures { λ r. ⌜ Laid (now (out .entry)) at (wordOf op) r (now (out .exit)) ⌝ }
 {
-    let next = place::put_byte(out, at, b' ');
-    number::put_number(out, next, x)
+    if op < 2 {
+        return place::put_text(out, at, b"drop");
+    }
+    if op == 2 {
+        return place::put_text(out, at, b"join");
+    }
+    if op == 3 {
+        return place::put_text(out, at, b"split");
+    }
+    if op == 4 {
+        return place::put_text(out, at, b"turn");
+    }
+    place::put_text(out, at, b"L")
 }
 
-// Two fields.
-fn put_two(out: &mut [u8], at: usize, x: usize, y: usize) -> usize
-    ensures { λ r. ⌜ Laid (now (out .entry)) at (fieldText x ++ fieldText y) r (now (out .exit)) ⌝ }
+// A space and a number, where the field is used.
+fn put_field(out: &mut [u8], at: usize, used: bool, x: usize) -> usize
+    ensures { λ r. ⌜ Laid (now (out .entry)) at (fieldIf used x) r (now (out .exit)) ⌝ }
 {
-    let next = put_field(out, at, x);
-    put_field(out, next, y)
+    if !used {
+        return at;
+    }
+    let next = place::put_byte(out, at, b' ');
+    number::put_number(out, next, x)
 }
 
 // A step at a place of a buffer, and the next place.
@@ -38,26 +52,11 @@ pub fn put_step(out: &mut [u8], at: usize, x: StepRecord) -> usize
     ensures { λ r. ⌜ Laid (now (out .entry)) at (stepText (meaning x)) r (now (out .exit)) ⌝ }
 {
     let op = x.op;
-    let v = x.v as usize;
-    if op < 2 {
-        let next = place::put_text(out, at, b"drop");
-        return put_two(out, next, x.i, x.j);
-    }
-    if op == 2 {
-        let next = place::put_text(out, at, b"join");
-        return put_two(out, next, x.i, x.j);
-    }
-    if op == 3 {
-        let next = place::put_text(out, at, b"split");
-        return put_two(out, next, v, x.i);
-    }
-    if op == 4 {
-        let next = place::put_text(out, at, b"turn");
-        let after = put_field(out, next, v);
-        return put_two(out, after, x.i, x.j);
-    }
-    let next = place::put_text(out, at, b"L");
-    put_two(out, next, v, x.literal as usize)
+    let v = put_word(out, at, op);
+    let i = put_field(out, v, 3 <= op, x.v as usize);
+    let j = put_field(out, i, op <= 4, x.i);
+    let literal = put_field(out, j, uses_j(op), x.j);
+    put_field(out, literal, 5 <= op, x.literal as usize)
 }
 
 // A field where it is used, and 0 where it isn't.

@@ -14,8 +14,8 @@ use Rattle.bits.specs.Sums.{oneIf}
 use Rattle.bits.specs.declared.packed.Packed.{Packed}
 use Rattle.bits.proofs.Bools.{below-or, all-at₂, all-at₃}
 use Rattle.bits.proofs.Bits.{bit-lt, bit-and, bit-xor}
-use Rattle.bits.proofs.packed.Words.{full-bit}
-use Rattle.bits.proofs.packed.Passes.{each-word, mask-bit, low-bit, high-bit, high-variable}
+use Rattle.bits.proofs.word.Masks.{full-bit, mask-bit}
+use Rattle.bits.proofs.packed.Passes.{each-word, low-bit, high-bit, high-variable}
 
 -- ---- the code's numbers
 

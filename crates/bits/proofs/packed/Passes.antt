@@ -3,37 +3,20 @@
 use mathlib.Core.Path.{_≡_, refl, sym, ap, ap₂, _∙_, subst}
 use mathlib.Core.Logic.{⊎-elim}
 use mathlib.Core.Bool.{Bool, true, false, cond}
-use Prim.Native.Nat.{ℕ, zero, suc, _+_, _-_, _*_, _/_, _%_, _^_, _≤_, _<_, min}
-use native.Mathlib.Nat.{mul-assoc, min-zero, add-comm, le-refl, one-mul}
+use Prim.Native.Nat.{ℕ, zero, suc, _+_, _-_, _*_, _/_, _%_, _^_, _≤_, _<_}
 use native.Mathlib.Omega.{arith}
-use borrow.Author.Tests.{eqb-true, ne-eqb, lt-ltb, le-ltb, ltb-true, ltb-false}
-use lib.Bits.{bitAnd, bitXor, differ}
-use lib.Dec.{eqb, ltb, lit<}
-use lib.Pow.{pow-lt, pow-add, shl-shr, shr-shr, field, mod-mod-pow}
-use Rattle.bits.specs.Bits.{bit, withBit}
-use Rattle.bits.specs.Packed.{wordAt, bitAt, plusUpper, plusLower, maskOf, loweredWord, raisedWord, eachWord, lowered, raised}
+use borrow.Author.Tests.{eqb-true, ne-eqb, lt-ltb, le-ltb}
+use lib.Bits.{bitXor}
+use lib.Dec.{eqb}
+use lib.Pow.{pow-add}
+use Rattle.bits.specs.Bits.{bit}
+use Rattle.bits.specs.Packed.{wordAt, bitAt, plusUpper, plusLower, loweredWord, raisedWord, eachWord, lowered, raised}
 use Rattle.bits.specs.declared.packed.Packed.{Packed}
-use Rattle.bits.proofs.Bools.{below-or, all-at₂, all-at₃}
-use Rattle.bits.proofs.Bits.{bit-lt, bit-high, bit-and, bit-xor, with-lt, shl-one}
-use Rattle.bits.proofs.packed.Words.{bit-xor-bits}
+use Rattle.bits.proofs.Bools.{below-or}
+use Rattle.bits.proofs.Bits.{bit-xor-bits, plus-lt, has-le, bit-shr, bit-cut}
+use Rattle.bits.proofs.word.Masks.{lower-bit, raise-bit}
 
 -- ---- the code's numbers
-
-module _ (k : ℕ) (small : k < 6) where
-  half-is : (1 * 2 ^ k) % 2 ^ 64 ≡ 2 ^ k
-  half-is = shl-one k 64 (omega arith)
-
-  pub half-fits : (1 * 2 ^ k) % 2 ^ 64 < 64
-  half-fits = subst (λ (x : ℕ). x < 64) (sym half-is) (pow-lt {j = 6} small)
-
-  module _ (x m : ℕ) (e : m ≡ maskOf k) where
-    pub lower-is : bitXor x (bitAnd (x / 2 ^ ((1 * 2 ^ k) % 2 ^ 64)) m) ≡ loweredWord k x
-    unfolding loweredWord
-    lower-is = ap₂ (λ (h y : ℕ). bitXor x (bitAnd (x / 2 ^ h) y)) half-is e
-
-    pub raise-is : bitXor x ((bitAnd x m * 2 ^ ((1 * 2 ^ k) % 2 ^ 64)) % 2 ^ 64) ≡ raisedWord k x
-    unfolding raisedWord
-    raise-is = ap₂ (λ (h y : ℕ). bitXor x ((bitAnd x y * 2 ^ h) % 2 ^ 64)) half-is e
 
 module _ (k : ℕ) (w : Packed) where
   module _ (h : k < 6) (a b c d : ℕ) where
@@ -64,51 +47,6 @@ module _ (k : ℕ) (w : Packed) where
     unfolding raised
     raised-above = rw (le-ltb k 6 l, ne-eqb k 6 d)
 
--- ---- bits of shifted numbers
-
-bit-shr : (x h j : ℕ) → bit (x / 2 ^ h) j ≡ bit x (j + h)
-bit-shr x h j = ap (λ (y : ℕ). y % 2) (shr-shr x h j ∙ ap (λ (i : ℕ). x / 2 ^ i) (add-comm h j))
-
--- a number has the bits of what was cut to it
-bit-cut : (n y j : ℕ) → j < n → bit (y % 2 ^ n) j ≡ bit y j
-bit-cut n y j h =
-    let e : n ≡ n - suc j + 1 + j = omega arith in
-    ap (λ (n : ℕ). y % 2 ^ n / 2 ^ j % 2) e ∙ ap (λ (z : ℕ). z % 2) (field y (n - suc j + 1) j) ∙ mod-mod-pow (y / 2 ^ j) (n - suc j) 1
-
-bit-shl-low : (x h j : ℕ) → j < h → bit (x * 2 ^ h) j ≡ 0
-bit-shl-low x h j l =
-    let e : h ≡ h - suc j + 1 + j = omega arith in
-    ap (λ (n : ℕ). x * 2 ^ n / 2 ^ j % 2) e
-    ∙ ap (λ (z : ℕ). z / 2 ^ j % 2) (ap (λ (z : ℕ). x * z) (pow-add 2 (h - suc j + 1) j) ∙ sym (mul-assoc x (2 ^ (h - suc j + 1)) (2 ^ j)))
-    ∙ ap (λ (z : ℕ). z % 2) (shl-shr (x * 2 ^ (h - suc j + 1)) j)
-    ∙ ap (λ (z : ℕ). z % 2) (ap (λ (z : ℕ). x * z) (pow-add 2 (h - suc j) 1) ∙ sym (mul-assoc x (2 ^ (h - suc j)) 2))
-    ∙ even (x * 2 ^ (h - suc j))
-  where
-    even : (z : ℕ) → z * 2 % 2 ≡ 0
-    even z = omega arith
-
-bit-shl-high : (x h j : ℕ) → h ≤ j → bit (x * 2 ^ h) j ≡ bit x (j - h)
-bit-shl-high x h j l =
-    let e : j ≡ h + (j - h) = omega arith in
-    ap (λ (n : ℕ). x * 2 ^ h / 2 ^ n % 2) e
-    ∙ ap (λ (z : ℕ). z % 2) (sym (shr-shr (x * 2 ^ h) h (j - h)) ∙ ap (λ (z : ℕ). z / 2 ^ (j - h)) (shl-shr x h))
-
-bit-shl : (x h j : ℕ) → bit (x * 2 ^ h) j ≡ cond (ltb j h) 0 (bit x (j - h))
-bit-shl x h j = go (ltb j h) refl
-  where
-    go : (b : Bool) → ltb j h ≡ b → bit (x * 2 ^ h) j ≡ cond b 0 (bit x (j - h))
-    go true e = bit-shl-low x h j (ltb-true j h e)
-    go false e = bit-shl-high x h j (ltb-false j h e)
-
--- ---- an index with the variable added, and without it
-
-plus-lt : (n k t : ℕ) → k < n → t < 2 ^ n → bit t k ≡ 0 → t + 2 ^ k < 2 ^ n
-unfolding withBit
-plus-lt n k t hk ht e = subst (λ (x : ℕ). x < 2 ^ n) (rw e (omega (arith, one-mul (2 ^ k)))) (with-lt n k t 1 hk (lit< tt) ht)
-
-has-le : (t k : ℕ) → bit t k ≡ 1 → 2 ^ k ≤ t
-has-le t k e = ⊎-elim (λ l. absurd (omega (arith, bit-high k t k l (le-refl k)))) (λ l. l) (below-or t (2 ^ k))
-
 -- ---- a sum where a variable is b
 
 sum-where : (b v v′ x x′ y y′ : ℕ) → v ≡ v′ → x ≡ x′ → (v ≡ b → y ≡ y′) → cond (eqb v b) (bitXor x y) x ≡ cond (eqb v′ b) (bitXor x′ y′) x′
@@ -131,45 +69,6 @@ unfolding plusLower
 plusLower-cong k f g t u = sum-where 1 (bit t k) (bit u k) (f t) (g u) (f (t - 2 ^ k)) (g (u - 2 ^ k))
 
 -- ---- a variable below 6 is one of the index in the word
-
-mask-test : ℕ → ℕ → Bool
-mask-test k j = eqb (bit (maskOf k) j) (1 - bit j k)
-
-above-test : ℕ → ℕ → Bool
-above-test k j = eqb (cond (ltb j (2 ^ k)) 0 (bit (maskOf k) (j - 2 ^ k))) (bit j k)
-
-module _ (k j : ℕ) (hk : k < 6) (hj : j < 64) where
-  pub mask-bit : bit (maskOf k) j ≡ 1 - bit j k
-  unfolding maskOf mask-test
-  mask-bit = eqb-true _ _ (all-at₂ 6 64 mask-test refl k j hk hj)
-
-  mask-above : cond (ltb j (2 ^ k)) 0 (bit (maskOf k) (j - 2 ^ k)) ≡ bit j k
-  unfolding maskOf above-test
-  mask-above = eqb-true _ _ (all-at₂ 6 64 above-test refl k j hk hj)
-
-  lower-bit : (x : ℕ) → bit (loweredWord k x) j ≡ plusUpper k (bit x) j
-  unfolding loweredWord plusUpper
-  lower-bit x =
-      bit-xor x (bitAnd (x / 2 ^ 2 ^ k) (maskOf k)) j
-      ∙ ap (differ (bit x j)) (bit-and (x / 2 ^ 2 ^ k) (maskOf k) j ∙ ap₂ min (bit-shr x (2 ^ k) j) mask-bit)
-      ∙ eqb-true _ _ (all-at₃ 2 2 2 (λ b x y. eqb (differ x (min y (1 - b))) (cond (eqb b 0) (bitXor x y) x)) refl
-      (bit j k) (bit x j) (bit x (j + 2 ^ k)) (bit-lt j k) (bit-lt x j) (bit-lt x (j + 2 ^ k)))
-
-  raise-bit : (x : ℕ) → bit (raisedWord k x) j ≡ plusLower k (bit x) j
-  unfolding raisedWord plusLower
-  raise-bit x =
-      let m : ℕ = bitAnd x (maskOf k) in
-      bit-xor x ((m * 2 ^ 2 ^ k) % 2 ^ 64) j
-      ∙ ap (differ (bit x j))
-      (bit-cut 64 (m * 2 ^ 2 ^ k) j hj ∙ bit-shl m (2 ^ k) j
-      ∙ ap (λ (z : ℕ). cond (ltb j (2 ^ k)) 0 z) (bit-and x (maskOf k) (j - 2 ^ k))
-      ∙ inside (ltb j (2 ^ k)) (bit x (j - 2 ^ k)) (bit (maskOf k) (j - 2 ^ k)) ∙ ap (min (bit x (j - 2 ^ k))) mask-above)
-      ∙ eqb-true _ _ (all-at₃ 2 2 2 (λ b x y. eqb (differ x (min y b)) (cond (eqb b 1) (bitXor x y) x)) refl
-      (bit j k) (bit x j) (bit x (j - 2 ^ k)) (bit-lt j k) (bit-lt x j) (bit-lt x (j - 2 ^ k)))
-    where
-      inside : (b : Bool) (y z : ℕ) → cond b 0 (min y z) ≡ min y (cond b 0 z)
-      inside true y z = sym (min-zero y)
-      inside false y z = refl
 
 pub each-word : (f : ℕ → ℕ) (w : Packed) (i : ℕ) → wordAt (eachWord f w) i ≡ f (wordAt w i)
 each-word f w zero = refl

@@ -1,24 +1,22 @@
 -- The bits of four words: where they stand, of both and of a sum, and how many are set.
 -- Assumes nothing.
 use mathlib.Core.Path.{_≡_, refl, sym, ap, ap₂, _∙_}
-use mathlib.Core.Bool.{Bool, true, false}
-use Prim.Native.Nat.{ℕ, zero, suc, _+_, _-_, _*_, _/_, _%_, _^_, _<_, _≤_, min, zero-le}
+use mathlib.Core.Bool.{Bool}
+use Prim.Native.Nat.{ℕ, zero, suc, _+_, _*_, _/_, _%_, _^_, _<_, _≤_, min}
 use native.Mathlib.Nat.{zero-add}
 use native.Mathlib.Numerals.{one-add}
 use native.Mathlib.Omega.{arith}
-use borrow.Author.Tests.{eqb-true}
 use lib.Arith.{lt-one}
-use lib.Bits.{bitAnd, bitXor, differ}
+use lib.Bits.{bitAnd, bitXor}
 use lib.Count.{ones, ones-step, ones-le}
-use lib.Dec.{eqb, lit<}
 use Rattle.bits.specs.Bits.{bit}
 use Rattle.bits.specs.Below.{sumBelow}
 use Rattle.bits.specs.Packed.{wordAt, bitAt, both, summed, fullOf}
 use Rattle.bits.specs.Sums.{oneIf}
 use Rattle.bits.specs.declared.packed.Packed.{Packed}
-use Rattle.bits.proofs.Bools.{all-at, all-at₂}
-use Rattle.bits.proofs.Bits.{bit-lt, bit-zero, bit-suc, half-lt, bit-high, bit-and, bit-xor}
+use Rattle.bits.proofs.Bits.{bit-lt, bit-zero, bit-suc, half-lt, bit-and, bit-xor-bits}
 use Rattle.bits.proofs.Below.{sum-cong, sum-parts, sum-none}
+use Rattle.bits.proofs.word.Masks.{full-bit}
 
 pub bitAt-lt : (w : Packed) (t : ℕ) → bitAt w t < 2
 unfolding bitAt
@@ -34,18 +32,6 @@ word-bit w i j h =
 
 -- ---- no bit, and every bit
 
-pub full-fits : (t : Bool) → fullOf t < 2 ^ 64
-full-fits true = lit< tt
-full-fits false = lit< tt
-
-full-test : Bool → ℕ → Bool
-full-test t j = eqb (bit (fullOf t) j) (oneIf t)
-
-pub full-bit : (t : Bool) (j : ℕ) → j < 64 → bit (fullOf t) j ≡ oneIf t
-unfolding full-test
-full-bit true j h = eqb-true _ _ (all-at 64 (full-test true) refl j h)
-full-bit false j h = bit-high 0 0 j (lit< tt) zero-le
-
 same-words : (x i : ℕ) → wordAt (record { a = x; b = x; c = x; d = x }) i ≡ x
 same-words x zero = refl
 same-words x (suc zero) = refl
@@ -58,10 +44,6 @@ unfolding bitAt
 full-bits t a = ap (λ (x : ℕ). bit x (a % 64)) (same-words (fullOf t) (a / 64)) ∙ full-bit t (a % 64) (omega arith)
 
 -- ---- both, and the sum
-
-pub bit-xor-bits : (x y j : ℕ) → bit (bitXor x y) j ≡ bitXor (bit x j) (bit y j)
-bit-xor-bits x y j =
-    bit-xor x y j ∙ sym (eqb-true _ _ (all-at₂ 2 2 (λ x y. eqb (bitXor x y) (differ x y)) refl (bit x j) (bit y j) (bit-lt x j) (bit-lt y j)))
 
 module _ (w v : Packed) where
   both-word : (i : ℕ) → wordAt (both w v) i ≡ bitAnd (wordAt w i) (wordAt v i)

@@ -8,16 +8,16 @@ use native.Mathlib.Nat.{le-refl, zero-add}
 use native.Mathlib.Omega.{arith}
 use lib.Bits.{bitXor}
 use lib.Dec.{ltb, lit<}
-use borrow.Author.Tests.{ltb-true, ltb-false, lt-ltb, le-ltb}
+use borrow.Author.Tests.{ltb-true, ltb-false}
 use Rattle.bits.specs.Bits.{bit}
 use Rattle.bits.specs.Below.{leastBelow, LeastIn}
 use Rattle.bits.specs.Packed.{packed, lowered, raised}
 use Rattle.bits.specs.declared.packed.Packed.{Packed}
-use Rattle.bits.proofs.Bits.{bit-high, with-other, shl-one}
+use Rattle.bits.proofs.Bits.{bit-high, with-other, plus-with, shl-one}
 use Rattle.bits.proofs.Least.{in-one, in-upper, in-lower, in-all}
 use Rattle.records.specs.declared.Refusal.{Refusal}
 use Rattle.records.specs.Answers.{accepted, refused}
-use Rattle.records.proofs.Answering.{and-then, and-not}
+use Rattle.records.proofs.Answers.{and-then, and-not}
 use Rattle.polarity.specs.declared.Counts.{Counts}
 use Rattle.polarity.specs.declared.choose.Chosen.{Chosen}
 use Rattle.polarity.specs.Forms.{coefficient, formList, size, countsOf, rankOf, rank, bestPolarity}
@@ -25,7 +25,7 @@ use Rattle.polarity.specs.Vectors.{byteAt, Vector, checkVector}
 use Rattle.polarity.specs.Calls.{bestOutcome}
 use Rattle.polarity.specs.Words.{Shows, passed, countsIn, bestOfOne, lesserOf, bestFrom}
 use Rattle.polarity.proofs.Parities.{pow-double, parity-lt}
-use Rattle.polarity.proofs.Passes.{plus-with, xor-with}
+use Rattle.polarity.proofs.Passes.{xor-with}
 use Rattle.polarity.proofs.Shown.{shows-vector, shows-positive, shows-turn, shown-counts}
 
 -- w shows the coefficients under p, which has no variable below k
@@ -115,13 +115,16 @@ best-all n l v w w′ c ew ew′ ec =
 
 -- ---- as the code goes
 
-pub lesser-upper : (x y : Chosen) → y .least < x .least → y ≡ lesserOf x y
+-- chosen field by field
+pub lesser-fields : (x y : Chosen) (p m r : ℕ) → p ≡ cond (ltb (y .least) (x .least)) (y .polarity) (x .polarity)
+    → m ≡ cond (ltb (y .least) (x .least)) (y .products) (x .products) → r ≡ cond (ltb (y .least) (x .least)) (y .least) (x .least)
+    → record { polarity = p; products = m; least = r } ≡ lesserOf x y
 unfolding lesserOf
-lesser-upper x y h = sym (ap (λ (t : Bool). cond t y x) (lt-ltb (y .least) (x .least) h))
-
-pub lesser-lower : (x y : Chosen) → x .least ≤ y .least → x ≡ lesserOf x y
-unfolding lesserOf
-lesser-lower x y h = sym (ap (λ (t : Bool). cond t y x) (le-ltb (y .least) (x .least) h))
+lesser-fields x y p m r ep em er = (λ i. record { polarity = ep i; products = em i; least = er i }) ∙ whole (ltb (y .least) (x .least))
+  where
+    whole : (t : Bool) → record { polarity = cond t (y .polarity) (x .polarity); products = cond t (y .products) (x .products); least = cond t (y .least) (x .least) } ≡ cond t y x
+    whole true = refl
+    whole false = refl
 
 pub one-is : (w : Packed) (p : ℕ) (c : Counts) (r : ℕ) → c ≡ countsIn w → r ≡ rankOf c → record { polarity = p; products = c .products; least = r } ≡ bestFrom 0 w p
 unfolding bestFrom bestOfOne
@@ -140,6 +143,9 @@ module _ (j k p : ℕ) (e : k ≡ j) where
 
   pub best-at : (w : Packed) (r : Chosen) → r ≡ bestFrom j w p → r ≡ bestFrom k w p
   best-at w r = subst (λ (i : ℕ). r ≡ bestFrom i w p) (sym e)
+
+  pub best-alike : (w v : Packed) → w ≡ v → (r : Chosen) → r ≡ bestFrom j w p → r ≡ bestFrom k v p
+  best-alike w v same r is = best-at v r (is ∙ ap (λ (x : Packed). bestFrom j x p) same)
 
 -- the halves of 2 ^ k polarities
 module _ (k : ℕ) (hk : k ≤ 8) (d : k ≡ 0 → ⊥) where

@@ -15,17 +15,17 @@ use Rattle.bits.proofs.Bools.{one-lt}
 use Rattle.records.specs.declared.Refusal.{Refusal}
 use Rattle.records.specs.Answers.{accepted, refused, refusal}
 use Rattle.records.specs.Records.{stored, written}
-use Rattle.records.proofs.Answering.{and-then, and-not}
-use Rattle.records.proofs.Holding.{length-stored}
+use Rattle.records.proofs.Answers.{and-then, and-not}
+use Rattle.records.proofs.Records.{length-stored}
 use Rattle.cube.specs.declared.Cube.{Cube}
 use Rattle.cube.specs.Lists.{cubes, narrow, cubeCapacity}
-use Rattle.cube.proofs.ListLaws.{good-narrow}
+use Rattle.cube.proofs.Lists.{good-narrow}
 use Rattle.polarity.specs.Forms.{product, formFrom}
 use Rattle.polarity.specs.Vectors.{byteAt, Vector, checkVector}
 use Rattle.polarity.specs.Calls.{formOutcome}
 use Rattle.polarity.specs.Words.{nonzero}
-use Rattle.polarity.proofs.Checks.{check-accepts, check-long}
-use Rattle.polarity.proofs.Listing.{those-next, those-skip, those-end, product-good, form-length}
+use Rattle.polarity.proofs.Vectors.{check-accepts, check-long}
+use Rattle.polarity.proofs.Forms.{those-next, those-skip, those-end, product-good, form-length}
 
 -- ---- counting
 

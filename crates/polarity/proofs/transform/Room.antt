@@ -1,24 +1,17 @@
 -- The checks of a vector, a polarity and a buffer's room, by the first test that fails; what an accepted call has, and what it writes.
 -- Assumes nothing.
 use mathlib.Core.Path.{_≡_, sym, ap, ap₂, _∙_, subst}
-use mathlib.Core.Bool.{Bool}
 use mathlib.Core.List.{List, [], _∷_, _++_}
 use Prim.Native.Nat.{ℕ, _^_, _<_, _≤_}
 use lib.Dec.{leb, ltb}
-use lib.ListN.{length, getD, take, drop}
-use lib.Seq.{length-take-le}
+use lib.ListN.{length, getD, drop}
 use borrow.Author.Tests.{le-leb, lt-leb, lt-ltb, le-ltb, leb-true, ltb-true}
-use Rattle.bits.specs.Below.{listBelow}
-use Rattle.bits.specs.Packed.{putBits}
-use Rattle.bits.specs.declared.packed.Packed.{Packed}
 use Rattle.records.specs.declared.Refusal.{Refusal}
 use Rattle.records.specs.Answers.{accepted, refused, refusal}
-use Rattle.records.proofs.Answering.{unless-accepted, both-accepted, accepted-values, and-then, and-not}
-use Rattle.polarity.specs.Vectors.{byteAt, Vector, checkVector}
+use Rattle.records.proofs.Answers.{unless-accepted, both-accepted, accepted-values, and-then, and-not}
+use Rattle.polarity.specs.Vectors.{Vector, checkVector}
 use Rattle.polarity.specs.Calls.{coefficientsOutcome}
-use Rattle.polarity.specs.Words.{Shows, transformed}
-use Rattle.polarity.proofs.Checks.{check-accepts, check-long}
-use Rattle.polarity.proofs.transform.Turning.{shows-put}
+use Rattle.polarity.proofs.Vectors.{check-accepts, check-long}
 
 -- ---- 15 and 5, after the check of the vector
 
@@ -51,13 +44,13 @@ module _ (n : ℕ) (l : List ℕ) (p room : ℕ) where
           ∙ sym (and-then _ _ _ e ∙ simp (lt-ltb p (2 ^ n) below, le-leb (2 ^ n) room (subst (λ (x : ℕ). x ≤ room) long-is h)))
 
 -- what an accepted call has
-pub record Roomy (n : ℕ) (l : List ℕ) (p room m : ℕ) : Type 0 where
+pub record AcceptedTransform (n : ℕ) (l : List ℕ) (p room m : ℕ) : Type 0 where
   pub vector : Vector n l
   pub long : m ≡ 2 ^ n
   pub polarity : p < 2 ^ n
   pub fits : m ≤ room
 
-pub room-accepts : (n : ℕ) (l : List ℕ) (p room m : ℕ) → coefficientsOutcome n l p room ≡ accepted (m ∷ []) → Roomy n l p room m
+pub room-accepts : (n : ℕ) (l : List ℕ) (p room m : ℕ) → coefficientsOutcome n l p room ≡ accepted (m ∷ []) → AcceptedTransform n l p room m
 unfolding coefficientsOutcome
 room-accepts n l p room m e =
     let b = both-accepted (checkVector n l) _ (m ∷ []) e in
@@ -71,9 +64,6 @@ room-accepts n l p room m e =
       fits = subst (λ (x : ℕ). x ≤ room) (sym long) (leb-true (2 ^ n) room (r .0));
     }
 
--- the bits of either transform, in the front of a buffer that has room
-pub roomy-put : (back : Bool) (n p : ℕ) (l out : List ℕ) (m : ℕ) → Roomy n l p (length out) m → (w : Packed) → Shows n (transformed back n p (byteAt l)) w
-    → (front : List ℕ) → front ≡ putBits w (take m out) → front ++ drop m out ≡ listBelow (2 ^ n) (transformed back n p (byteAt l)) ++ drop (2 ^ n) out
-roomy-put back n p l out m R w S front e =
-    ap₂ (λ (x : List ℕ) (j : ℕ). x ++ drop j out)
-    (e ∙ shows-put n (R .vector .few) (transformed back n p (byteAt l)) w S (take m out) (length-take-le m out (R .fits) ∙ R .long)) (R .long)
+-- the bytes that were put to the front of a buffer that has room
+pub transform-put : (n : ℕ) (l : List ℕ) (p : ℕ) (out : List ℕ) (m : ℕ) → AcceptedTransform n l p (length out) m → (new front : List ℕ) → front ≡ new → front ++ drop m out ≡ new ++ drop (2 ^ n) out
+transform-put n l p out m R new front e = ap₂ (λ (x : List ℕ) (j : ℕ). x ++ drop j out) e (R .long)

@@ -10,14 +10,15 @@ use native.Mathlib.Omega.{arith}
 use lib.Bits.{bitXor, xor-self, xor-zero-r}
 use lib.Dec.{eqb}
 use lib.ListN.{length, drop-of-length-le}
-use lib.Pow.{pow-pos, mod-pow-add}
+use lib.Pow.{pow-pos, pow-mono, mod-pow-add}
 use borrow.Author.Tests.{eq-eqb, ne-eqb}
 use Rattle.bits.specs.Bits.{bit}
 use Rattle.bits.specs.Below.{listBelow}
-use Rattle.bits.specs.Packed.{bitAt, packed, putBits, lowered, raised}
+use Rattle.bits.specs.Packed.{alone, bitAt, packed, putBits, lowered, raised}
 use Rattle.bits.specs.declared.packed.Packed.{Packed}
 use Rattle.bits.proofs.Bits.{bit-lt, bit-high}
 use Rattle.bits.proofs.Below.{listBelow-cong}
+use Rattle.bits.proofs.packed.Alone.{alone-bit}
 use Rattle.polarity.specs.Forms.{parityWithin, coefficient, valueBack}
 use Rattle.polarity.specs.Vectors.{byteAt, Vector}
 use Rattle.polarity.specs.Words.{Shows, passed, turned, transformed}
@@ -96,6 +97,12 @@ shows-put n few f w S b e =
     let places : min 256 (length b) ≡ 2 ^ n = omega (arith, e, most n few) in
     ap₂ (λ (x y : List ℕ). x ++ y) (ap (λ (m : ℕ). listBelow m (bitAt w)) places ∙ listBelow-cong (2 ^ n) (bitAt w) f (S .low)) (drop-of-length-le b {i = 256} (omega (arith, e, most n few)))
     ∙ append-nil (listBelow (2 ^ n) f)
+
+-- with at most six variables, of the first word
+pub shows-word : (n : ℕ) → n ≤ 6 → (f : ℕ → ℕ) (x : ℕ) → Shows n f (alone x) → (m : ℕ) → m ≡ 2 ^ n → listBelow m (bit x) ≡ listBelow (2 ^ n) f
+shows-word n few f x S m e =
+    ap (λ (k : ℕ). listBelow k (bit x)) e
+    ∙ listBelow-cong (2 ^ n) (bit x) f (λ t h. sym (alone-bit x t (omega (arith, pow-mono {j = 6} few))) ∙ S .low t h)
 
 -- ---- one pass as the code goes, and the loop of the passes
 

@@ -1,42 +1,67 @@
 -- The check of a vector, by the first test that fails.
 -- Assumes nothing.
 use mathlib.Core.Path.{_≡_, sym, ap, _∙_}
+use mathlib.Core.Bool.{Bool, true, false, _&&_}
 use mathlib.Core.List.{List, [], _∷_}
-use Prim.Native.Nat.{ℕ, _+_, _*_, _%_, _^_, _<_, _≤_, zero-le}
-use native.Mathlib.Nat.{zero-add}
+use Prim.Native.Nat.{ℕ, _+_, _-_, _*_, _%_, _^_, _<_, _≤_}
+use native.Mathlib.Nat.{div-one}
 use native.Mathlib.Omega.{arith}
-use lib.ListN.{length, drop}
+use lib.Dec.{leb, lit<}
+use lib.ListN.{length, getD, take, drop}
+use lib.Seq.{getD-take, getD-drop}
 use borrow.Author.Tests.{le-leb, lt-leb, eq-eqb, ne-eqb}
-use Rattle.bits.specs.Sums.{firstBad}
+use Rattle.bits.specs.Below.{allBelow}
+use Rattle.bits.specs.Sums.{oneIf, firstBad}
+use Rattle.bits.proofs.Bools.{all-ext}
 use Rattle.bits.proofs.Bits.{shl-one}
-use Rattle.bits.proofs.Sums.{looking-on, looking-here, looking-end}
 use Rattle.records.specs.declared.Refusal.{Refusal}
 use Rattle.records.specs.Answers.{accepted, refused, refusal}
+use Rattle.records.specs.Records.{listOf}
+use Rattle.records.specs.Strides.{passFrom, strideFrom}
+use Rattle.records.proofs.Records.{bytes, list-bytes}
+use Rattle.records.proofs.Looking.{Looking, found-none}
+use Rattle.records.proofs.Striding.{stride-found, stride-next}
 use Rattle.cube.specs.Lists.{vectorVariables}
 use Rattle.polarity.specs.Vectors.{byteAt, isBit, checkVector}
 
--- ---- the lowest byte above 1
+-- ---- the lowest byte above 1: bytes are records of width 1
 
--- the bytes before i are 0 or 1
-pub record BitsBefore (l : List ℕ) (i : ℕ) : Type 0 where
-  pub within : i ≤ length l
-  pub so-far : firstBad isBit l ≡ i + firstBad isBit (drop i l)
+module _ (l : List ℕ) (i : ℕ) where
+  pub stride-short : length l - i < 8 → false ≡ passFrom isBit 0 8 l i
+  unfolding passFrom
+  stride-short h = sym (simp (lt-leb 8 (length l - i) h))
 
-module _ (l : List ℕ) where
-  pub before-none : BitsBefore l 0
-  before-none = record { within = zero-le; so-far = sym (zero-add (firstBad isBit l)) }
+  pub stride-eight : 8 ≤ length l - i → (end : ℕ) → end ≡ i + 8 → (t : Bool) → t ≡ allBelow 8 (λ j. isBit (getD (take (end - i) (drop i l)) j 0)) → t ≡ passFrom isBit 0 8 l i
+  unfolding passFrom
+  stride-eight h end e t et =
+      et ∙ all-ext 8 (λ j. isBit (getD (take (end - i) (drop i l)) j 0)) (λ j. isBit (byteAt l (i + j)))
+      (λ j b. ap isBit (getD-take (end - i) (drop i l) j 0 (omega arith) ∙ getD-drop i l j 0))
+      ∙ sym (ap (λ (t : Bool). t && allBelow 8 (λ j. isBit (byteAt l (i + j)))) (le-leb 8 (length l - i) h))
 
-  module _ (i : ℕ) (r : BitsBefore l i) where
-    pub found-none : length l ≤ i → length l ≡ firstBad isBit l
-    found-none h =
-        let e : length l ≡ i = omega (arith, r .within) in
-        e ∙ sym (looking-end isBit 0 l i h (r .so-far))
+  pub passed-all : passFrom isBit 0 8 l i ≡ true → 8 ≡ strideFrom isBit 0 8 l i
+  unfolding strideFrom
+  passed-all e = sym (simp e)
 
-    pub found-bad : i < length l → 1 < byteAt l i → i ≡ firstBad isBit l
-    found-bad h b = sym (looking-here isBit 0 l i h (lt-leb (byteAt l i) 1 b) (r .so-far))
+  pub passed-one : passFrom isBit 0 8 l i ≡ false → oneIf (leb (byteAt l i) 1) ≡ strideFrom isBit 0 8 l i
+  unfolding strideFrom
+  passed-one e = sym (simp e)
 
-    pub before-next : i < length l → byteAt l i ≤ 1 → BitsBefore l (i + 1)
-    before-next h b = record { within = omega arith; so-far = looking-on isBit 0 l i h (le-leb (byteAt l i) 1 b) (r .so-far) }
+  module _ (r : Looking bytes isBit l i) where
+    pub none-bad : length l ≤ i → length l ≡ firstBad isBit l
+    none-bad h = sym (div-one (length l)) ∙ found-none bytes isBit l i r (rw div-one h) ∙ ap (firstBad isBit) (list-bytes l)
+
+    module _ (h : i < length l) (g : ℕ) (eg : g ≡ strideFrom isBit 0 8 l i) where
+      from-bytes : g ≡ strideFrom isBit 0 8 (listOf bytes l) i
+      from-bytes = eg ∙ ap (λ (b : List ℕ). strideFrom isBit 0 8 b i) (sym (list-bytes l))
+
+      pub bad-here : g ≡ 0 → i ≡ firstBad isBit l
+      bad-here z = stride-found bytes isBit l i r (rw div-one h) 8 (lit< tt) g from-bytes z ∙ ap (firstBad isBit) (list-bytes l)
+
+      pub bits-on : (g ≡ 0 → ⊥) → Looking bytes isBit l (i + g)
+      bits-on = stride-next bytes isBit l i r (rw div-one h) 8 (lit< tt) g from-bytes
+
+      pub bits-within : (g ≡ 0 → ⊥) → i + g ≤ length l
+      bits-within z = rw div-one at (bits-on z .within)
 
 -- ---- 1 and 14
 

@@ -4,28 +4,28 @@ use mathlib.Core.Path.{sym}
 use Prim.Native.Nat.{_-_, _≤_}
 use lib.ListN.{length}
 use borrow.Author.Needs.{needs}
-use Rattle.records.specs.Records.{filled}
-use Rattle.records.proofs.Filling.{Front, filled-not, filling-none, filling-list, filling-zero, filling-rest, filling-done}
+use Rattle.bits.proofs.Front.{Front, front-none}
+use Rattle.records.proofs.Filling.{filled-not, filling, filling-list, filling-zero, filling-rest, filling-end}
 use Rattle.records.proofs.fill.Statement.{statement}
 use Rattle.records.proofs.fill.Tie as tie
 
 abbrev Inv-loop : tie.InvT-loop
-Inv-loop buf₀ list size k₀ buf k = (length list ≤ length buf₀) × (k ≤ length list) × Front (filled (length buf₀) list) buf₀ buf k
+Inv-loop buf₀ list end k₀ buf k = (length list ≤ length buf₀) × (k ≤ length list) × Front (filling buf₀ list) buf₀ buf k
 
 abbrev μ-loop : tie.MeasureT-loop
-μ-loop buf₀ list size k₀ buf k = length list - k
+μ-loop buf₀ list end k₀ buf k = length list - k
 
 abbrev Inv-loop2 : tie.InvT-loop2
-Inv-loop2 buf₀ list size k₀ buf k = (length list ≤ length buf₀) × (length list ≤ k) × Front (filled (length buf₀) list) buf₀ buf k
+Inv-loop2 buf₀ list end k₀ buf k = (length list ≤ length buf₀) × (length list ≤ k) × Front (filling buf₀ list) buf₀ buf k
 
 abbrev μ-loop2 : tie.MeasureT-loop2
-μ-loop2 buf₀ list size k₀ buf k = length buf₀ - k
+μ-loop2 buf₀ list end k₀ buf k = length buf₀ - k
 
 returns : tie.Need-returns Inv-loop μ-loop Inv-loop2 μ-loop2
 returns c = sym (filled-not _ _ (c .if1 .taken))
 
 loop-holds : tie.Need-loop-holds Inv-loop μ-loop Inv-loop2 μ-loop2
-loop-holds c = (search needs, search needs, search filling-none)
+loop-holds c = (search needs, search needs, front-none _ _)
 
 shared-slice-read-buf : tie.Need-shared-slice-read-buf Inv-loop μ-loop Inv-loop2 μ-loop2
 shared-slice-read-buf c = search needs
@@ -61,7 +61,7 @@ same-length : tie.Need-same-length Inv-loop μ-loop Inv-loop2 μ-loop2
 same-length c = search needs
 
 returns-2 : tie.Need-returns-2 Inv-loop μ-loop Inv-loop2 μ-loop2
-returns-2 c = search filling-done
+returns-2 c = search filling-end
 
 pub fill-spec : {M : Type 1} → statement M
 fill-spec =

@@ -18,9 +18,9 @@ use Rattle.steps.specs.Moves.{After, stop, next}
 use Rattle.steps.specs.Steps.{Step, meaning, meaningBy, step}
 use Rattle.steps.specs.Calls.{stepped, workStepped}
 use Rattle.steps.proofs.Making.{means}
-use Rattle.script.specs.declared.Progress.{Progress}
+use Rattle.script.specs.declared.Standing.{Standing}
 use Rattle.script.specs.Pending.{pendStep}
-use Rattle.script.specs.Progress.{standing, halted, advanced, workAdvanced}
+use Rattle.script.specs.Progress.{at, advanced, workAdvanced}
 
 -- ---- what is pending after a step
 
@@ -45,40 +45,39 @@ module _ (os : List ℕ) (x : StepRecord) where
 
 -- ---- where the run stands after it, by what the step answers and leaves
 
-module _ (n cap k : ℕ) (x : Step) (p : Progress) (b b₁ : List ℕ) (s : Stepped) (es : s ≡ stepped (step n cap x (records cubes (p .count) b)))
+module _ (n cap : ℕ) (x : Step) (p : Standing) (b b₁ : List ℕ) (s : Stepped) (es : s ≡ stepped (step n cap x (records cubes (p .count) b)))
     (eb : b₁ ≡ workStepped b (step n cap x (records cubes (p .count) b))) where
   pub advance-refused : (number : ℕ) → s ≡ stepped-is.Refused number → (b₂ : List ℕ) → b₂ ≡ zeros (length b₁)
-      → (halted number k ≡ advanced k x p (step n cap x (records cubes (p .count) b))) × (b₂ ≡ workAdvanced b (step n cap x (records cubes (p .count) b)))
+      → (advanced p (stop number) ≡ advanced p (step n cap x (records cubes (p .count) b))) × (b₂ ≡ workAdvanced b (step n cap x (records cubes (p .count) b)))
   advance-refused number en b₂ ez = go (step n cap x (records cubes (p .count) b)) es eb
     where
-      go : (e : After Cube) → s ≡ stepped e → b₁ ≡ workStepped b e → (halted number k ≡ advanced k x p e) × (b₂ ≡ workAdvanced b e)
-      go (stop r) es eb = let same : number ≡ r = cc in (ap (λ (m : ℕ). halted m k) same, ez ∙ ap (λ (t : List ℕ). zeros (length t)) eb)
+      go : (e : After Cube) → s ≡ stepped e → b₁ ≡ workStepped b e → (advanced p (stop number) ≡ advanced p e) × (b₂ ≡ workAdvanced b e)
+      go (stop r) es eb = let same : number ≡ r = cc in (ap (λ (m : ℕ). advanced p (stop m)) same, ez ∙ ap (λ (t : List ℕ). zeros (length t)) eb)
       go (next l) es eb = let z : _≡_ {A = ℕ} 0 1 = cc in absurd (omega arith)
 
-  pub advance-done : (count : ℕ) → s ≡ stepped-is.Count count → (peak : ℕ) → peak ≡ max (p .peak) count → (pending : List ℕ) → pending ≡ pendStep (p .pending) x
-      → (standing count peak pending ≡ advanced k x p (step n cap x (records cubes (p .count) b)))
-      × (b₁ ≡ workAdvanced b (step n cap x (records cubes (p .count) b)))
-  advance-done count en peak ep pending eo = go (step n cap x (records cubes (p .count) b)) es eb
+  pub advance-done : (count : ℕ) → s ≡ stepped-is.Count count → (peak : ℕ) → peak ≡ max (p .peak) count
+      → (at count peak ≡ advanced p (step n cap x (records cubes (p .count) b))) × (b₁ ≡ workAdvanced b (step n cap x (records cubes (p .count) b)))
+  advance-done count en peak ep = go (step n cap x (records cubes (p .count) b)) es eb
     where
-      go : (e : After Cube) → s ≡ stepped e → b₁ ≡ workStepped b e → (standing count peak pending ≡ advanced k x p e) × (b₁ ≡ workAdvanced b e)
+      go : (e : After Cube) → s ≡ stepped e → b₁ ≡ workStepped b e → (at count peak ≡ advanced p e) × (b₁ ≡ workAdvanced b e)
       go (stop r) es eb = let z : _≡_ {A = ℕ} 0 1 = cc in absurd (omega arith)
       go (next l) es eb =
           let many : count ≡ length l = cc in
           let greatest : peak ≡ max (p .peak) (length l) = ep ∙ ap (max (p .peak)) many in
-          ((λ j. standing (many j) (greatest j) (eo j)), eb)
+          ((λ j. at (many j) (greatest j)), eb)
 
 -- ---- and the other way: the step by where the run stands after it
 
-pub record Went (e : After Cube) (q : Progress) : Type 0 where
+pub record Went (e : After Cube) (q : Standing) : Type 0 where
   pub list : List Cube
   pub is : e ≡ next list
   pub many : q .count ≡ length list
 
-module _ (k : ℕ) (x : Step) (p q : Progress) where
-  pub went : (e : After Cube) → q ≡ advanced k x p e → q .done ≡ true → Went e q
-  went (stop r) e f = absurd (true≢false (sym f ∙ ap (λ (t : Progress). t .done) e))
-  went (next l) e f = record { list = l; is = refl; many = ap (λ (t : Progress). t .count) e }
+module _ (p q : Standing) where
+  pub went : (e : After Cube) → q ≡ advanced p e → q .done ≡ true → Went e q
+  went (stop r) e f = absurd (true≢false (sym f ∙ ap (λ (t : Standing). t .done) e))
+  went (next l) e f = record { list = l; is = refl; many = ap (λ (t : Standing). t .count) e }
 
-  pub halts : (e : After Cube) → q ≡ advanced k x p e → q .done ≡ false → e ≡ stop (q .number)
-  halts (stop r) e f = ap stop (sym (ap (λ (t : Progress). t .number) e))
-  halts (next l) e f = absurd (true≢false (sym (ap (λ (t : Progress). t .done) e) ∙ f))
+  pub halts : (e : After Cube) → q ≡ advanced p e → q .done ≡ false → e ≡ stop (q .number)
+  halts (stop r) e f = ap stop (sym (ap (λ (t : Standing). t .number) e))
+  halts (next l) e f = absurd (true≢false (sym (ap (λ (t : Standing). t .done) e) ∙ f))

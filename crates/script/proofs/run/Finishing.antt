@@ -9,12 +9,12 @@ use lib.ListN.{length, getD, length-map}
 use Rattle.bits.specs.Sums.{All}
 use Rattle.records.specs.declared.Refusal.{Refusal}
 use Rattle.records.specs.Records.{Holds, Held, records, listOf, image, filledBy}
-use Rattle.records.specs.Answers.{Outcome, accepted, refused, refusal}
-use Rattle.records.proofs.Holding.{length-records, length-list, capacity-fits, held-fits, holds-records, image-holds}
+use Rattle.records.specs.Answers.{Outcome, accepted, refused, refusal, Accepts}
+use Rattle.records.proofs.Records.{length-records, length-list, capacity-fits, held-fits, holds-records, image-holds}
 use Rattle.cube.specs.declared.Cube.{Cube}
 use Rattle.cube.specs.Cubes.{Good}
 use Rattle.cube.specs.Lists.{cubes, cubesOf, cubeCapacity, recordWidth, mostRecords, mostVariables}
-use Rattle.cube.proofs.ListLaws.{lawful, all-good-more}
+use Rattle.cube.proofs.Lists.{lawful, all-good-more}
 use Rattle.orders.specs.Orders.{orderCount}
 use Rattle.steps.specs.Steps.{Step, step}
 use Rattle.steps.specs.Calls.{Ready}
@@ -25,22 +25,22 @@ use Rattle.script.specs.Run.{Ran, stopped, ended, stepsFrom, undo, finis
 use Rattle.script.specs.Pending.{nonePending, pend, restored}
 use Rattle.script.specs.Scripts.{stepRecords, stepsOf, fits}
 use Rattle.script.specs.Calls.{checkRun, runOf, ranOutcome, runOutcome, ranWork, runAfter, finished}
-use Rattle.script.specs.Progress.{progressOf, Stepping, Passed, Answered}
+use Rattle.script.specs.Progress.{progressOf, Stepping, Answered}
 use Rattle.script.proofs.Pending.{undo-pending, pending-orders}
-use Rattle.script.proofs.Codec.{script-fits}
+use Rattle.script.proofs.Scripts.{script-fits}
 use Rattle.script.proofs.Filled.{filled-records, filled-long, filled-ready}
-use Rattle.script.proofs.Outcomes.{Runnable, runnable, run-answers, run-leaves}
+use Rattle.script.proofs.Outcomes.{AcceptedRun, run-checked, run-answers, run-leaves}
 
-module _ (n : ℕ) (list script work : List ℕ) (p : Passed (checkRun n list script (length work))) (small : (i : ℕ) → getD list i 0 < 256)
+module _ (n : ℕ) (list script work : List ℕ) (p : Accepts (checkRun n list script (length work))) (small : (i : ℕ) → getD list i 0 < 256)
     (cap : ℕ) (ec : cap ≡ cubeCapacity (length work)) where
-  ok : Runnable n list script (length work)
-  ok = runnable n list script (length work) p
+  ok : AcceptedRun n list script (length work)
+  ok = run-checked n list script (length work) p
 
   abbrev count : ℕ
   count = length list / recordWidth
 
   run-room : length list ≤ length work
-  run-room = omega (arith, ok .list-is .whole, ok .room, capacity-fits cubes mostRecords (length work))
+  run-room = omega (arith, ok .list-is .whole, ok .fits, capacity-fits cubes mostRecords (length work))
 
   module _ (w₁ : List ℕ) (e₁ : w₁ ≡ filledBy work list) where
     same : records cubes count w₁ ≡ cubesOf list
@@ -130,14 +130,14 @@ module _ (n : ℕ) (list script work : List ℕ) (p : Passed (checkRun n list sc
         run-done w₃ e₃ =
             let undone : map (restored n (r .pending)) (records cubes (r .count) w₂) ≡ undo xs l =
             ap (λ (os : List ℕ). map (restored n os) (records cubes (r .count) w₂)) (t .orders)
-            ∙ sym (undo-pending n (ok .list-is .few) xs (script-fits n script (ok .script-is .fit)) (records cubes (r .count) w₂) (s .ready f .good))
+            ∙ sym (undo-pending n (ok .list-is .few) xs (script-fits n script (ok .script-is .each)) (records cubes (r .count) w₂) (s .ready f .good))
             ∙ ap (undo xs) list-is-last in
             let many-undone : r .count ≡ length (undo xs l) =
             sym (length-records cubes (r .count) w₂) ∙ sym (length-map (records cubes (r .count) w₂) (restored n (r .pending))) ∙ ap length undone in
             let is : runOf n list script (length work) ≡ ended (undo xs l) (r .peak) = run-is ∙ ap (finish xs) (t .is) in
             record {
               answer = ap (λ (k : ℕ). accepted (k ∷ r .peak ∷ [])) many-undone ∙ sym (ap ranOutcome is);
-              buffer = e₃ ∙ ap₂ (λ (size : ℕ) (m : List Cube). image cubes size m) (k₂ ∙ long) undone ∙ sym (ap (ranWork (length work)) is);
+              buffer = e₃ ∙ ap₂ (λ (room : ℕ) (m : List Cube). image cubes room m) (k₂ ∙ long) undone ∙ sym (ap (ranWork (length work)) is);
             }
 
 -- ---- the whole call

@@ -10,15 +10,15 @@ use Rattle.bits.specs.Sums.{All}
 use Rattle.bits.proofs.Sums.{all-map, map-same, map-each}
 use Rattle.records.specs.Records.{Holds, Held, records, image}
 use Rattle.records.proofs.Images.{length-image}
-use Rattle.records.proofs.Holding.{length-records, holds-held, holds-records, holds-fits, image-holds}
+use Rattle.records.proofs.Records.{length-records, holds-held, holds-records, holds-fits, image-holds}
 use Rattle.cube.specs.declared.Cube.{Cube}
 use Rattle.cube.specs.Cubes.{Good, code, put}
 use Rattle.cube.specs.Lists.{cubes, mostVariables}
 use Rattle.cube.proofs.Codes.{code-lt, put-self}
-use Rattle.cube.proofs.ListLaws.{lawful}
+use Rattle.cube.proofs.Lists.{lawful}
 use Rattle.orders.specs.Orders.{orderCount, noOrder, inverse}
-use Rattle.orders.specs.Orders.{image as order-image}
-use Rattle.orders.proofs.OrderLaws.{image-none, inverse-none}
+use Rattle.orders.specs.Orders.{codeAfter}
+use Rattle.orders.proofs.Orders.{code-after-none, inverse-none}
 use Rattle.steps.specs.Steps.{reordered}
 use Rattle.script.specs.Pending.{restored}
 use Rattle.script.proofs.Pending.{restored-good, restored-next, restored-none}
@@ -27,8 +27,8 @@ use Rattle.script.proofs.Pending.{restored-good, restored-next, restore
 none-reordered : (v : ℕ) (c : Cube) → v < mostVariables → Good mostVariables c → c ≡ reordered v (inverse noOrder) c
 unfolding reordered
 none-reordered v c h g =
-    sym (ap (λ (o : ℕ). put c v (order-image o (code c v))) inverse-none
-    ∙ ap (put c v) (image-none (code c v) (code-lt c v)) ∙ put-self mostVariables c v g h)
+    sym (ap (λ (o : ℕ). put c v (codeAfter o (code c v))) inverse-none
+    ∙ ap (put c v) (code-after-none (code c v) (code-lt c v)) ∙ put-self mostVariables c v g h)
 
 none-all : (v : ℕ) (l : List Cube) → v < mostVariables → All (Good mostVariables) l → l ≡ map (reordered v (inverse noOrder)) l
 none-all v l h a = map-same l ∙ map-each (Good mostVariables) (λ c. c) (reordered v (inverse noOrder)) (λ c g. none-reordered v c h g) l a
@@ -92,4 +92,4 @@ module _ (n count : ℕ) (pending d : List ℕ) where
     unfolding Holds
     undoing-end h =
         let e : v ≡ n = omega (arith, r .within) in
-        r .holds ∙ ap₂ (λ (size k : ℕ). image cubes size (map (restored k pending) (records cubes count d))) (r .long) e
+        r .holds ∙ ap₂ (λ (room k : ℕ). image cubes room (map (restored k pending) (records cubes count d))) (r .long) e

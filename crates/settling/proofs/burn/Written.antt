@@ -14,22 +14,22 @@ use Rattle.records.specs.Records.{listOf, image, filled, filledBy, flat, zeros,
 use Rattle.records.specs.declared.Counted.{Counted}
 use Rattle.records.specs.declared.Counted.the-variants as counted-is
 use Rattle.records.specs.declared.Refusal.{Refusal}
-use Rattle.records.proofs.Answering.{not-both, and-then, unless-passes, after-accepted}
+use Rattle.records.proofs.Answers.{not-both, and-then, unless-passes, after-accepted}
 use Rattle.records.proofs.Filling.{filled-by, drop-zeros}
-use Rattle.records.proofs.Holding.{length-list, capacity-fits, written-front}
+use Rattle.records.proofs.Records.{length-list, capacity-fits, written-front}
 use Rattle.records.proofs.Images.{length-flat}
 use Rattle.cube.specs.Lists.{cubes, cubesOf, cubeCapacity, recordWidth, mostRecords, truthVector}
 use Rattle.cube.specs.declared.Cube.{Cube}
-use Rattle.cube.proofs.ListLaws.{cubes-bytes, lawful}
+use Rattle.cube.proofs.Lists.{cubes-bytes, lawful}
 use Rattle.polarity.specs.Calls.{coefficientsOutcome, coefficientsAfter, formOutcome, formAfter}
 use Rattle.polarity.specs.Forms.{formList, parityWithin, coefficient, formFrom}
 use Rattle.polarity.specs.Vectors.{byteAt, Vector, coefficientVector}
-use Rattle.polarity.proofs.Listing.{form-cong}
+use Rattle.polarity.proofs.Forms.{form-cong}
 use Rattle.settling.specs.Choice.{listFrom, Named, FormFits, Burnable, BurnedIs}
 use Rattle.settling.specs.declared.BestForm.{BestForm}
 use Rattle.settling.specs.declared.Origin.{Origin}
 use Rattle.settling.specs.declared.Origin.the-variants as origin-is
-use Rattle.settling.proofs.Forming.{truth-vector-is, size-is, bits-vector, vector-accepted}
+use Rattle.settling.proofs.Forming.{truth-vector-is, power-is, bits-vector, vector-accepted}
 
 pub list-burned : (list out : List ℕ) → length list % recordWidth ≡ 0 → length (cubesOf list) ≤ cubeCapacity (length out) → ((i : ℕ) → getD list i 0 < 256)
     → (out′ : List ℕ) → out′ ≡ filledBy out list → BurnedIs (cubesOf list) out out′ (length list / recordWidth)
@@ -44,21 +44,21 @@ list-burned list out whole room small out′ e =
 -- ---- the vector at the front of a buffer
 
 module _ (n : ℕ) (v : List ℕ) (p out : ℕ) (fits : FormFits n v p out) where
-  size-long : (1 * 2 ^ n) % 2 ^ 64 ≡ 2 ^ n
-  size-long = size-is n (fits .vector .few)
+  power-long : (1 * 2 ^ n) % 2 ^ 64 ≡ 2 ^ n
+  power-long = power-is n (fits .vector .few)
 
   pub front-end : (1 * 2 ^ n) % 2 ^ 64 ≤ length v
-  front-end = omega (arith, size-long, fits .vector .long, length-take (2 ^ n) v)
+  front-end = omega (arith, power-long, fits .vector .long, length-take (2 ^ n) v)
 
   pub front-vector : Vector n (take ((1 * 2 ^ n) % 2 ^ 64) v)
-  front-vector = subst (λ (k : ℕ). Vector n (take k v)) (sym size-long) (fits .vector)
+  front-vector = subst (λ (k : ℕ). Vector n (take k v)) (sym power-long) (fits .vector)
 
   pub front-room : length (formList n p (byteAt (take ((1 * 2 ^ n) % 2 ^ 64) v))) ≤ cubeCapacity out
-  front-room = subst (λ (k : ℕ). length (formList n p (byteAt (take k v))) ≤ cubeCapacity out) (sym size-long) (fits .room)
+  front-room = subst (λ (k : ℕ). length (formList n p (byteAt (take k v))) ≤ cubeCapacity out) (sym power-long) (fits .room)
 
   pub front-burned : (out₀ out′ : List ℕ) (r : ℕ) → BurnedIs (formList n p (byteAt (take ((1 * 2 ^ n) % 2 ^ 64) v))) out₀ out′ r
       → BurnedIs (formList n p (byteAt (take (2 ^ n) v))) out₀ out′ r
-  front-burned out₀ out′ r d = subst (λ (k : ℕ). BurnedIs (formList n p (byteAt (take k v))) out₀ out′ r) size-long d
+  front-burned out₀ out′ r d = subst (λ (k : ℕ). BurnedIs (formList n p (byteAt (take k v))) out₀ out′ r) power-long d
 
 -- ---- the list that an origin names
 

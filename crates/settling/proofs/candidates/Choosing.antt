@@ -13,17 +13,17 @@ use lib.Pow.{pow-pos, pow-mono}
 use lib.Seq.{getD-take}
 use lib.Bits.{bitXor}
 use Rattle.records.proofs.Counting.{Counting, counted-all}
-use Rattle.records.proofs.Holding.{length-list}
+use Rattle.records.proofs.Records.{length-list}
 use Rattle.cube.specs.Lists.{cubes, cubesOf, recordWidth, vectorVariables, truthVector}
 use Rattle.cube.specs.declared.Cube.{Cube}
 use Rattle.polarity.specs.Forms.{parityWithin, coefficient, formList, countsOf, rankOf, rank}
 use Rattle.polarity.specs.Vectors.{byteAt, Vector}
 use Rattle.polarity.specs.declared.Counts.{Counts}
-use Rattle.polarity.proofs.Listing.{form-counts}
+use Rattle.polarity.proofs.Forms.{form-counts}
 use Rattle.polarity.proofs.Parities.{parity-zero, parity-low, parity-lt}
 use Rattle.polarity.proofs.Theorems.{best-has-fewest}
 use Rattle.settling.specs.Candidates.{bestOf, bestForm, better, burnedList, fixedOf}
-use Rattle.settling.specs.Choice.{FormCounts, candidateOf, betterOf, Stands, FormIs}
+use Rattle.settling.specs.Choice.{FormCounts, candidateOf, betterOf, StandsFor, FormIs}
 use Rattle.settling.specs.declared.BestForm.{BestForm}
 use Rattle.settling.specs.declared.Candidate.{Candidate}
 use Rattle.settling.specs.declared.Fixed.the-variants as fixed-is
@@ -93,7 +93,7 @@ module _ (n : ℕ) (given : List Cube) (best : BestForm) (F : FormIs n given bes
   unfolding bestForm
   form-is = ap₂ (λ (q : ℕ) (v : List ℕ). formList n q (byteAt v)) (found .p-is) (F .vector (found .few))
 
-  form-stands : (result : List Cube) (cf : Counts) → FormCounts (best .vector) p size cf → Stands n result given (bestForm n given) (candidateOf cf (origin-is.Form p))
+  form-stands : (result : List Cube) (cf : Counts) → FormCounts (best .vector) p size cf → StandsFor n result given (bestForm n given) (candidateOf cf (origin-is.Form p))
   form-stands result cf counts =
       let vector : Vector n (take (2 ^ n) (best .vector)) = subst (Vector n) (sym (F .vector (found .few))) (truth-vector-is n given (found .few)) in
       record {
@@ -105,36 +105,36 @@ module _ (n : ℕ) (given : List Cube) (best : BestForm) (F : FormIs n given bes
 -- ---- what the candidates stand for
 
 module _ (n : ℕ) (result given : List Cube) where
-  better-stands : (l m : List Cube) (a b : Candidate) → Stands n result given l a → Stands n result given m b → Stands n result given (better l m) (betterOf a b)
+  better-stands : (l m : List Cube) (a b : Candidate) → StandsFor n result given l a → StandsFor n result given m b → StandsFor n result given (better l m) (betterOf a b)
   better-stands l m a b S T =
-      subst (λ (t : Bool). Stands n result given (cond t m l) (betterOf a b)) (ap₂ ltb (T .rank-is) (S .rank-is)) (go (ltb (b .rank) (a .rank)))
+      subst (λ (t : Bool). StandsFor n result given (cond t m l) (betterOf a b)) (ap₂ ltb (T .rank-is) (S .rank-is)) (go (ltb (b .rank) (a .rank)))
     where
-      go : (t : Bool) → Stands n result given (cond t m l) (cond t b a)
+      go : (t : Bool) → StandsFor n result given (cond t m l) (cond t b a)
       go true = T
       go false = S
 
   module _ (best : BestForm) (F : FormIs n given best) (cs : Counts) (es : cs ≡ countsOf result) (script : Candidate) (is : script ≡ candidateOf cs origin-is.Script)
       (cg : Counts) (eg : cg ≡ countsOf given) (list : Candidate) (il : list ≡ candidateOf cg origin-is.Given) (two : Candidate) (it : two ≡ betterOf script list) where
-    two-stands : Stands n result given (better result given) two
+    two-stands : StandsFor n result given (better result given) two
     two-stands =
-        subst (Stands n result given (better result given)) (sym (it ∙ ap₂ betterOf is il))
+        subst (StandsFor n result given (better result given)) (sym (it ∙ ap₂ betterOf is il))
         (better-stands result given _ _ (record { rank-is = ap rankOf es; list-is = refl; named = tt }) (record { rank-is = ap rankOf eg; list-is = refl; named = tt }))
 
     -- above 8 variables there is no form
-    pub chosen-two : best .fixed ≡ fixed-is.Absent → Stands n result given (burnedList n result given) two
+    pub chosen-two : best .fixed ≡ fixed-is.Absent → StandsFor n result given (burnedList n result given) two
     unfolding burnedList fixedOf
     chosen-two e = go (leb n vectorVariables) (sym (F .fixed) ∙ e)
       where
         go : (b : Bool) → cond b (fixed-is.Polarity (bestOf n given) (length (bestForm n given))) fixed-is.Absent ≡ fixed-is.Absent
-            → Stands n result given (cond b (better (better result given) (bestForm n given)) (better result given)) two
+            → StandsFor n result given (cond b (better (better result given) (bestForm n given)) (better result given)) two
         go true z = let no : _≡_ {A = ℕ} 0 1 = cc in absurd (omega arith)
         go false z = two-stands
 
     pub chosen-three : (p size : ℕ) → best .fixed ≡ fixed-is.Polarity p size → (cf : Counts) → FormCounts (best .vector) p size cf
-        → (form : Candidate) → form ≡ candidateOf cf (origin-is.Form p) → (r : Candidate) → r ≡ betterOf two form → Stands n result given (burnedList n result given) r
+        → (form : Candidate) → form ≡ candidateOf cf (origin-is.Form p) → (r : Candidate) → r ≡ betterOf two form → StandsFor n result given (burnedList n result given) r
     unfolding burnedList
     chosen-three p size e cf counts form ef r er =
-        subst (λ (b : Bool). Stands n result given (cond b (better (better result given) (bestForm n given)) (better result given)) r)
+        subst (λ (b : Bool). StandsFor n result given (cond b (better (better result given) (bestForm n given)) (better result given)) r)
         (sym (found n given best F p size e .there))
-        (subst (Stands n result given (better (better result given) (bestForm n given))) (sym (er ∙ ap (betterOf two) ef))
+        (subst (StandsFor n result given (better (better result given) (bestForm n given))) (sym (er ∙ ap (betterOf two) ef))
         (better-stands (better result given) (bestForm n given) two _ two-stands (form-stands n given best F p size e result cf counts)))

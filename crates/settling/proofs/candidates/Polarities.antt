@@ -11,13 +11,12 @@ use lib.ListN.{length, drop-of-length-le}
 use lib.Seq.{take-at}
 use Rattle.bits.proofs.Below.{length-listBelow}
 use Rattle.records.specs.declared.Refusal.{Refusal}
-use Rattle.records.specs.Answers.{accepted}
-use Rattle.records.proofs.Answering.{not-both, unless-accepted, and-then, after-accepted}
+use Rattle.records.specs.Answers.{accepted, Accepts}
+use Rattle.records.proofs.Answers.{not-both, unless-accepted, and-then, after-accepted}
 use Rattle.cube.specs.declared.Cube.{Cube}
 use Rattle.cube.specs.Lists.{cubesOf, listValue, truthVector, mostVariables, vectorVariables}
 use Rattle.cube.specs.Calls.{checkList, vectorOutcome, vectorAfter}
-use Rattle.cube.proofs.ListLaws.{check-accepts}
-use Rattle.script.specs.Progress.{Passed}
+use Rattle.cube.proofs.Lists.{check-accepts}
 use Rattle.polarity.specs.declared.Best.{Best}
 use Rattle.polarity.specs.declared.Best.the-variants as best-is
 use Rattle.polarity.specs.Forms.{bestPolarity, size}
@@ -29,7 +28,7 @@ use Rattle.settling.specs.Candidates.{bestOf, bestForm, fixedOf}
 use Rattle.settling.specs.Choice.{FormIs}
 use Rattle.settling.proofs.Forming.{truth-vector-is, vector-accepted}
 
-module _ (n : ℕ) (list : List ℕ) (p : Passed (checkList vectorVariables n list)) where
+module _ (n : ℕ) (list : List ℕ) (p : Accepts (checkList vectorVariables n list)) where
   few : n ≤ vectorVariables
   few = check-accepts vectorVariables n list (p .values) (p .is) .few
 
@@ -63,7 +62,7 @@ module _ (n : ℕ) (list : List ℕ) (p : Passed (checkList vectorVariables n li
 -- ---- the vector and its best polarity together
 
 -- fewer variables pass the stricter check
-pub passed-few : (n : ℕ) (list : List ℕ) → Passed (checkList mostVariables n list) → n ≤ vectorVariables → Passed (checkList vectorVariables n list)
+pub passed-few : (n : ℕ) (list : List ℕ) → Accepts (checkList mostVariables n list) → n ≤ vectorVariables → Accepts (checkList vectorVariables n list)
 unfolding checkList
 passed-few n list p h =
     let q = unless-accepted (leb n mostVariables) 1 0 _ (p .values) (p .is) in

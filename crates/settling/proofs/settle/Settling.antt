@@ -12,28 +12,34 @@ use lib.Seq.{take-append-seam}
 use Rattle.records.specs.Answers.{Outcome, accepted, refused, refusal, unless, andThen}
 use Rattle.records.specs.Records.{image, Holds, flat, filled, zeros}
 use Rattle.records.specs.declared.Refusal.{Refusal}
-use Rattle.records.proofs.Answering.{not-both, accepted-values, unless-accepted, unless-at-accepted, and-then, and-not, unless-passes, unless-fails}
-use Rattle.records.proofs.Holding.{capacity-fits, capacity-most, holds-fits, image-holds}
+use Rattle.records.proofs.Answers.{not-both, accepted-values, unless-accepted, unless-at-accepted, and-then, and-not, unless-passes, unless-fails}
+use Rattle.records.proofs.Records.{capacity-fits, capacity-most, holds-fits, image-holds}
 use Rattle.records.proofs.Images.{length-flat}
 use Rattle.cube.specs.Calls.{checkList}
 use Rattle.cube.specs.Cubes.{good}
 use Rattle.cube.specs.Lists.{cubes, cubesOf, cubeCapacity, mostVariables, recordWidth, mostRecords}
 use Rattle.cube.specs.declared.Cube.{Cube}
-use Rattle.cube.proofs.ListLaws.{check-accepts, cubes-flat, lawful}
+use Rattle.cube.proofs.Lists.{check-accepts, cubes-flat, lawful}
 use Rattle.script.specs.Calls.{checkRun, runOf, ranOutcome, runOutcome, workAfter, runAfter}
 use Rattle.script.specs.Run.{Ran, stopped, ended}
 use Rattle.script.specs.Scripts.{stepsOf}
-use Rattle.script.proofs.Counting.{run-peak-capacity, run-last}
-use Rattle.settling.specs.Calls.{checkSettle, fixedValues, ranSettled, settleOutcome, settleWorkBy, settleWork, settleOutBy, settleOut, Called}
+use Rattle.script.proofs.Counts.{run-peak-capacity, run-last}
+use Rattle.settling.specs.Calls.{checkSettle, fixedValues, ranSettled, settleOutcome, settleWorkBy, settleWork, settleOutBy, settleOut}
 use Rattle.settling.specs.Candidates.{burnedList}
-use Rattle.settling.specs.Choice.{listFrom, Stands, FormIs, Burnable, Burns, BurnedIs, BurningIs}
+use Rattle.settling.specs.Choice.{listFrom, StandsFor, FormIs, Burnable, Burns, BurnedIs, BurningIs}
 use Rattle.settling.specs.declared.BestForm.{BestForm}
 use Rattle.settling.specs.declared.Burning.{Burning}
 use Rattle.settling.specs.declared.Candidate.{Candidate}
 use Rattle.settling.proofs.Fewest.{burned-le-given}
 
+-- settle was called with n, a list, a script and two buffers; its answer was o, and it left work′ and out′ in the buffers
+pub record SettleDone (n : ℕ) (list script work out : List ℕ) (o : Outcome) (work′ out′ : List ℕ) : Type 0 where
+  pub answer : o ≡ settleOutcome n list script (length work) (length out)
+  pub work-is : work′ ≡ settleWork n list script work (length out)
+  pub out-is : out′ ≡ settleOut n list script (length work) out
+
 module _ (n : ℕ) (list result : List ℕ) (best : BestForm) (F : FormIs n (cubesOf list) best) (c : Candidate)
-    (S : Stands n (cubesOf result) (cubesOf list) (burnedList n (cubesOf result) (cubesOf list)) c) where
+    (S : StandsFor n (cubesOf result) (cubesOf list) (burnedList n (cubesOf result) (cubesOf list)) c) where
   pub best-burnable : (out : ℕ) → Burns n list result out → Burnable n list result best (c .origin) out
   best-burnable out b = record {
     list-whole = check-accepts mostVariables n list (b .passed .values) (b .passed .is) .whole;
@@ -57,7 +63,7 @@ module _ (n : ℕ) (list script work out : List ℕ) where
   -- by the checks before the first step, and the run
   by-parts : (o : Outcome) (ran : Ran Cube) → checkSettle n list script (length work) (length out) ≡ o → runOf n list script (length work) ≡ ran
       → (work′ out′ : List ℕ) (a : Outcome) → a ≡ andThen o (ranSettled n (cubesOf list) ran) → work′ ≡ settleWorkBy o work → out′ ≡ settleOutBy o n (cubesOf list) ran out
-      → Called n list script work out a work′ out′
+      → SettleDone n list script work out a work′ out′
   unfolding settleOutcome settleWork settleOut
   by-parts o ran e er work′ out′ a ea ew eo = record {
     answer = ea ∙ sym (ap₂ (λ (x : Outcome) (t : Ran Cube). andThen x (ranSettled n (cubesOf list) t)) e er);
@@ -65,10 +71,10 @@ module _ (n : ℕ) (list script work out : List ℕ) where
     out-is = eo ∙ sym (ap₂ (λ (x : Outcome) (t : Ran Cube). settleOutBy x n (cubesOf list) t out) e er);
   }
 
-  settle-refused : (r : Refusal) → checkSettle n list script (length work) (length out) ≡ refused r → Called n list script work out (refused r) work out
+  settle-refused : (r : Refusal) → checkSettle n list script (length work) (length out) ≡ refused r → SettleDone n list script work out (refused r) work out
   settle-refused r e = by-parts (refused r) _ e refl work out (refused r) refl refl refl
 
-  pub list-refused : (r : Refusal) → checkList mostVariables n list ≡ refused r → Called n list script work out (refused r) work out
+  pub list-refused : (r : Refusal) → checkList mostVariables n list ≡ refused r → SettleDone n list script work out (refused r) work out
   unfolding checkSettle
   list-refused r e = settle-refused r (and-not _ _ r e)
 
@@ -82,7 +88,7 @@ module _ (n : ℕ) (list script work out : List ℕ) where
         let s = unless-at-accepted (good n) 4 (cubesOf list) _ _ (r .1) in
         ap (λ (v : List ℕ). getD v 0 0) (sym (accepted-values (s .1)))
 
-    pub work-short : (room : ℕ) → room ≡ cubeCapacity (length work) → room < given → (r : Refusal) → r ≡ refusal 5 0 → Called n list script work out (refused r) work out
+    pub work-short : (room : ℕ) → room ≡ cubeCapacity (length work) → room < given → (r : Refusal) → r ≡ refusal 5 0 → SettleDone n list script work out (refused r) work out
     unfolding checkSettle
     work-short room er h r e =
         settle-refused r
@@ -91,10 +97,10 @@ module _ (n : ℕ) (list script work out : List ℕ) where
         ∙ sym (ap refused e))
 
     module _ (room : ℕ) (er : room ≡ cubeCapacity (length work)) (h : given ≤ room) where
-      room-work : length (cubesOf list) ≤ cubeCapacity (length work)
+      pub room-work : length (cubesOf list) ≤ cubeCapacity (length work)
       room-work = omega (arith, er, given-is, h)
 
-      pub out-short : (place : ℕ) → place ≡ cubeCapacity (length out) → place < given → (r : Refusal) → r ≡ refusal 5 0 → Called n list script work out (refused r) work out
+      pub out-short : (place : ℕ) → place ≡ cubeCapacity (length out) → place < given → (r : Refusal) → r ≡ refusal 5 0 → SettleDone n list script work out (refused r) work out
       unfolding checkSettle
       out-short place ep k r e =
           settle-refused r
@@ -115,12 +121,12 @@ module _ (n : ℕ) (list script work out : List ℕ) where
             (ap (unless (leb (length (cubesOf list)) (cubeCapacity (length work))) 5 0) (unless-passes _ 5 0 _ (le-leb _ _ room-out)))
 
         pub run-refused : (r : Refusal) (work′ : List ℕ) → refused r ≡ runOutcome n list script (length work) → work′ ≡ runAfter n list script work
-            → Called n list script work out (refused r) work′ out
+            → SettleDone n list script work out (refused r) work′ out
         unfolding runOutcome runAfter
         run-refused r work′ e ew = go (checkRun n list script (length work)) refl (runOf n list script (length work)) refl e ew
           where
             go : (o : Outcome) → checkRun n list script (length work) ≡ o → (ran : Ran Cube) → runOf n list script (length work) ≡ ran
-                → refused r ≡ andThen o (ranOutcome ran) → work′ ≡ workAfter o work ran → Called n list script work out (refused r) work′ out
+                → refused r ≡ andThen o (ranOutcome ran) → work′ ≡ workAfter o work ran → SettleDone n list script work out (refused r) work′ out
             go (accepted v) eo (stopped number step) et a w = by-parts (accepted v) (stopped number step) (same-check ∙ eo) et work′ out (refused r) a w refl
             go (accepted v) eo (ended m p) et a w = absurd (not-both (sym a))
             go (refused q) eo ran et a w = by-parts (refused q) ran (same-check ∙ eo) et work′ out (refused r) a w refl
@@ -195,7 +201,7 @@ module _ (n : ℕ) (list script work out : List ℕ) where
 
             pub run-settled : (out′ : List ℕ) (b : Burning) → BurningIs n (cubesOf front) (cubesOf list) out out′ b
                 → (work″ : List ℕ) → work″ ≡ zeros (length work′) → length work′ ≡ length work
-                → Called n list script work out (accepted (given ∷ peak ∷ count ∷ (fixedValues (b .fixed) ++ (b .burned ∷ [])))) work″ out′
+                → SettleDone n list script work out (accepted (given ∷ peak ∷ count ∷ (fixedValues (b .fixed) ++ (b .burned ∷ [])))) work″ out′
             run-settled out′ b is work″ cleared long =
                 let t = ran-to in
                 by-parts (accepted (t .values)) (ended (t .result) peak) (same-check ∙ t .checked) (t .is) work″ out′ _

@@ -18,10 +18,10 @@ use Rattle.cube.specs.Cubes.{codeOf, code, seenBit, valueBit, put, withCode, on
 use Rattle.cube.specs.CubeRecord.{recordNumber, halves, halfSize}
 use Rattle.cube.specs.Lists.{mostVariables}
 use Rattle.cube.proofs.Codes.{code-lt, good-seen, good-value, with-put}
-use Rattle.orders.specs.Orders.{image}
+use Rattle.orders.specs.Orders.{codeAfter}
 use Rattle.steps.specs.declared.reorder.Masks.{Masks}
 use Rattle.steps.specs.Steps.{reordered}
-use Rattle.steps.specs.Changes.{imageAt, masksAt}
+use Rattle.steps.specs.Changes.{literalAfter, masksAt}
 
 -- ---- one bit
 
@@ -43,7 +43,7 @@ pick-code f (suc (suc (suc k))) h = absurd (omega arith)
 abbrev newBit : ℕ → ℕ → ℕ → ℕ → ℕ → ℕ
 newBit p q a b c = differ (differ (differ p (min p a)) (min q b)) c
 
--- the seen bit s and the value bit w of a code become those that its image has, computed over all bits
+-- the seen bit s and the value bit w of a code become those that its codeAfter has, computed over all bits
 bits-test : ℕ → ℕ → ℕ → ℕ → ℕ → Bool
 bits-test s w x y z =
     cond (leb w s)
@@ -175,25 +175,25 @@ recoded-is k c g v o l e = ap (λ (t : Masks). byMasks t c) e ∙ (λ t. record 
     w : ℕ
     w = c .value
 
-    images : (x : ℕ) → imageAt v o x ≡ put one v (image o x)
-    images x = with-put one v (image o x) (omega arith)
+    images : (x : ℕ) → literalAfter v o x ≡ put one v (codeAfter o x)
+    images x = with-put one v (codeAfter o x) (omega arith)
 
     seen-of : ℕ → ℕ
-    seen-of x = seenBit (image o x)
+    seen-of x = seenBit (codeAfter o x)
 
     value-of : ℕ → ℕ
-    value-of x = valueBit (image o x)
+    value-of x = valueBit (codeAfter o x)
 
     seen-lt : (x : ℕ) → seen-of x < 2
-    seen-lt x = one-lt (ltb (image o x) 2)
+    seen-lt x = one-lt (ltb (codeAfter o x) 2)
 
     value-lt : (x : ℕ) → value-of x < 2
-    value-lt x = one-lt (eqb (image o x) 1)
+    value-lt x = one-lt (eqb (codeAfter o x) 1)
 
     seen-is : byMasks (masksAt v o) c .seen ≡ withBit s v (seen-of (code c v))
     seen-is =
         half-changed v l (λ t. t % halfSize) (λ a b. and-mod a b mostVariables) (λ a b. xor-mod a b mostVariables)
-        seen-of seen-lt (λ x. imageAt v o x .seen) (λ x. ap (λ (t : Cube). t .seen) (images x)) 1 2 (pair s w) (pair w s) s w _ _ _
+        seen-of seen-lt (λ x. literalAfter v o x .seen) (λ x. ap (λ (t : Cube). t .seen) (images x)) 1 2 (pair s w) (pair w s) s w _ _ _
         (pair-low s w ∙ mod-eq-of-lt (good-seen mostVariables c g)) (pair-low w s ∙ mod-eq-of-lt (good-value mostVariables c g)) (pair-low _ _) (pair-low _ _) (pair-low _ _)
         ∙ ap (withBit s v)
         (tested (bit s v) (bit w v) (seen-of 0) (seen-of 1) (seen-of 2) (bit-lt s v) (g .inside v) (seen-lt 0) (seen-lt 1) (seen-lt 2) .0
@@ -202,7 +202,7 @@ recoded-is k c g v o l e = ap (λ (t : Masks). byMasks t c) e ∙ (λ t. record 
     value-is : byMasks (masksAt v o) c .value ≡ withBit w v (value-of (code c v))
     value-is =
         half-changed v l (λ t. t / halfSize) (λ a b. and-shr a b mostVariables) (λ a b. xor-shr a b mostVariables)
-        value-of value-lt (λ x. imageAt v o x .value) (λ x. ap (λ (t : Cube). t .value) (images x)) 2 1 (pair s w) (pair w s) w s _ _ _
+        value-of value-lt (λ x. literalAfter v o x .value) (λ x. ap (λ (t : Cube). t .value) (images x)) 2 1 (pair s w) (pair w s) w s _ _ _
         (pair-high s w ∙ mod-eq-of-lt (good-value mostVariables c g)) (pair-high w s ∙ mod-eq-of-lt (good-seen mostVariables c g)) (pair-high _ _) (pair-high _ _) (pair-high _ _)
         ∙ ap (withBit w v)
         (tested (bit s v) (bit w v) (value-of 0) (value-of 1) (value-of 2) (bit-lt s v) (g .inside v) (value-lt 0) (value-lt 1) (value-lt 2) .1
@@ -216,15 +216,15 @@ recoded-made k c x y ex ey r er = er ∙ ap halves (λ t. changed (ex t) (k .own
 
 -- the masks as they are made
 pub masks-made : (v o m i₀ i₁ i₂ : ℕ) (x y z : Cube) (own other always : ℕ) → m ≡ 2 ^ v
-    → i₀ ≡ image o 0 → x ≡ withCode one v i₀ → i₁ ≡ image o 1 → y ≡ withCode one v i₁ → i₂ ≡ image o 2 → z ≡ withCode one v i₂
+    → i₀ ≡ codeAfter o 0 → x ≡ withCode one v i₀ → i₁ ≡ codeAfter o 1 → y ≡ withCode one v i₁ → i₂ ≡ codeAfter o 2 → z ≡ withCode one v i₂
     → own ≡ pair (bitXor (bitXor m (x .seen)) (z .seen)) (bitXor (bitXor m (x .value)) (y .value))
     → other ≡ pair (bitXor (x .seen) (y .seen)) (bitXor (x .value) (z .value)) → always ≡ recordNumber z
     → record { own = own; other = other; always = always } ≡ masksAt v o
 unfolding masksAt
 masks-made v o m i₀ i₁ i₂ x y z own other always em e₀ ex e₁ ey e₂ ez eo et ea =
-    let x₁ : x ≡ imageAt v o 0 = ex ∙ ap (withCode one v) e₀ in
-    let y₁ : y ≡ imageAt v o 1 = ey ∙ ap (withCode one v) e₁ in
-    let z₁ : z ≡ imageAt v o 2 = ez ∙ ap (withCode one v) e₂ in
+    let x₁ : x ≡ literalAfter v o 0 = ex ∙ ap (withCode one v) e₀ in
+    let y₁ : y ≡ literalAfter v o 1 = ey ∙ ap (withCode one v) e₁ in
+    let z₁ : z ≡ literalAfter v o 2 = ez ∙ ap (withCode one v) e₂ in
     λ t. record {
       own = (eo ∙ (λ u. pair (bitXor (bitXor (em u) (x₁ u .seen)) (z₁ u .seen)) (bitXor (bitXor (em u) (x₁ u .value)) (y₁ u .value)))) t;
       other = (et ∙ (λ u. pair (bitXor (x₁ u .seen) (y₁ u .seen)) (bitXor (x₁ u .value) (z₁ u .value)))) t;

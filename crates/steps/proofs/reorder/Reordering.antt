@@ -9,11 +9,11 @@ use native.Mathlib.Omega.{arith}
 use lib.ListN.{length, getD, set}
 use Rattle.bits.specs.Sums.{All}
 use Rattle.records.specs.Records.{Codec, stored, records, listOf, image, Holds, Held}
-use Rattle.records.proofs.Holding.{Lawful, length-records, length-stored, list-at, held-fits, holds-load, holds-place, holds-store}
+use Rattle.records.proofs.Records.{Lawful, length-records, length-stored, list-at, held-fits, holds-load, holds-place, holds-store}
 use Rattle.cube.specs.declared.Cube.{Cube}
 use Rattle.cube.specs.Cubes.{one, Good}
 use Rattle.cube.specs.Lists.{cubes, cubesOf, narrow, recordWidth, mostVariables}
-use Rattle.cube.proofs.ListLaws.{lawful, good-narrow, good-at}
+use Rattle.cube.proofs.Lists.{lawful, good-narrow, good-at}
 use Rattle.orders.specs.Orders.{orderCount}
 use Rattle.steps.specs.declared.reorder.Masks.{Masks}
 use Rattle.steps.specs.Steps.{reordered}
@@ -52,14 +52,14 @@ module _ {A : Type 0} (f : A → A) where
 
 -- f was applied to the first i of the n records of the buffer d
 pub record Mapped {A : Type 0} (C : Codec A) (f : A → A) (n : ℕ) (d b : List ℕ) (i : ℕ) : Type 0 where
-  pub size : length b ≡ length d
+  pub long : length b ≡ length d
   pub within : i ≤ n
   pub holds : Holds C b (mapTo f i (records C n d))
 
 module _ {A : Type 0} (C : Codec A) (K : Lawful C) (f : A → A) (n : ℕ) (d : List ℕ) where
   pub mapped-none : Held C n d → Mapped C f n d d 0
   unfolding Held mapTo
-  mapped-none h = record { size = refl; within = zero-le; holds = h }
+  mapped-none h = record { long = refl; within = zero-le; holds = h }
 
   module _ (b : List ℕ) (i : ℕ) (r : Mapped C f n d b i) where
     many : length (mapTo f i (records C n d)) ≡ n
@@ -79,7 +79,7 @@ module _ {A : Type 0} (C : Codec A) (K : Lawful C) (f : A → A) (n : ℕ) (d : 
         ap (set l i) ex ∙ map-more f (C .none) i (records C n d) (omega (arith, length-records C n d))
         ∙ ap (λ (m : ℕ). mapTo f m (records C n d)) (sym (add-one i)) in
         record {
-          size = ap length e ∙ length-stored C b i x ∙ r .size;
+          long = ap length e ∙ length-stored C b i x ∙ r .long;
           within = omega arith;
           holds = subst (λ (t : List ℕ). Holds C t (mapTo f (i + 1) (records C n d))) (sym e)
               (subst (λ (m : List A). Holds C (stored C b i x) m) next (holds-store C K b l (r .holds) i x (omega (arith, many))));
@@ -90,7 +90,7 @@ module _ {A : Type 0} (C : Codec A) (K : Lawful C) (f : A → A) (n : ℕ) (d : 
     mapped-end h =
         let whole : i ≡ length (records C n d) = omega (arith, length-records C n d, r .within) in
         r .holds
-        ∙ ap₂ (image C) (r .size) (ap (λ (m : ℕ). mapTo f m (records C n d)) whole ∙ map-all f (records C n d))
+        ∙ ap₂ (image C) (r .long) (ap (λ (m : ℕ). mapTo f m (records C n d)) whole ∙ map-all f (records C n d))
 
 -- a buffer that holds so many cubes has room for them
 pub whole-count : (n : ℕ) (d : List ℕ) → Held cubes n d → (e : ℕ) → e ≡ min n (length d / recordWidth) → e ≡ n

@@ -27,10 +27,29 @@ pub fn checked(n: u64, limit: u64, list: &[u8]) -> Result<Records<'_>, Refusal> 
     let (records, rest) = list.as_chunks();
     refuse_if(!rest.is_empty(), 2)?;
     refuse_if(records.len() > 4096, 3)?;
-    match records.iter().position(|record| !Cube::read(record).is_good(n)) {
+    match first_bad(n, records) {
         Some(place) => refusal(4, place),
         None => Ok(records),
     }
+}
+
+/// Records that are looked at together, with no branch between them.
+const STRIDE: usize = 32;
+
+/// The lowest bad record: by strides, and one by one where one of a stride is bad, or fewer are left.
+fn first_bad(n: u64, records: Records) -> Option<usize> {
+    let mut i = 0;
+    while i < records.len() {
+        let stride = records[i..].first_chunk::<STRIDE>();
+        if stride.is_some_and(|stride| stride.iter().fold(true, |all, record| all & Cube::read(record).is_good(n))) {
+            i += STRIDE;
+        } else if !Cube::read(&records[i]).is_good(n) {
+            return Some(i);
+        } else {
+            i += 1;
+        }
+    }
+    None
 }
 
 fn value_at(records: Records, a: u32) -> u8 {

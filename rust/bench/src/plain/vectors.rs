@@ -1,11 +1,13 @@
 //! The calls on vectors of at most 8 variables, in either of two ways.
 
 use super::cube::{Cube, RECORD, records};
-use super::words::Packed;
+use super::words::{Packed, WORD_VARIABLES, Word, first_above_one};
 use super::{Refusal, Words, bytes, refusal, refuse_if, words};
 
 /// How a vector is kept and worked on. Vectors and coefficients have 2^n bytes, and so have the buffers that are written.
 pub trait Way {
+    /// The lowest byte above 1.
+    fn bad(bits: &[u8]) -> Option<usize>;
     fn write_values(n: u64, records: &[[u8; RECORD]], out: &mut [u8]);
     fn coefficients(n: u64, vector: &[u8], p: usize, out: &mut [u8]);
     fn vector(n: u64, coefficients: &[u8], p: usize, out: &mut [u8]);
@@ -13,31 +15,48 @@ pub trait Way {
     fn best(n: u64, vector: &[u8]) -> (usize, usize);
 }
 
-/// The library's way: four words.
+/// The library's way: four words, or one where that is enough.
 pub struct ByWords;
 
 /// The straightforward way: a byte for each assignment.
 pub struct ByBytes;
 
 impl Way for ByWords {
+    fn bad(bits: &[u8]) -> Option<usize> {
+        first_above_one(bits)
+    }
+
     fn write_values(_: u64, records: &[[u8; RECORD]], out: &mut [u8]) {
         Packed::values(records).put(out);
     }
 
     fn coefficients(n: u64, vector: &[u8], p: usize, out: &mut [u8]) {
+        if n <= WORD_VARIABLES {
+            return Word::of(vector).transformed(n).turned(n, p).put(out);
+        }
         Packed::of(vector).transformed(n).turned(n, p).put(out);
     }
 
     fn vector(n: u64, coefficients: &[u8], p: usize, out: &mut [u8]) {
+        if n <= WORD_VARIABLES {
+            return Word::of(coefficients).turned(n, p).transformed(n).put(out);
+        }
         Packed::of(coefficients).turned(n, p).transformed(n).put(out);
     }
 
     fn best(n: u64, vector: &[u8]) -> (usize, usize) {
+        if n <= WORD_VARIABLES {
+            return Word::of(vector).best(n);
+        }
         Packed::of(vector).best(n)
     }
 }
 
 impl Way for ByBytes {
+    fn bad(bits: &[u8]) -> Option<usize> {
+        bits.iter().position(|&byte| byte > 1)
+    }
+
     fn write_values(_: u64, records: &[[u8; RECORD]], out: &mut [u8]) {
         bytes::write_values(records, out);
     }
@@ -57,7 +76,7 @@ impl Way for ByBytes {
 
 #[inline(never)]
 pub fn coefficients<W: Way>(n: u64, vector: &[u8], p: u64, out: &mut [u8], answer: &mut Words) {
-    *answer = words(checked(n, vector, p, out.len()).map(|length| {
+    *answer = words(checked::<W>(n, vector, p, out.len()).map(|length| {
         W::coefficients(n, vector, p as usize, &mut out[..length]);
         [length as u64]
     }));
@@ -65,7 +84,7 @@ pub fn coefficients<W: Way>(n: u64, vector: &[u8], p: u64, out: &mut [u8], answe
 
 #[inline(never)]
 pub fn vector<W: Way>(n: u64, coefficients: &[u8], p: u64, out: &mut [u8], answer: &mut Words) {
-    *answer = words(checked(n, coefficients, p, out.len()).map(|length| {
+    *answer = words(checked::<W>(n, coefficients, p, out.len()).map(|length| {
         W::vector(n, coefficients, p as usize, &mut out[..length]);
         [length as u64]
     }));
@@ -73,7 +92,7 @@ pub fn vector<W: Way>(n: u64, coefficients: &[u8], p: u64, out: &mut [u8], answe
 
 #[inline(never)]
 pub fn best_polarity<W: Way>(n: u64, vector: &[u8], answer: &mut Words) {
-    *answer = words(check_bits(n, vector).map(|()| {
+    *answer = words(check_bits::<W>(n, vector).map(|()| {
         let (p, size) = W::best(n, vector);
         [p as u64, size as u64]
     }));
@@ -92,27 +111,27 @@ pub fn write_cubes(coefficients: &[u8], p: usize, out: &mut [u8]) {
 }
 
 /// Rules 1 and 14.
-fn check_bits(n: u64, bits: &[u8]) -> Result<(), Refusal> {
+fn check_bits<W: Way>(n: u64, bits: &[u8]) -> Result<(), Refusal> {
     refuse_if(n > 8, 1)?;
     if bits.len() != 1 << n {
         return refusal(14, 1 << n);
     }
-    match bits.iter().position(|&byte| byte > 1) {
+    match W::bad(bits) {
         Some(place) => refusal(14, place),
         None => Ok(()),
     }
 }
 
 /// Rules 1, 14, 15 and 5; the length.
-fn checked(n: u64, bits: &[u8], p: u64, room: usize) -> Result<usize, Refusal> {
-    check_bits(n, bits)?;
+fn checked<W: Way>(n: u64, bits: &[u8], p: u64, room: usize) -> Result<usize, Refusal> {
+    check_bits::<W>(n, bits)?;
     refuse_if(p >> n != 0, 15)?;
     refuse_if(room < bits.len(), 5)?;
     Ok(bits.len())
 }
 
 fn try_write_form(n: u64, coefficients: &[u8], p: u64, out: &mut [u8]) -> Result<[u64; 1], Refusal> {
-    check_bits(n, coefficients)?;
+    check_bits::<ByWords>(n, coefficients)?;
     refuse_if(p >> n != 0, 15)?;
     let count = coefficients.iter().filter(|&&coefficient| coefficient != 0).count();
     refuse_if(records(out).len() < count, 5)?;

@@ -1,4 +1,4 @@
-//! The library's way with vectors: 256 bits in four words, one masked shift a variable.
+//! The library's way with vectors: 256 bits in four words, and the 64 bits of at most six variables in one; one masked shift a variable.
 
 use super::cube::{Cube, RECORD};
 
@@ -16,22 +16,66 @@ const WITHOUT: [u64; 6] = [
 #[derive(Clone, Copy)]
 pub struct Packed([u64; 4]);
 
+/// The lowest bit of each of at most 64 bytes: eight at a time, by masked shifts, and the rest one by one.
+#[inline]
+fn pack(bytes: &[u8]) -> u64 {
+    let (eights, rest) = bytes.as_chunks::<8>();
+    let mut word = 0;
+    for (j, &eight) in eights.iter().enumerate() {
+        let bits = u64::from_le_bytes(eight) & 0x0101010101010101;
+        let twos = (bits | bits >> 7) & 0x0003000300030003;
+        let fours = (twos | twos >> 14) & 0x0000000f0000000f;
+        word |= ((fours | fours >> 28) & 0xff) << (8 * j);
+    }
+    for (j, &byte) in rest.iter().enumerate() {
+        word |= u64::from(byte & 1) << (8 * eights.len() + j);
+    }
+    word
+}
+
+/// The bits of a word to at most 64 bytes: four at a time, by one product, and the rest one by one.
+#[inline]
+fn put(word: u64, bytes: &mut [u8]) {
+    let (fours, rest) = bytes.as_chunks_mut::<4>();
+    let count = fours.len();
+    for (j, four) in fours.iter_mut().enumerate() {
+        let bits = (word >> (4 * j)) as u32 & 15;
+        *four = ((15 - bits) * 0x00204081 & 0x01010101 ^ 0x01010101).to_le_bytes();
+    }
+    for (j, byte) in rest.iter_mut().enumerate() {
+        *byte = (word >> (4 * count + j)) as u8 & 1;
+    }
+}
+
+/// The lowest byte above 1: eight at a time, and one by one where one of eight is, or fewer are left.
+#[inline]
+pub fn first_above_one(bytes: &[u8]) -> Option<usize> {
+    let mut i = 0;
+    while i < bytes.len() {
+        let eight = bytes[i..].first_chunk::<8>();
+        if eight.is_some_and(|&eight| u64::from_le_bytes(eight) & 0xfefefefefefefefe == 0) {
+            i += 8;
+        } else if bytes[i] > 1 {
+            return Some(i);
+        } else {
+            i += 1;
+        }
+    }
+    None
+}
+
 impl Packed {
     pub fn of(bytes: &[u8]) -> Packed {
         let mut words = [0; 4];
         for (word, part) in words.iter_mut().zip(bytes.chunks(64)) {
-            for (j, &byte) in part.iter().enumerate() {
-                *word |= u64::from(byte) << j;
-            }
+            *word = pack(part);
         }
         Packed(words)
     }
 
     pub fn put(self, bytes: &mut [u8]) {
-        for (word, part) in self.0.iter().zip(bytes.chunks_mut(64)) {
-            for (j, byte) in part.iter_mut().enumerate() {
-                *byte = (word >> j) as u8 & 1;
-            }
+        for (&word, part) in self.0.iter().zip(bytes.chunks_mut(64)) {
+            put(word, part);
         }
     }
 
@@ -125,6 +169,54 @@ impl Packed {
     }
 
     /// The polarity with the fewest products, the smallest on a tie, and how many, from the vector's bits.
+    pub fn best(self, n: u64) -> (usize, usize) {
+        self.transformed(n).best_from(n as usize, 0)
+    }
+}
+
+/// How many variables tell the bits of one word apart.
+pub const WORD_VARIABLES: u64 = 6;
+
+/// The bits of a vector of at most six variables.
+#[derive(Clone, Copy)]
+pub struct Word(u64);
+
+impl Word {
+    pub fn of(bytes: &[u8]) -> Word {
+        Word(pack(bytes))
+    }
+
+    pub fn put(self, bytes: &mut [u8]) {
+        put(self.0, bytes);
+    }
+
+    #[inline]
+    fn raised(self, k: usize) -> Word {
+        Word(self.0 ^ (self.0 & WITHOUT[k]) << (1 << k))
+    }
+
+    #[inline]
+    fn lowered(self, k: usize) -> Word {
+        Word(self.0 ^ self.0 >> (1 << k) & WITHOUT[k])
+    }
+
+    pub fn transformed(self, n: u64) -> Word {
+        (0..n as usize).fold(self, Word::raised)
+    }
+
+    pub fn turned(self, n: u64, p: usize) -> Word {
+        (0..n as usize).filter(|k| p >> k & 1 == 1).fold(self, Word::lowered)
+    }
+
+    /// The same from one word: the last variable's two polarities are taken at once.
+    fn best_from(self, k: usize, p: usize) -> (usize, usize) {
+        match k {
+            0 => (p, self.0.count_ones() as usize),
+            1 => fewer((p, self.0.count_ones() as usize), (p + 1, self.lowered(0).0.count_ones() as usize)),
+            _ => fewer(self.best_from(k - 1, p), self.lowered(k - 1).best_from(k - 1, p + (1 << (k - 1)))),
+        }
+    }
+
     pub fn best(self, n: u64) -> (usize, usize) {
         self.transformed(n).best_from(n as usize, 0)
     }

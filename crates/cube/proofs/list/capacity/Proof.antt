@@ -1,6 +1,6 @@
 -- `list::capacity` meets its contract.
 -- Assumes nothing.
-use Rattle.cube.proofs.ListLaws.{capacity-low, capacity-high}
+use Rattle.cube.proofs.Lists.{capacity-low, capacity-high}
 use Rattle.cube.proofs.list.capacity.Statement.{statement}
 use Rattle.cube.proofs.list.capacity.Tie as tie
 

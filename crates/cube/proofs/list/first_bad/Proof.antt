@@ -1,11 +1,15 @@
--- `list::first_bad` meets its contract: the loop keeps `Looking`.
+-- `list::first_bad` meets its contract: the loop keeps `Looking`, and goes on by strides.
 -- Assumes nothing.
 use Prim.Native.Nat.{_-_, _/_}
+use native.Mathlib.Omega.{arith}
+use lib.Dec.{lit<}
 use lib.ListN.{length}
 use borrow.Author.Needs.{needs}
 use Rattle.cube.specs.Cubes.{good}
 use Rattle.cube.specs.Lists.{cubes, recordWidth}
-use Rattle.records.proofs.Looking.{Looking, looking-none, looking-next, found-none, found-bad}
+use Rattle.cube.specs.Checking.{stride}
+use Rattle.records.proofs.Looking.{Looking, looking-none, found-none}
+use Rattle.records.proofs.Striding.{stride-found, stride-next}
 use Rattle.cube.proofs.list.first_bad.Statement.{statement}
 use Rattle.cube.proofs.list.first_bad.Tie as tie
 
@@ -18,26 +22,33 @@ abbrev μ-loop : tie.MeasureT-loop
 loop-holds : tie.Need-loop-holds Inv-loop μ-loop
 loop-holds c = search looking-none
 
-cube-at-requires : tie.Need-cube-at-requires Inv-loop μ-loop
-cube-at-requires c κs = search needs
-
-is-good-requires : tie.Need-is-good-requires Inv-loop μ-loop
-is-good-requires c κs = search needs
+good-from-requires : tie.Need-good-from-requires Inv-loop μ-loop
+good-from-requires c κs = search needs
 
 add-i : tie.Need-add-i Inv-loop μ-loop
-add-i c = search needs
+add-i c =
+    let c₃ = c .before .before .before in
+    let next = stride-next cubes (good _) _ _ (c₃ .loop .inv) (c .before .before .if1 .left) stride (lit< tt) _ (c .before .good-from .ensures) (c .if2 .left) in
+    omega arith
 
 loop-less : tie.Need-loop-less Inv-loop μ-loop
-loop-less c = search needs
+loop-less c =
+    let c₃ = c .before .before .before in
+    let next = stride-next cubes (good _) _ _ (c₃ .loop .inv) (c .before .before .if1 .left) stride (lit< tt) _ (c .before .good-from .ensures) (c .if2 .left) in
+    omega (arith, next .within)
 
 loop-again : tie.Need-loop-again Inv-loop μ-loop
-loop-again c = search looking-next
+loop-again c =
+    let c₃ = c .before .before .before in
+    stride-next cubes (good _) _ _ (c₃ .loop .inv) (c .before .before .if1 .left) stride (lit< tt) _ (c .before .good-from .ensures) (c .if2 .left)
 
 returns : tie.Need-returns Inv-loop μ-loop
 returns c = found-none cubes (good _) _ _ (c .before .loop .inv) (c .if1 .taken)
 
 returns-2 : tie.Need-returns-2 Inv-loop μ-loop
-returns-2 c = search found-bad
+returns-2 c =
+    let c₃ = c .before .before .before in
+    stride-found cubes (good _) _ _ (c₃ .loop .inv) (c .before .before .if1 .left) stride (lit< tt) _ (c .before .good-from .ensures) (c .if2 .taken)
 
 pub first-bad-spec : {M : Type 1} → statement M
 first-bad-spec =
@@ -46,8 +57,7 @@ first-bad-spec =
     Inv-loop
     μ-loop
     loop-holds
-    cube-at-requires
-    is-good-requires
+    good-from-requires
     add-i
     loop-less
     loop-again

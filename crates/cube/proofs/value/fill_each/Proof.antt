@@ -2,15 +2,15 @@
 -- Assumes nothing.
 use Prim.Native.Nat.{_-_, _^_}
 use native.Mathlib.Omega.{arith}
-use Rattle.cube.proofs.Slices.{Vectoring, vectoring-none, vectoring-more, vectoring-done}
+use Rattle.cube.proofs.value.Valuing.{Vectoring, vectoring-none, vectoring-more, vectoring-done}
 use Rattle.cube.proofs.value.fill_each.Statement.{statement}
 use Rattle.cube.proofs.value.fill_each.Tie as tie
 
 abbrev Inv-loop : tie.InvT-loop
-Inv-loop n size list out₀ a₀ out a = Vectoring n list out₀ out a
+Inv-loop n assignments list out₀ a₀ out a = Vectoring n list out₀ out a
 
 abbrev μ-loop : tie.MeasureT-loop
-μ-loop n size list out₀ a₀ out a = 2 ^ n - a
+μ-loop n assignments list out₀ a₀ out a = 2 ^ n - a
 
 loop-holds : tie.Need-loop-holds Inv-loop μ-loop
 loop-holds c = search vectoring-none

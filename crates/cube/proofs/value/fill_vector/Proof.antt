@@ -3,7 +3,7 @@
 use mathlib.Core.Path.{sym}
 use lib.Seq.{length-take-le}
 use borrow.Author.Needs.{needs}
-use Rattle.cube.proofs.Slices.{vector-is}
+use Rattle.cube.proofs.value.Valuing.{vector-is}
 use Rattle.cube.proofs.value.fill_vector.Statement.{statement}
 use Rattle.cube.proofs.value.fill_vector.Tie as tie
 

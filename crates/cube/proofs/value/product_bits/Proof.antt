@@ -1,7 +1,7 @@
 -- `value::product_bits` meets its contract.
 -- Assumes nothing.
 use native.Mathlib.Omega.{arith}
-use Rattle.cube.proofs.Slices.{sliced-none, sliced-more, sliced-all}
+use Rattle.cube.proofs.value.Valuing.{sliced-none, sliced-more, sliced-all}
 use borrow.Author.Needs.{needs}
 use Rattle.cube.proofs.value.product_bits.Statement.{statement}
 use Rattle.cube.proofs.value.product_bits.Tie as tie

@@ -8,7 +8,7 @@ use borrow.Author.Needs.{needs}
 use Rattle.records.proofs.Counting.{Counting, counting-none, counting-next, counted-all}
 use Rattle.cube.specs.Cubes.{holds}
 use Rattle.cube.specs.Lists.{cubes, cubesOf, recordWidth, trues}
-use Rattle.cube.proofs.ListLaws.{mask-at}
+use Rattle.cube.proofs.Lists.{mask-at}
 use Rattle.cube.proofs.value.trues_at.Statement.{statement}
 use Rattle.cube.proofs.value.trues_at.Tie as tie
 

@@ -8,8 +8,8 @@ use Rattle.records.specs.Answers.{accepted, counted}
 use Rattle.cube.specs.Calls.{checkList}
 use Rattle.bits.proofs.Bits.{shl-one}
 use Rattle.cube.specs.Lists.{vectorVariables}
-use Rattle.cube.proofs.ListLaws.{Accepted, check-accepts}
-use Rattle.cube.proofs.CallLaws.{vector-refused, vector-short, vector-done}
+use Rattle.cube.proofs.Lists.{AcceptedList, check-accepts}
+use Rattle.cube.proofs.value.Returns.{vector-refused, vector-short, vector-done}
 use borrow.Author.Needs.{needs}
 use Rattle.cube.proofs.value.truth_vector.Statement.{statement}
 use Rattle.cube.proofs.value.truth_vector.Tie as tie
@@ -18,11 +18,11 @@ use Rattle.cube.proofs.value.truth_vector.Tie as tie
 told : (c : tie.After-enum-told) → checkList vectorVariables (c .before .before .before .before .before .args .n) (c .before .before .before .before .before .args .list .now) ≡ accepted (c .enum-told .given .0 .0 ∷ [])
 told c = sym (c .before .before .check-within .ensures) ∙ ap counted (c .enum-told .given .1)
 
-list-is : (c : tie.After-enum-told) → Accepted vectorVariables (c .before .before .before .before .before .args .n) (c .before .before .before .before .before .args .list .now)
+list-is : (c : tie.After-enum-told) → AcceptedList vectorVariables (c .before .before .before .before .before .args .n) (c .before .before .before .before .before .args .list .now)
 list-is c = check-accepts _ _ _ _ (told c)
 
-size-is : (c : tie.After-enum-told) → (1 * 2 ^ (c .before .before .before .before .before .args .n)) % 2 ^ 64 ≡ 2 ^ (c .before .before .before .before .before .args .n)
-size-is c = shl-one _ 64 (omega (arith, list-is c .few))
+power-is : (c : tie.After-enum-told) → (1 * 2 ^ (c .before .before .before .before .before .args .n)) % 2 ^ 64 ≡ 2 ^ (c .before .before .before .before .before .args .n)
+power-is c = shl-one _ 64 (omega (arith, list-is c .few))
 
 check-within-requires : tie.Need-check-within-requires
 check-within-requires c κs = search needs
@@ -33,8 +33,8 @@ enum-known-r c = search needs
 enum-told : tie.Need-enum-told
 enum-told c = search needs
 
-shl-size : tie.Need-shl-size
-shl-size c = omega (arith, list-is c .few)
+shl-assignments : tie.Need-shl-assignments
+shl-assignments c = omega (arith, list-is c .few)
 
 new-requires : tie.Need-new-requires
 new-requires c κs = search needs
@@ -42,13 +42,13 @@ new-requires c κs = search needs
 returns : tie.Need-returns
 returns c =
     let s = c .before .before in
-    let r = vector-short _ _ _ _ (told s) _ (c .new .ensures) _ (size-is s) (c .before .if1 .taken) in
+    let r = vector-short _ _ _ _ (told s) _ (c .new .ensures) _ (power-is s) (c .before .if1 .taken) in
     (r .answer, r .buffer)
 
 fill-vector-requires : tie.Need-fill-vector-requires
 fill-vector-requires c κs =
     let s = c .before .before in
-    (list-is s .good, ((size-is s, list-is s .few), c .before .if1 .left))
+    (list-is s .good, ((power-is s, list-is s .few), c .before .if1 .left))
 
 returns-2 : tie.Need-returns-2
 returns-2 c =
@@ -62,7 +62,7 @@ returns-3 : tie.Need-returns-3
 returns-3 c =
     let c₄ = c .before .before .before .before in
     let s = c₄ .before in
-    let r = vector-done _ _ _ _ (told s) _ (size-is s) (c₄ .if1 .left) _ (c .before .before .fill-vector .ensures) in
+    let r = vector-done _ _ _ _ (told s) _ (power-is s) (c₄ .if1 .left) _ (c .before .before .fill-vector .ensures) in
     (r .answer, r .buffer)
 
 pub truth-vector-spec : {M : Type 1} → statement M
@@ -72,7 +72,7 @@ truth-vector-spec =
     check-within-requires
     enum-known-r
     enum-told
-    shl-size
+    shl-assignments
     new-requires
     returns
     fill-vector-requires

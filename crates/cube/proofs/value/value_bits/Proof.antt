@@ -5,7 +5,7 @@ use native.Mathlib.Omega.{arith}
 use lib.ListN.{length}
 use borrow.Author.Needs.{needs}
 use Rattle.cube.specs.Lists.{recordWidth}
-use Rattle.cube.proofs.Slices.{Valuing, valuing-none, valuing-more, valuing-all}
+use Rattle.cube.proofs.value.Valuing.{Valuing, valuing-none, valuing-more, valuing-all}
 use Rattle.cube.proofs.value.value_bits.Statement.{statement}
 use Rattle.cube.proofs.value.value_bits.Tie as tie
 

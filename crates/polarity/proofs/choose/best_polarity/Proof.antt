@@ -4,7 +4,7 @@ use mathlib.Core.Path.{_≡_, sym, ap, _∙_}
 use mathlib.Core.List.{[], _∷_}
 use Rattle.records.specs.Answers.{accepted, counted}
 use Rattle.polarity.specs.Vectors.{checkVector}
-use Rattle.polarity.proofs.Checks.{check-accepts}
+use Rattle.polarity.proofs.Vectors.{check-accepts}
 use Rattle.polarity.proofs.choose.Search.{best-refused, best-found}
 use borrow.Author.Needs.{needs}
 use Rattle.polarity.proofs.choose.best_polarity.Statement.{statement}

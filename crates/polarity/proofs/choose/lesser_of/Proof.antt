@@ -1,14 +1,21 @@
 -- `choose::lesser_of` meets its contract.
 -- Assumes nothing.
-use Rattle.polarity.proofs.choose.Search.{lesser-upper, lesser-lower}
+use borrow.Author.Needs.{needs}
+use Rattle.polarity.proofs.choose.Search.{lesser-fields}
 use Rattle.polarity.proofs.choose.lesser_of.Statement.{statement}
 use Rattle.polarity.proofs.choose.lesser_of.Tie as tie
 
-returns : tie.Need-returns
-returns c = lesser-upper _ _ (c .if1 .taken)
+either-requires : tie.Need-either-requires
+either-requires c κs = search needs
 
-returns-2 : tie.Need-returns-2
-returns-2 c = lesser-lower _ _ (c .if1 .left)
+either-requires-2 : tie.Need-either-requires-2
+either-requires-2 c κs = search needs
+
+either-requires-3 : tie.Need-either-requires-3
+either-requires-3 c κs = search needs
+
+returns : tie.Need-returns
+returns c = lesser-fields _ _ _ _ _ (c .before .before .either .ensures) (c .before .either2 .ensures) (c .either3 .ensures)
 
 pub lesser-of-spec : {M : Type 1} → statement M
-lesser-of-spec = tie.close (tie.spec returns returns-2)
+lesser-of-spec = tie.close (tie.spec either-requires either-requires-2 either-requires-3 returns)

@@ -7,7 +7,7 @@ use Prim.Native.Nat.{ℕ, _+_, _-_}
 use native.Mathlib.Omega.{arith}
 use lib.ListN.{length}
 use borrow.Author.Needs.{needs}
-use Rattle.polarity.proofs.Checks.{vector-most}
+use Rattle.polarity.proofs.Vectors.{vector-most}
 use Rattle.polarity.proofs.form.Writing.{Writing, writing-none, writing-zero, writing-more, writing-all}
 use Rattle.polarity.proofs.form.put_form.Statement.{statement}
 use Rattle.polarity.proofs.form.put_form.Tie as tie

@@ -1,6 +1,6 @@
 -- `numbers::byte_at` meets its contract.
 -- Assumes nothing.
-use Rattle.records.proofs.NumberLaws.{byte-end}
+use Rattle.records.proofs.Widths.{byte-end}
 use borrow.Author.Needs.{needs}
 use Rattle.records.proofs.numbers.byte_at.Statement.{statement}
 use Rattle.records.proofs.numbers.byte_at.Tie as tie

@@ -5,7 +5,7 @@ use mathlib.Core.List.{List}
 use Prim.Native.Nat.{ℕ, _+_, _<_}
 use lib.ListN.{getD}
 use native.Mathlib.Omega.{arith}
-use Rattle.records.proofs.NumberLaws.{number-four}
+use Rattle.records.proofs.Widths.{number-four}
 use borrow.Author.Needs.{needs}
 use Rattle.records.proofs.numbers.four_at.Statement.{statement}
 use Rattle.records.proofs.numbers.four_at.Tie as tie

@@ -1,6 +1,6 @@
 -- `numbers::number2_at` meets its contract.
 -- Assumes nothing.
-use Rattle.records.proofs.NumberLaws.{number-end, number-two}
+use Rattle.records.proofs.Widths.{number-end, number-two}
 use borrow.Author.Needs.{needs}
 use Rattle.records.proofs.numbers.number2_at.Statement.{statement}
 use Rattle.records.proofs.numbers.number2_at.Tie as tie

@@ -1,6 +1,6 @@
 -- `numbers::number4_at` meets its contract.
 -- Assumes nothing.
-use Rattle.records.proofs.NumberLaws.{number-end, number-four}
+use Rattle.records.proofs.Widths.{number-end, number-four}
 use borrow.Author.Needs.{needs}
 use Rattle.records.proofs.numbers.number4_at.Statement.{statement}
 use Rattle.records.proofs.numbers.number4_at.Tie as tie

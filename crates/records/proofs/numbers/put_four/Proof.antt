@@ -3,7 +3,7 @@
 use mathlib.Core.Path.{refl}
 use lib.ListN.{length-set}
 use native.Mathlib.Omega.{arith}
-use Rattle.records.proofs.NumberLaws.{stored-four}
+use Rattle.records.proofs.Widths.{stored-four}
 use borrow.Author.Needs.{needs}
 use Rattle.records.proofs.numbers.put_four.Statement.{statement}
 use Rattle.records.proofs.numbers.put_four.Tie as tie

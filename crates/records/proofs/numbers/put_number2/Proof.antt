@@ -1,6 +1,6 @@
 -- `numbers::put_number2` meets its contract: two stores in a row are the number's bytes stored.
 -- Assumes nothing.
-use Rattle.records.proofs.NumberLaws.{sets-end, stored-two}
+use Rattle.records.proofs.Widths.{sets-end, stored-two}
 use borrow.Author.Needs.{needs}
 use Rattle.records.proofs.numbers.put_number2.Statement.{statement}
 use Rattle.records.proofs.numbers.put_number2.Tie as tie

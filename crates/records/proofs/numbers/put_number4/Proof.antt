@@ -1,6 +1,6 @@
 -- `numbers::put_number4` meets its contract: four stores in a row are the number's bytes stored.
 -- Assumes nothing.
-use Rattle.records.proofs.NumberLaws.{sets-end, stored-four}
+use Rattle.records.proofs.Widths.{sets-end, stored-four}
 use borrow.Author.Needs.{needs}
 use Rattle.records.proofs.numbers.put_number4.Statement.{statement}
 use Rattle.records.proofs.numbers.put_number4.Tie as tie

@@ -1,6 +1,9 @@
 -- `check::check_script` meets its contract: each return is the first test that fails.
 -- Assumes nothing.
-use Rattle.script.proofs.Reading.{check-7, check-8, check-9, check-script}
+use native.Mathlib.Omega.{arith}
+use Rattle.records.proofs.Checks.{records-cut, records-many, records-bad, records-good}
+use Rattle.script.specs.Scripts.{stepRecords, mostSteps, fits}
+use Rattle.script.proofs.Scripts.{script-records}
 use borrow.Author.Needs.{needs}
 use Rattle.script.proofs.check.check_script.Statement.{statement}
 use Rattle.script.proofs.check.check_script.Tie as tie
@@ -9,13 +12,17 @@ new-requires : tie.Need-new-requires
 new-requires c κs = search needs
 
 returns : tie.Need-returns
-returns c = search check-7
+returns c =
+    let a = c .before .before .before .args in
+    records-cut stepRecords (fits (a .n)) 7 8 9 mostSteps (a .script .now) _ (script-records (a .n) (a .script .now)) _ (c .new .ensures) (omega arith)
 
 new-requires-2 : tie.Need-new-requires-2
 new-requires-2 c κs = search needs
 
 returns-2 : tie.Need-returns-2
-returns-2 c = search check-8
+returns-2 c =
+    let a = c .before .before .before .before .args in
+    records-many stepRecords (fits (a .n)) 7 8 9 mostSteps (a .script .now) _ (script-records (a .n) (a .script .now)) (omega arith) _ (c .new2 .ensures) (omega arith)
 
 first-bad-requires : tie.Need-first-bad-requires
 first-bad-requires c κs = search needs
@@ -24,10 +31,14 @@ new-requires-3 : tie.Need-new-requires-3
 new-requires-3 c κs = search needs
 
 returns-3 : tie.Need-returns-3
-returns-3 c = search check-9
+returns-3 c =
+    let a = c .before .before .before .before .before .before .args in
+    records-bad stepRecords (fits (a .n)) 7 8 9 mostSteps (a .script .now) _ (script-records (a .n) (a .script .now)) (omega arith) (omega arith) _ (c .before .before .first-bad .ensures) _ (c .new3 .ensures) (omega arith)
 
 returns-4 : tie.Need-returns-4
-returns-4 c = search check-script
+returns-4 c =
+    let a = c .before .before .before .before .before .args in
+    records-good stepRecords (fits (a .n)) 7 8 9 mostSteps (a .script .now) _ (script-records (a .n) (a .script .now)) (omega arith) (omega arith) _ (c .before .first-bad .ensures) (omega arith)
 
 pub check-script-spec : {M : Type 1} → statement M
 check-script-spec =

@@ -1,7 +1,7 @@
 -- `check::fits` meets its contract: a row for each operation, and an unknown operation fits none.
 -- Assumes nothing.
 use borrow.Author.Needs.{needs}
-use Rattle.script.proofs.Reading.{fits-row, fits-unknown}
+use Rattle.script.proofs.check.Rows.{fits-row, fits-unknown}
 use Rattle.script.proofs.check.fits.Statement.{statement}
 use Rattle.script.proofs.check.fits.Tie as tie
 

@@ -1,6 +1,6 @@
 -- `record::place_at` meets its contract.
 -- Assumes nothing.
-use Rattle.script.proofs.Reading.{place-in}
+use Rattle.script.proofs.record.Reading.{place-in}
 use borrow.Author.Needs.{needs}
 use Rattle.script.proofs.record.place_at.Statement.{statement}
 use Rattle.script.proofs.record.place_at.Tie as tie

@@ -2,7 +2,7 @@
 -- Assumes nothing.
 use native.Mathlib.Omega.{arith}
 use lib.ListN.{length-set}
-use Rattle.script.proofs.Reading.{step-not-stored, step-size, step-stored}
+use Rattle.script.proofs.record.Reading.{step-not-stored, step-long-kept, step-stored}
 use borrow.Author.Needs.{needs}
 use Rattle.script.proofs.record.put_step.Statement.{statement}
 use Rattle.script.proofs.record.put_step.Tie as tie
@@ -47,7 +47,7 @@ slice-write-script-3 : tie.Need-slice-write-script-3
 slice-write-script-3 c =
     let p = c .before .before .before .before .before .before .before in
     let s = p .before .before .before .before .before .args in
-    omega (arith, step-size (s .script .now) (s .k) (s .x) _ (p .put-number2 .ensures) _ (c .before .before .put-number22 .ensures))
+    omega (arith, step-long-kept (s .script .now) (s .k) (s .x) _ (p .put-number2 .ensures) _ (c .before .before .put-number22 .ensures))
 
 add-script-3 : tie.Need-add-script-3
 add-script-3 c = search needs
@@ -56,13 +56,13 @@ slice-write-script-4 : tie.Need-slice-write-script-4
 slice-write-script-4 c =
     let p = c .before .before .before .before .before .before .before in
     let s = p .before .before .before .before .before .args in
-    simp length-set (omega (arith, step-size (s .script .now) (s .k) (s .x) _ (p .put-number2 .ensures) _ (c .before .before .put-number22 .ensures)))
+    simp length-set (omega (arith, step-long-kept (s .script .now) (s .k) (s .x) _ (p .put-number2 .ensures) _ (c .before .before .put-number22 .ensures)))
 
 same-length : tie.Need-same-length
 same-length c =
     let p = c .before .before .before .before .before .before .before in
     let s = p .before .before .before .before .before .args in
-    simp length-set (step-size (s .script .now) (s .k) (s .x) _ (p .put-number2 .ensures) _ (c .before .before .put-number22 .ensures))
+    simp length-set (step-long-kept (s .script .now) (s .k) (s .x) _ (p .put-number2 .ensures) _ (c .before .before .put-number22 .ensures))
 
 returns-2 : tie.Need-returns-2
 returns-2 c = step-stored _ _ _ (search needs) _ (c .before .before .before .before .before .before .before .put-number2 .ensures) _ (c .before .before .put-number22 .ensures)

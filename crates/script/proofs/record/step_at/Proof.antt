@@ -1,6 +1,6 @@
 -- `record::step_at` meets its contract.
 -- Assumes nothing.
-use Rattle.script.proofs.Reading.{step-past, step-in}
+use Rattle.script.proofs.record.Reading.{step-past, step-in}
 use borrow.Author.Needs.{needs}
 use Rattle.script.proofs.record.step_at.Statement.{statement}
 use Rattle.script.proofs.record.step_at.Tie as tie

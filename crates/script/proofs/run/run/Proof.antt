@@ -1,15 +1,17 @@
 -- `run::run` meets its contract.
 -- Assumes nothing.
 use mathlib.Core.Path.{sym, ap, _∙_}
+use native.Mathlib.Omega.{arith}
 use Rattle.records.specs.Answers.{counted}
-use Rattle.script.proofs.Outcomes.{passed, run-refuses}
-use Rattle.script.proofs.run.Finishing.{whole-run}
+use Rattle.records.proofs.Records.{length-list}
+use Rattle.cube.specs.Lists.{cubes}
+use Rattle.script.proofs.Outcomes.{passed, run-list-refused, run-short, run-refuses}
 use borrow.Author.Needs.{needs}
 use Rattle.script.proofs.run.run.Statement.{statement}
 use Rattle.script.proofs.run.run.Tie as tie
 
-check-run-requires : tie.Need-check-run-requires
-check-run-requires c κs = search needs
+check-requires : tie.Need-check-requires
+check-requires c κs = search needs
 
 enum-known-r : tie.Need-enum-known-r
 enum-known-r c = search needs
@@ -17,29 +19,47 @@ enum-known-r c = search needs
 enum-told : tie.Need-enum-told
 enum-told c = search needs
 
-run-accepted-requires : tie.Need-run-accepted-requires
-run-accepted-requires c κs = passed _ _ (sym (c .before .before .before .check-run .ensures) ∙ ap counted (c .before .enum-told .given .1))
+capacity-requires : tie.Need-capacity-requires
+capacity-requires c κs = search needs
+
+new-requires : tie.Need-new-requires
+new-requires c κs = search needs
 
 returns : tie.Need-returns
-returns c = run-refuses _ _ _ _ _ (sym (c .before .before .before .check-run .ensures) ∙ ap counted (c .before .r .given .1))
+returns c =
+    let c₃ = c .before .before .before in
+    let c₅ = c₃ .before .before in
+    run-refuses _ _ _ _ _ (sym (run-short _ _ _ _ _ (sym (c₅ .check .ensures) ∙ ap counted (c₃ .enum-told .given .1)) _ (c .before .before .capacity .ensures) _ (c .new .ensures) (omega (arith, c .before .if1 .taken))))
+
+run-checked-requires : tie.Need-run-checked-requires
+run-checked-requires c κs =
+    let c₃ = c .before .before .before in
+    let c₅ = c₃ .before .before in
+    let list = c₅ .before .before .before .before .args .list .now in (
+      passed _ _ (sym (c₅ .check .ensures) ∙ ap counted (c₃ .enum-told .given .1)),
+      omega (arith, c .before .if1 .left, c .before .before .capacity .ensures, length-list cubes list),
+    )
+
+returns-2 : tie.Need-returns-2
+returns-2 c = run-refuses _ _ _ _ _ (sym (run-list-refused _ _ _ _ _ (sym (c .before .before .before .check .ensures) ∙ ap counted (c .before .r .given .1))))
 
 same-length : tie.Need-same-length
 same-length c = search needs
 
-returns-2 : tie.Need-returns-2
-returns-2 c =
-    let c₄ = c .before .before .before .before in
-    let c₆ = c₄ .before .before in
-    whole-run _ _ _ _ _ (sym (c₆ .check-run .ensures) ∙ ap counted (c₄ .enum-told .given .1)) _ _ (c .before .before .run-accepted .ensures)
+returns-3 : tie.Need-returns-3
+returns-3 c = search needs
 
 pub run-spec : {M : Type 1} → statement M
 run-spec =
     tie.close
     (tie.spec
-    check-run-requires
+    check-requires
     enum-known-r
     enum-told
-    run-accepted-requires
+    capacity-requires
+    new-requires
     returns
+    run-checked-requires
+    returns-2
     same-length
-    returns-2)
+    returns-3)

@@ -4,7 +4,7 @@ use Prim.Native.Nat.{ℕ, _<_}
 use native.Mathlib.Omega.{arith}
 use lib.ListN.{getD}
 use denote.Ref.{now}
-use Rattle.script.proofs.Outcomes.{runnable}
+use Rattle.script.proofs.Outcomes.{run-checked}
 use Rattle.script.proofs.run.Finishing.{run-ready, run-undo-held, run-undo-good, run-undo-orders, run-done, run-stopped}
 use borrow.Author.Needs.{needs}
 use Rattle.script.proofs.run.run_accepted.Statement.{statement}
@@ -20,13 +20,13 @@ run-steps-requires : tie.Need-run-steps-requires
 run-steps-requires c κs =
     let s = c .before .before .before .before .before .before .before .before in
     let small : (i : ℕ) → getD (now (s .before .args .list)) i 0 < 256 = λ i. omega (arith, s .shared-slice-known .given i) in
-    (search run-ready, runnable _ _ _ _ (s .before .pre) .script-is .fit)
+    (search run-ready, run-checked _ _ _ _ (s .before .pre) .script-is .each)
 
 undo-requires : tie.Need-undo-requires
 undo-requires c κs =
     let s = c .before .before .before .before .before .before .before .before .before .before .before .before .before .before in
     let small : (i : ℕ) → getD (now (s .before .args .list)) i 0 < 256 = λ i. omega (arith, s .shared-slice-known .given i) in
-    (search run-undo-held, (search run-undo-good, (runnable _ _ _ _ (s .before .pre) .list-is .few, search run-undo-orders)))
+    (search run-undo-held, (search run-undo-good, (run-checked _ _ _ _ (s .before .pre) .list-is .few, search run-undo-orders)))
 
 same-length : tie.Need-same-length
 same-length c = search needs

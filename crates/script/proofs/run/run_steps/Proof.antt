@@ -10,16 +10,19 @@ use Rattle.script.proofs.run.run_steps.Statement.{statement}
 use Rattle.script.proofs.run.run_steps.Tie as tie
 
 abbrev Inv-loop : tie.InvT-loop
-Inv-loop work₀ n first cap script steps at₀ k₀ work at k = Running n cap first script work₀ k work at
+Inv-loop work₀ n first cap script steps pending₀ at₀ k₀ work pending at k = Running n cap first script work₀ k work pending at
 
 abbrev μ-loop : tie.MeasureT-loop
-μ-loop work₀ n first cap script steps at₀ k₀ work at k = length script / stepWidth - k
+μ-loop work₀ n first cap script steps pending₀ at₀ k₀ work pending at k = length script / stepWidth - k
 
 loop-holds : tie.Need-loop-holds Inv-loop μ-loop
 loop-holds c = search running-none
 
 step-at-requires : tie.Need-step-at-requires Inv-loop μ-loop
 step-at-requires c κs = search needs
+
+slice-aggregate-advance : tie.Need-slice-aggregate-advance Inv-loop μ-loop
+slice-aggregate-advance c = search needs
 
 advance-requires : tie.Need-advance-requires Inv-loop μ-loop
 advance-requires c κs = (search needs, search step-known)
@@ -29,11 +32,11 @@ same-length c = search needs
 
 returns : tie.Need-returns Inv-loop μ-loop
 returns c =
-    let c₃ = c .before .before .before in
-    let c₆ = c₃ .before .before .before in
-    let l = c₆ .before in
-    running-stop _ _ _ _ _ _ _ _ (l .loop .inv) (c₆ .loop-test .taken) (l .before .before .before .pre .1) _ (c₃ .before .before .step-at .ensures) _ _
-    (c₃ .advance .ensures .0) (c₃ .advance .ensures .1) (not-true _ (c .if1 .taken))
+    let c₅ = c .before .before .before .before .before in
+    let c₈ = c₅ .before .before .before in
+    let l = c₈ .before .before in
+    running-stop _ _ _ _ _ _ _ _ _ (l .loop .inv) (c₈ .before .loop-test .taken) (l .before .before .before .pre .1) _ (c₈ .step-at .ensures) _ _
+    (c₅ .advance .ensures .0) (c₅ .advance .ensures .1 .0) (not-true _ (c .if1 .taken))
 
 add-k : tie.Need-add-k Inv-loop μ-loop
 add-k c = search needs
@@ -43,11 +46,11 @@ loop-less c = search needs
 
 loop-again : tie.Need-loop-again Inv-loop μ-loop
 loop-again c =
-    let c₃ = c .before .before .before in
-    let c₆ = c₃ .before .before .before in
-    let l = c₆ .before in
-    running-more _ _ _ _ _ _ _ _ (l .loop .inv) (c₆ .loop-test .taken) (l .before .before .before .pre .1) _ (c₃ .before .before .step-at .ensures) _ _
-    (c₃ .advance .ensures .0) (c₃ .advance .ensures .1) (not-false _ (c .if1 .left))
+    let c₅ = c .before .before .before .before .before in
+    let c₈ = c₅ .before .before .before in
+    let l = c₈ .before .before in
+    running-more _ _ _ _ _ _ _ _ _ (l .loop .inv) (c₈ .before .loop-test .taken) (l .before .before .before .pre .1) _ (c₈ .step-at .ensures) _ _
+    (c₅ .advance .ensures .0) (c₅ .advance .ensures .1 .0) (not-false _ (c .if1 .left)) _ (c₅ .advance .ensures .1 .1)
 
 same-length-2 : tie.Need-same-length-2 Inv-loop μ-loop
 same-length-2 c = search needs
@@ -63,6 +66,7 @@ run-steps-spec =
     μ-loop
     loop-holds
     step-at-requires
+    slice-aggregate-advance
     advance-requires
     same-length
     returns

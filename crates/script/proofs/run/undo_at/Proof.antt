@@ -1,7 +1,7 @@
 -- `run::undo_at` meets its contract.
 -- Assumes nothing.
 use native.Mathlib.Omega.{arith}
-use Rattle.orders.proofs.OrderLaws.{inverse-lt}
+use Rattle.orders.proofs.Orders.{inverse-lt}
 use Rattle.script.proofs.run.Undoing.{undo-none, undo-done}
 use borrow.Author.Needs.{needs}
 use Rattle.script.proofs.run.undo_at.Statement.{statement}

@@ -2,28 +2,28 @@
 -- Assumes nothing.
 use mathlib.Core.Path.{sym, _∙_}
 use lib.Seq.{length-take-le}
-use Rattle.settling.proofs.Forming.{size-is, size-small}
+use Rattle.settling.proofs.Forming.{power-is, power-small}
 use Rattle.settling.proofs.burn.Written.{front-end, front-vector, front-room, front-burned}
 use borrow.Author.Needs.{needs}
 use Rattle.settling.proofs.burn.burn_form.Statement.{statement}
 use Rattle.settling.proofs.burn.burn_form.Tie as tie
 
-shl-size : tie.Need-shl-size
-shl-size c = search needs
+shl-assignments : tie.Need-shl-assignments
+shl-assignments c = search needs
 
 slice-aggregate-put-form : tie.Need-slice-aggregate-put-form
 slice-aggregate-put-form c = sym (length-take-le _ _ (front-end _ _ _ _ (c .before .before .before .pre)))
 
 array-borrow-prefix-coefficients : tie.Need-array-borrow-prefix-coefficients
-array-borrow-prefix-coefficients c = size-small _ (c .before .before .before .pre .vector .few)
+array-borrow-prefix-coefficients c = power-small _ (c .before .before .before .pre .vector .few)
 
 slice-aggregate-put-form-2 : tie.Need-slice-aggregate-put-form-2
-slice-aggregate-put-form-2 c = sym (length-take-le _ _ (size-small _ (c .before .before .before .before .pre .vector .few)))
+slice-aggregate-put-form-2 c = sym (length-take-le _ _ (power-small _ (c .before .before .before .before .pre .vector .few)))
 
 put-form-requires : tie.Need-put-form-requires
 put-form-requires c κs =
     let f = c .before .before .before .before .before .pre in
-    (front-vector _ _ _ _ f, (f .polarity, (length-take-le _ _ (size-small _ (f .vector .few)) ∙ size-is _ (f .vector .few), front-room _ _ _ _ f)))
+    (front-vector _ _ _ _ f, (f .polarity, (length-take-le _ _ (power-small _ (f .vector .few)) ∙ power-is _ (f .vector .few), front-room _ _ _ _ f)))
 
 same-length : tie.Need-same-length
 same-length c = search needs
@@ -35,7 +35,7 @@ pub burn-form-spec : {M : Type 1} → statement M
 burn-form-spec =
     tie.close
     (tie.spec
-    shl-size
+    shl-assignments
     slice-aggregate-put-form
     array-borrow-prefix-coefficients
     slice-aggregate-put-form-2

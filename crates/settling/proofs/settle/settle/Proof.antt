@@ -5,7 +5,8 @@ use native.Mathlib.Omega.{arith}
 use lib.Seq.{length-take-le}
 use Rattle.records.specs.Answers.{counted}
 use Rattle.script.specs.Calls.{finished}
-use Rattle.settling.proofs.settle.Settling.{list-refused, work-short, out-short, run-refused, result-few, result-end, run-burns, run-settled}
+use Rattle.script.proofs.Outcomes.{passed}
+use Rattle.settling.proofs.settle.Settling.{list-refused, room-work, work-short, out-short, run-refused, result-few, result-end, run-burns, run-settled}
 use borrow.Author.Needs.{needs}
 use Rattle.settling.proofs.settle.settle.Statement.{statement}
 use Rattle.settling.proofs.settle.settle.Tie as tie
@@ -47,8 +48,13 @@ returns-2 c =
     let r = out-short _ _ _ _ _ _ (sym (c₈ .check .ensures) ∙ ap counted (c₆ .given .given .1)) _ (c₄ .capacity .ensures) (c₃ .if1 .left) _ (c .before .before .capacity2 .ensures) (c .before .if2 .taken) _ (c .new2 .ensures) in
     (r .answer, (r .work-is, r .out-is))
 
-run-requires : tie.Need-run-requires
-run-requires c κs = search needs
+run-checked-requires : tie.Need-run-checked-requires
+run-checked-requires c κs =
+    let c₃ = c .before .before .before in
+    let g = c₃ .before .before .before in
+    let args = g .before .before .before .before .before .before .before .args in
+    let e = sym (g .before .before .check .ensures) ∙ ap counted (g .given .given .1) in
+    (passed _ _ e, room-work _ _ (args .script .now) (args .work .now) (args .out .now) _ e _ (c₃ .before .capacity .ensures) (c₃ .if1 .left))
 
 enum-known-r-2 : tie.Need-enum-known-r-2
 enum-known-r-2 c = search needs
@@ -63,7 +69,7 @@ mul-end c =
     omega (
       arith,
       result-few _ _ _ _ (g .before .before .before .before .before .before .before .args .out .now) _ (sym (g .before .before .check .ensures) ∙ ap counted (g .given .given .1)) _ (r .before .before .before .before .before .capacity .ensures) (r .before .before .before .before .if1 .left)
-          _ (r .before .before .before .capacity2 .ensures) (r .before .before .if2 .left) _ _ _ (sym (ap finished (c .before .count .given .1)) ∙ r .run .ensures .0) (r .run .ensures .1),
+          _ (r .before .before .before .capacity2 .ensures) (r .before .before .if2 .left) _ _ _ (sym (ap finished (c .before .count .given .1)) ∙ r .run-checked .ensures .0) (r .run-checked .ensures .1),
     )
 
 slice-reshare-prefix-burn-best : tie.Need-slice-reshare-prefix-burn-best
@@ -71,21 +77,21 @@ slice-reshare-prefix-burn-best c =
     let r = c .before .before .before .before .before in
     let g = r .before .before .before .before .before .before .before in
     result-end _ _ _ _ (g .before .before .before .before .before .before .before .args .out .now) _ (sym (g .before .before .check .ensures) ∙ ap counted (g .given .given .1)) _ (r .before .before .before .before .before .capacity .ensures) (r .before .before .before .before .if1 .left)
-    _ (r .before .before .before .capacity2 .ensures) (r .before .before .if2 .left) _ _ _ (sym (ap finished (c .before .count .given .1)) ∙ r .run .ensures .0) (r .run .ensures .1)
+    _ (r .before .before .before .capacity2 .ensures) (r .before .before .if2 .left) _ _ _ (sym (ap finished (c .before .count .given .1)) ∙ r .run-checked .ensures .0) (r .run-checked .ensures .1)
 
 slice-aggregate-burn-best : tie.Need-slice-aggregate-burn-best
 slice-aggregate-burn-best c =
     let r = c .before .before .before .before .before .before in
     let g = r .before .before .before .before .before .before .before in
     sym (length-take-le _ _ (result-end _ _ _ _ (g .before .before .before .before .before .before .before .args .out .now) _ (sym (g .before .before .check .ensures) ∙ ap counted (g .given .given .1)) _ (r .before .before .before .before .before .capacity .ensures) (r .before .before .before .before .if1 .left)
-    _ (r .before .before .before .capacity2 .ensures) (r .before .before .if2 .left) _ _ _ (sym (ap finished (c .before .before .count .given .1)) ∙ r .run .ensures .0) (r .run .ensures .1)))
+    _ (r .before .before .before .capacity2 .ensures) (r .before .before .if2 .left) _ _ _ (sym (ap finished (c .before .before .count .given .1)) ∙ r .run-checked .ensures .0) (r .run-checked .ensures .1)))
 
 burn-best-requires : tie.Need-burn-best-requires
 burn-best-requires c κs =
     let r = c .before .before .before .before .before .before .before in
     let g = r .before .before .before .before .before .before .before in
     run-burns _ _ _ _ (g .before .before .before .before .before .before .before .args .out .now) _ (sym (g .before .before .check .ensures) ∙ ap counted (g .given .given .1)) _ (r .before .before .before .before .before .capacity .ensures) (r .before .before .before .before .if1 .left)
-    _ (r .before .before .before .capacity2 .ensures) (r .before .before .if2 .left) _ _ _ (sym (ap finished (c .before .before .before .count .given .1)) ∙ r .run .ensures .0) (r .run .ensures .1) _ refl
+    _ (r .before .before .before .capacity2 .ensures) (r .before .before .if2 .left) _ _ _ (sym (ap finished (c .before .before .before .count .given .1)) ∙ r .run-checked .ensures .0) (r .run-checked .ensures .1) _ refl
 
 clear-requires : tie.Need-clear-requires
 clear-requires c κs = search needs
@@ -108,7 +114,7 @@ returns-4 c =
     let c₁₂ = c₁₀ .before .before in
     let c₁₄ = c₁₂ .before .before in
     let r = run-refused _ _ _ _ _ _ (sym (c₁₄ .check .ensures) ∙ ap counted (c₁₂ .given .given .1)) _ (c₁₀ .capacity .ensures) (c₉ .if1 .left) _ (c₈ .capacity2 .ensures) (c₇ .if2 .left) _ _
-    (sym (ap finished (c .before .r2 .given .1)) ∙ c₅ .run .ensures .0) (c₅ .run .ensures .1) in
+    (sym (ap finished (c .before .r2 .given .1)) ∙ c₅ .run-checked .ensures .0) (c₅ .run-checked .ensures .1) in
     (r .answer, (r .work-is, r .out-is))
 
 same-length-2 : tie.Need-same-length-2
@@ -130,7 +136,7 @@ returns-5 c =
     let c₂₁ = c₁₉ .before .before in
     let c₂₃ = c₂₁ .before .before in
     let r = run-settled _ _ _ _ _ _ (sym (c₂₃ .check .ensures) ∙ ap counted (c₂₁ .given .given .1)) _ (c₁₉ .capacity .ensures) (c₁₈ .if1 .left) _ (c₁₇ .capacity2 .ensures) (c₁₆ .if2 .left) _ _ _
-    (sym (ap finished (c₁₀ .count .given .1)) ∙ c₁₄ .run .ensures .0) (c₁₄ .run .ensures .1) _ refl _ _ (c₆ .burn-best .ensures) _ (c .before .before .clear .ensures) (c₁₃ .work .given) in
+    (sym (ap finished (c₁₀ .count .given .1)) ∙ c₁₄ .run-checked .ensures .0) (c₁₄ .run-checked .ensures .1) _ refl _ _ (c₆ .burn-best .ensures) _ (c .before .before .clear .ensures) (c₁₃ .work .given) in
     (r .answer, (r .work-is, r .out-is))
 
 pub settle-spec : {M : Type 1} → statement M
@@ -146,7 +152,7 @@ settle-spec =
     capacity-requires-2
     new-requires-2
     returns-2
-    run-requires
+    run-checked-requires
     enum-known-r-2
     enum-known-count
     mul-end

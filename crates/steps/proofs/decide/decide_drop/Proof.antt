@@ -1,7 +1,7 @@
 -- `steps::decide::decide_drop` meets its contract.
 -- Assumes nothing.
 use borrow.Author.Needs.{needs}
-use Rattle.steps.proofs.Deciding.{drop-places, drop-unlike, drop-equal}
+use Rattle.steps.proofs.decide.Deciding.{drop-places, drop-unlike, drop-equal}
 use Rattle.steps.proofs.decide.decide_drop.Statement.{statement}
 use Rattle.steps.proofs.decide.decide_drop.Tie as tie
 

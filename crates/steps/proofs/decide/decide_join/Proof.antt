@@ -1,7 +1,7 @@
 -- `steps::decide::decide_join` meets its contract.
 -- Assumes nothing.
 use borrow.Author.Needs.{needs}
-use Rattle.steps.proofs.Deciding.{join-places, join-unlike, join-third}
+use Rattle.steps.proofs.decide.Deciding.{join-places, join-unlike, join-third}
 use Rattle.steps.proofs.decide.decide_join.Statement.{statement}
 use Rattle.steps.proofs.decide.decide_join.Tie as tie
 

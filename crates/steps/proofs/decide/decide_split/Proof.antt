@@ -2,7 +2,7 @@
 -- Assumes nothing.
 use native.Mathlib.Omega.{arith}
 use borrow.Author.Needs.{needs}
-use Rattle.steps.proofs.Deciding.{split-place, split-full, split-halves}
+use Rattle.steps.proofs.decide.Deciding.{split-place, split-full, split-halves}
 use Rattle.steps.proofs.decide.decide_split.Statement.{statement}
 use Rattle.steps.proofs.decide.decide_split.Tie as tie
 

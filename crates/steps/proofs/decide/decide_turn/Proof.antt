@@ -2,7 +2,7 @@
 -- Assumes nothing.
 use mathlib.Core.Path.{refl}
 use borrow.Author.Needs.{needs}
-use Rattle.steps.proofs.Deciding.{turn-places, turn-unlike, turn-elsewhere, turn-both}
+use Rattle.steps.proofs.decide.Deciding.{turn-places, turn-unlike, turn-elsewhere, turn-both}
 use Rattle.steps.proofs.decide.decide_turn.Statement.{statement}
 use Rattle.steps.proofs.decide.decide_turn.Tie as tie
 

@@ -1,6 +1,6 @@
 -- `steps::decide::higher` meets its contract.
 -- Assumes nothing.
-use Rattle.steps.proofs.Deciding.{is-then, is-else}
+use Rattle.steps.proofs.decide.Deciding.{is-then, is-else}
 use Rattle.steps.proofs.decide.higher.Statement.{statement}
 use Rattle.steps.proofs.decide.higher.Tie as tie
 

@@ -1,6 +1,6 @@
 -- `steps::decide::lower` meets its contract.
 -- Assumes nothing.
-use Rattle.steps.proofs.Deciding.{is-then, is-else}
+use Rattle.steps.proofs.decide.Deciding.{is-then, is-else}
 use Rattle.steps.proofs.decide.lower.Statement.{statement}
 use Rattle.steps.proofs.decide.lower.Tie as tie
 

@@ -1,7 +1,7 @@
 -- `steps::decide::third_at` meets its contract.
 -- Assumes nothing.
 use borrow.Author.Needs.{needs}
-use Rattle.steps.proofs.Deciding.{third-made}
+use Rattle.steps.proofs.decide.Deciding.{third-made}
 use Rattle.steps.proofs.decide.third_at.Statement.{statement}
 use Rattle.steps.proofs.decide.third_at.Tie as tie
 

@@ -1,6 +1,6 @@
 -- `steps::decide::two_places` meets its contract.
 -- Assumes nothing.
-use Rattle.steps.proofs.Deciding.{places-first, places-second, places-equal, places-fine}
+use Rattle.steps.proofs.decide.Deciding.{places-first, places-second, places-equal, places-fine}
 use Rattle.steps.proofs.decide.two_places.Statement.{statement}
 use Rattle.steps.proofs.decide.two_places.Tie as tie
 

@@ -5,10 +5,12 @@ use native.Mathlib.Omega.{arith}
 use lib.ListN.{length}
 use denote.Ref.{now}
 use borrow.Author.Needs.{needs}
+use Rattle.records.proofs.Records.{held-place}
 use Rattle.cube.specs.Lists.{cubes, narrow, recordWidth}
-use Rattle.cube.proofs.ListLaws.{lawful}
+use Rattle.cube.proofs.Lists.{lawful}
 use Rattle.steps.specs.Changes.{Narrow}
-use Rattle.steps.proofs.Performing.{removed-held, drop-in, split-in, made-refuse, made-drop, made-split, made-turn, narrow-fits, refuse-move, drop-move, split-move, turn-move, join-below, join-one, join-held, perform-join}
+use Rattle.steps.proofs.perform.Performing.{removed-held, drop-in, split-in, turn-in, made-refuse, made-drop, made-split, made-turn, narrow-fits, refuse-move, drop-move, split-move, turn-move, join-below, join-one, join-held, perform-join}
+use Rattle.steps.proofs.perform.Placing.{still-place, join-place}
 use Rattle.steps.proofs.perform.perform.Statement.{statement}
 use Rattle.steps.proofs.perform.perform.Tie as tie
 
@@ -56,8 +58,8 @@ sub-t20 c =
 enum-known-change-2 : tie.Need-enum-known-change-2
 enum-known-change-2 c = search needs
 
-put-cube-requires : tie.Need-put-cube-requires
-put-cube-requires c κs = search needs
+put-record-requires : tie.Need-put-record-requires
+put-record-requires c κs = search join-place
 
 remove-requires-3 : tie.Need-remove-requires-3
 remove-requires-3 c κs = (search join-held, search join-below)
@@ -68,11 +70,18 @@ sub-t26 c = search join-one
 enum-known-change-3 : tie.Need-enum-known-change-3
 enum-known-change-3 c = search needs
 
-put-cube-requires-2 : tie.Need-put-cube-requires-2
-put-cube-requires-2 c κs = search needs
+put-record-requires-2 : tie.Need-put-record-requires-2
+put-record-requires-2 c κs =
+    let told = c .before .before in
+    let pre = told .before .before .before .pre in
+    held-place cubes lawful _ _ (pre .0) _ (split-in _ _ _ _ _ (pre .1 .0) _ _ (split-move _ _ _ (told .change3 .given .1)) .inside)
 
-put-cube-requires-3 : tie.Need-put-cube-requires-3
-put-cube-requires-3 c κs = search needs
+put-record-requires-3 : tie.Need-put-record-requires-3
+put-record-requires-3 c κs =
+    let stored = c .before .before .before in
+    let told = stored .before .before .before in
+    still-place cubes _ _ _ _ _ (stored .put-record2 .ensures)
+    (split-in _ _ _ _ _ (told .before .before .before .pre .1 .0) _ _ (split-move _ _ _ (told .change3 .given .1)) .more)
 
 add-t32 : tie.Need-add-t32
 add-t32 c =
@@ -85,11 +94,21 @@ add-t32 c =
 enum-known-change-4 : tie.Need-enum-known-change-4
 enum-known-change-4 c = search needs
 
-put-cube-requires-4 : tie.Need-put-cube-requires-4
-put-cube-requires-4 c κs = search needs
+put-record-requires-4 : tie.Need-put-record-requires-4
+put-record-requires-4 c κs =
+    let told = c .before .before in
+    let pre = told .before .before .before .pre in
+    held-place cubes lawful _ _ (pre .0) _ (turn-in _ _ _ _ _ (pre .1 .0) _ _ (turn-move _ _ _ (told .change4 .given .1)) .first)
 
-put-cube-requires-5 : tie.Need-put-cube-requires-5
-put-cube-requires-5 c κs = search needs
+put-record-requires-5 : tie.Need-put-record-requires-5
+put-record-requires-5 c κs =
+    let stored = c .before .before .before in
+    let told = stored .before .before .before in
+    let pre = told .before .before .before .pre in
+    let t = turn-in _ _ _ _ _ (pre .1 .0) _ _ (turn-move _ _ _ (told .change4 .given .1)) in
+    let first = still-place cubes _ _ _ _ _ (stored .put-record4 .ensures) (held-place cubes lawful _ _ (pre .0) _ (t .first)) in
+    let second = still-place cubes _ _ _ _ _ (stored .put-record4 .ensures) (held-place cubes lawful _ _ (pre .0) _ (t .second)) in
+    search (first, second)
 
 returns : tie.Need-returns
 returns c = made-refuse cubes lawful _ _ _ _ _ _ (refuse-move _ _ (c .before .change .given .1))
@@ -119,7 +138,7 @@ returns-4 c =
     let told = c₆ .before .before .before in
     let pre = told .before .before .before .pre in
     made-split cubes lawful _ _ _ _ _ Narrow narrow narrow-fits (pre .1 .0) (pre .1 .1) _ _ (split-move _ _ _ (told .change3 .given .1)) (pre .0) _ _
-    (c₆ .put-cube2 .ensures) (c .before .before .put-cube3 .ensures)
+    (c₆ .put-record2 .ensures) (c .before .before .put-record3 .ensures)
 
 same-length-4 : tie.Need-same-length-4
 same-length-4 c = search needs
@@ -130,7 +149,7 @@ returns-5 c =
     let told = c₆ .before .before .before in
     let pre = told .before .before .before .pre in
     made-turn cubes lawful _ _ _ _ _ Narrow narrow narrow-fits (pre .1 .0) (pre .1 .1) _ _ (turn-move _ _ _ (told .change4 .given .1)) (pre .0) _ _
-    (c₆ .put-cube4 .ensures) (c .before .before .put-cube5 .ensures)
+    (c₆ .put-record4 .ensures) (c .before .before .put-record5 .ensures)
 
 pub perform-spec : {M : Type 1} → statement M
 perform-spec =
@@ -145,16 +164,16 @@ perform-spec =
     remove-requires-2
     sub-t20
     enum-known-change-2
-    put-cube-requires
+    put-record-requires
     remove-requires-3
     sub-t26
     enum-known-change-3
-    put-cube-requires-2
-    put-cube-requires-3
+    put-record-requires-2
+    put-record-requires-3
     add-t32
     enum-known-change-4
-    put-cube-requires-4
-    put-cube-requires-5
+    put-record-requires-4
+    put-record-requires-5
     returns
     same-length
     returns-2

@@ -5,23 +5,31 @@ use native.Mathlib.Omega.{arith}
 use lib.ListN.{getD}
 use denote.Ref.{now}
 use borrow.Author.Needs.{needs}
-use Rattle.cube.proofs.ListLaws.{lawful}
-use Rattle.cube.proofs.RecordLaws.{narrow-read}
-use Rattle.steps.proofs.Performing.{remove-done}
+use Rattle.records.proofs.Records.{held-place}
+use Rattle.cube.specs.Lists.{cubes}
+use Rattle.cube.proofs.Lists.{lawful}
+use Rattle.cube.proofs.CubeRecord.{narrow-read}
+use Rattle.steps.proofs.perform.Performing.{remove-done}
+use Rattle.steps.proofs.perform.Placing.{still-place}
 use Rattle.steps.proofs.perform.remove.Statement.{statement}
 use Rattle.steps.proofs.perform.remove.Tie as tie
 
 sub-last : tie.Need-sub-last
 sub-last c = search needs
 
-cube-at-requires : tie.Need-cube-at-requires
-cube-at-requires c κs = search needs
+record-at-requires : tie.Need-record-at-requires
+record-at-requires c κs = held-place cubes lawful _ _ (c .before .before .pre .0) _ (omega arith)
 
-put-cube-requires : tie.Need-put-cube-requires
-put-cube-requires c κs = search needs
+put-record-requires : tie.Need-put-record-requires
+put-record-requires c κs =
+    let pre = c .before .before .before .before .pre in
+    held-place cubes lawful _ _ (pre .0) _ (pre .1)
 
-put-cube-requires-2 : tie.Need-put-cube-requires-2
-put-cube-requires-2 c κs = search needs
+put-record-requires-2 : tie.Need-put-record-requires-2
+put-record-requires-2 c κs =
+    let c₃ = c .before .before .before in
+    let pre = c₃ .before .before .before .before .before .pre in
+    still-place cubes _ _ _ _ _ (c₃ .put-record .ensures) (held-place cubes lawful _ _ (pre .0) _ (omega (arith, pre .1)))
 
 same-length : tie.Need-same-length
 same-length c = search needs
@@ -37,4 +45,4 @@ returns c =
 pub remove-spec : {M : Type 1} → statement M
 remove-spec =
     tie.close
-    (tie.spec sub-last cube-at-requires put-cube-requires put-cube-requires-2 same-length returns)
+    (tie.spec sub-last record-at-requires put-record-requires put-record-requires-2 same-length returns)

@@ -9,20 +9,20 @@ use Rattle.steps.proofs.reorder.masks_at.Tie as tie
 shl-at : tie.Need-shl-at
 shl-at c = search needs
 
-image-requires : tie.Need-image-requires
-image-requires c κs = search needs
+code-after-requires : tie.Need-code-after-requires
+code-after-requires c κs = search needs
 
 literal-requires : tie.Need-literal-requires
 literal-requires c κs = search needs
 
-image-requires-2 : tie.Need-image-requires-2
-image-requires-2 c κs = search needs
+code-after-requires-2 : tie.Need-code-after-requires-2
+code-after-requires-2 c κs = search needs
 
 literal-requires-2 : tie.Need-literal-requires-2
 literal-requires-2 c κs = search needs
 
-image-requires-3 : tie.Need-image-requires-3
-image-requires-3 c κs = search needs
+code-after-requires-3 : tie.Need-code-after-requires-3
+code-after-requires-3 c κs = search needs
 
 literal-requires-3 : tie.Need-literal-requires-3
 literal-requires-3 c κs = search needs
@@ -41,19 +41,19 @@ returns c =
     let z = c .before .before .before .before .before .before .before .before .before .before .before in
     let y = z .before .before in
     let x = y .before .before in
-    masks-made _ _ _ _ _ _ _ _ _ _ _ _ (shl-one _ _ (x .before .before .pre)) (x .before .image .ensures) (x .literal .ensures) (y .before .image2 .ensures) (y .literal2 .ensures)
-    (z .before .image3 .ensures) (z .literal3 .ensures) (c .before .before .word .ensures) (c .before .word2 .ensures) (c .word3 .ensures)
+    masks-made _ _ _ _ _ _ _ _ _ _ _ _ (shl-one _ _ (x .before .before .pre)) (x .before .code-after .ensures) (x .literal .ensures) (y .before .code-after2 .ensures) (y .literal2 .ensures)
+    (z .before .code-after3 .ensures) (z .literal3 .ensures) (c .before .before .word .ensures) (c .before .word2 .ensures) (c .word3 .ensures)
 
 pub masks-at-spec : {M : Type 1} → statement M
 masks-at-spec =
     tie.close
     (tie.spec
     shl-at
-    image-requires
+    code-after-requires
     literal-requires
-    image-requires-2
+    code-after-requires-2
     literal-requires-2
-    image-requires-3
+    code-after-requires-3
     literal-requires-3
     word-requires
     word-requires-2

@@ -4,7 +4,7 @@ use Prim.Native.Nat.{_-_}
 use native.Mathlib.Omega.{arith}
 use borrow.Author.Needs.{needs}
 use Rattle.cube.specs.Lists.{cubes}
-use Rattle.cube.proofs.ListLaws.{lawful}
+use Rattle.cube.proofs.Lists.{lawful}
 use Rattle.steps.specs.Steps.{reordered}
 use Rattle.steps.proofs.reorder.Reordering.{Mapped, mapped-none, mapped-end, whole-count, reorder-good, reorder-more}
 use Rattle.steps.proofs.reorder.reorder.Statement.{statement}

@@ -2,7 +2,7 @@
 -- Assumes nothing.
 use Prim.Native.Nat.{_<_}
 use borrow.Author.Needs.{needs}
-use Rattle.steps.proofs.Stepping.{ready-good, look-good, not-letter, letter-variable, letter-order, letter-done, step-placed, step-narrow, step-done}
+use Rattle.steps.proofs.step.Stepping.{ready-good, look-good, not-letter, letter-variable, letter-order, letter-done, step-placed, step-narrow, step-done}
 use Rattle.steps.proofs.step.do_step.Statement.{statement}
 use Rattle.steps.proofs.step.do_step.Tie as tie
 

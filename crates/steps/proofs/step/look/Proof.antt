@@ -1,20 +1,21 @@
 -- `steps::step::look` meets its contract.
 -- Assumes nothing.
-use borrow.Author.Needs.{needs}
+use native.Mathlib.Omega.{arith}
+use Rattle.records.proofs.Records.{held-place}
 use Rattle.cube.specs.Lists.{cubes}
-use Rattle.cube.proofs.ListLaws.{lawful}
-use Rattle.steps.proofs.Performing.{look-past, look-in}
+use Rattle.cube.proofs.Lists.{lawful}
+use Rattle.steps.proofs.perform.Performing.{look-past, look-in}
 use Rattle.steps.proofs.step.look.Statement.{statement}
 use Rattle.steps.proofs.step.look.Tie as tie
 
 returns : tie.Need-returns
 returns c = look-past cubes _ _ _ (c .if1 .taken)
 
-cube-at-requires : tie.Need-cube-at-requires
-cube-at-requires c κs = search needs
+record-at-requires : tie.Need-record-at-requires
+record-at-requires c κs = held-place cubes lawful _ _ (c .before .before .pre) _ (omega (arith, c .if1 .left))
 
 returns-2 : tie.Need-returns-2
 returns-2 c = search (look-in, lawful)
 
 pub look-spec : {M : Type 1} → statement M
-look-spec = tie.close (tie.spec returns cube-at-requires returns-2)
+look-spec = tie.close (tie.spec returns record-at-requires returns-2)

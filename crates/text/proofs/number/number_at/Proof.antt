@@ -3,13 +3,13 @@
 use Prim.Native.Nat.{_-_}
 use native.Mathlib.Omega.{arith}
 use lib.ListN.{length}
-use Rattle.text.proofs.Reading.{Counting, counting-none, no-digit, digits-stop, digits-above, digits-more, digits-end, room-le}
+use Rattle.text.proofs.Reading.{Digits, digits-none, no-digit, digits-stop, digits-above, digits-more, digits-end, room-le}
 use borrow.Author.Needs.{needs}
 use Rattle.text.proofs.number.number_at.Statement.{statement}
 use Rattle.text.proofs.number.number_at.Tie as tie
 
 abbrev Inv-loop : tie.InvT-loop
-Inv-loop text at most p₀ x₀ p x = Counting most text at p x
+Inv-loop text at most p₀ x₀ p x = Digits most text at p x
 
 abbrev μ-loop : tie.MeasureT-loop
 μ-loop text at most p₀ x₀ p x = length text - p
@@ -24,7 +24,7 @@ returns : tie.Need-returns Inv-loop μ-loop
 returns c = search (no-digit, needs)
 
 loop-holds : tie.Need-loop-holds Inv-loop μ-loop
-loop-holds c = search (counting-none, needs)
+loop-holds c = search (digits-none, needs)
 
 shared-slice-read-is-digit : tie.Need-shared-slice-read-is-digit Inv-loop μ-loop
 shared-slice-read-is-digit c = search needs

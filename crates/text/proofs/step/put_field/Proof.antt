@@ -1,9 +1,12 @@
--- `step::put_field` meets its contract: a space, and the number after it.
+-- `step::put_field` meets its contract: not used, and a space with the number after it.
 -- Assumes nothing.
-use Rattle.text.proofs.Steps.{field-laid}
+use Rattle.text.proofs.Steps.{unused-laid, field-laid}
 use borrow.Author.Needs.{needs}
 use Rattle.text.proofs.step.put_field.Statement.{statement}
 use Rattle.text.proofs.step.put_field.Tie as tie
+
+returns : tie.Need-returns
+returns c = search (unused-laid, needs)
 
 put-byte-requires : tie.Need-put-byte-requires
 put-byte-requires c κs = search needs
@@ -14,8 +17,9 @@ put-number-requires c κs = search needs
 same-length : tie.Need-same-length
 same-length c = search needs
 
-returns : tie.Need-returns
-returns c = search (field-laid, needs)
+returns-2 : tie.Need-returns-2
+returns-2 c = search (field-laid, needs)
 
 pub put-field-spec : {M : Type 1} → statement M
-put-field-spec = tie.close (tie.spec put-byte-requires put-number-requires same-length returns)
+put-field-spec =
+    tie.close (tie.spec returns put-byte-requires put-number-requires same-length returns-2)

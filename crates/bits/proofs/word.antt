@@ -1,0 +1,2 @@
+-- What the proofs of `word` and of `packed` use.
+pub mod Masks

@@ -1,0 +1,3 @@
+-- What the proofs of `value` use.
+pub mod Returns
+pub mod Valuing

@@ -1,0 +1,60 @@
+-- The value call and the truth vector by cases: what each of their returns answers and leaves.
+-- Assumes nothing.
+use mathlib.Core.Path.{_≡_, sym, ap, _∙_}
+use mathlib.Core.List.{List, [], _∷_, _++_}
+use Prim.Native.Nat.{ℕ, _%_, _^_, _≤_, _<_}
+use native.Mathlib.Omega.{arith}
+use lib.ListN.{length, drop}
+use borrow.Author.Tests.{lt-ltb, le-ltb, le-leb, lt-leb}
+use Rattle.records.specs.declared.Refusal.{Refusal}
+use Rattle.records.specs.Answers.{Outcome, accepted, refused, refusal}
+use Rattle.records.proofs.Answers.{and-then, and-not, after-accepted, after-refused}
+use Rattle.cube.specs.Lists.{cubesOf, trues, listValue, truthVector, mostVariables, vectorVariables}
+use Rattle.cube.specs.Calls.{checkList, valueOutcome, vectorOutcome, vectorAfter}
+
+-- ---- value
+
+module _ (n : ℕ) (b : List ℕ) (a : ℕ) where
+  pub value-refused : (r : Refusal) → checkList mostVariables n b ≡ refused r → refused r ≡ valueOutcome n b a
+  unfolding valueOutcome
+  value-refused r e = sym (and-not _ _ r e)
+
+  module _ (v : List ℕ) (e : checkList mostVariables n b ≡ accepted v) where
+    pub value-far : (r : Refusal) → r ≡ refusal 6 0 → 2 ^ n ≤ a → refused r ≡ valueOutcome n b a
+    unfolding valueOutcome
+    value-far r er h = ap refused er ∙ sym (and-then _ _ v e ∙ simp (le-ltb _ _ h))
+
+    pub value-bit : (t : ℕ) → t ≡ trues n (cubesOf b) a → a < 2 ^ n → accepted (t % 2 ∷ []) ≡ valueOutcome n b a
+    unfolding valueOutcome listValue
+    value-bit t et h = ap (λ (x : ℕ). accepted (x % 2 ∷ [])) et ∙ sym (and-then _ _ v e ∙ simp (lt-ltb _ _ h))
+
+-- ---- truth vector
+
+-- what a call answers, and the buffer after it
+pub record Vectored (n : ℕ) (b out : List ℕ) (o : Outcome) (out′ : List ℕ) : Type 0 where
+  pub answer : o ≡ vectorOutcome n b (length out)
+  pub buffer : out′ ≡ vectorAfter n b out
+
+module _ (n : ℕ) (b out : List ℕ) where
+  refusing : (r : Refusal) → refused r ≡ vectorOutcome n b (length out) → Vectored n b out (refused r) out
+  unfolding vectorAfter
+  refusing r e = record { answer = e; buffer = sym (after-refused _ _ out r (sym e)) }
+
+  pub vector-refused : (r : Refusal) → checkList vectorVariables n b ≡ refused r → Vectored n b out (refused r) out
+  unfolding vectorOutcome
+  vector-refused r e = refusing r (sym (and-not _ _ r e))
+
+  module _ (v : List ℕ) (e : checkList vectorVariables n b ≡ accepted v) where
+    pub vector-short : (r : Refusal) → r ≡ refusal 5 0 → (assignments : ℕ) → assignments ≡ 2 ^ n → length out < assignments → Vectored n b out (refused r) out
+    unfolding vectorOutcome
+    vector-short r er assignments es h =
+        let short : length out < 2 ^ n = omega arith in
+        refusing r (ap refused er ∙ sym (and-then _ _ v e ∙ simp (lt-leb _ _ short)))
+
+    pub vector-done : (assignments : ℕ) → assignments ≡ 2 ^ n → assignments ≤ length out → (out′ : List ℕ) → out′ ≡ truthVector n (cubesOf b) ++ drop (2 ^ n) out
+        → Vectored n b out (accepted (assignments ∷ [])) out′
+    unfolding vectorOutcome vectorAfter
+    vector-done assignments es h out′ eo =
+        let room : 2 ^ n ≤ length out = omega arith in
+        let is : vectorOutcome n b (length out) ≡ accepted (2 ^ n ∷ []) = and-then _ _ v e ∙ simp (le-leb _ _ room) in
+        record { answer = ap (λ (x : ℕ). accepted (x ∷ [])) es ∙ sym is; buffer = eo ∙ sym (after-accepted _ _ out _ is) }

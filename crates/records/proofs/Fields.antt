@@ -1,0 +1,125 @@
+-- A kind of record that has numbers for its fields is lawful, and the bytes of what is read are the bytes that were there: from the fields' widths alone.
+-- Assumes nothing.
+use mathlib.Core.Path.{_≡_, refl, sym, ap, ap₂, _∙_, subst}
+use mathlib.Core.Bool.{Bool, true, _&&_}
+use mathlib.Core.List.{List, [], _∷_, _++_, append-assoc}
+use Prim.Native.Nat.{ℕ, suc, _+_, _-_, _*_, _<_, _≤_}
+use native.Mathlib.Nat.{add-zero, zero-add, add-assoc}
+use native.Mathlib.Omega.{arith}
+use lib.Dec.{ltb}
+use lib.ListN.{length, getD, replicate, take, drop, length-append, replicate-append-replicate, List·getD-append}
+use lib.Seq.{split-at, length-take-le, getD-append-add}
+use borrow.Author.Tests.{ltb-true}
+use Rattle.bits.proofs.Bools.{both-true, below-or}
+use mathlib.Core.Logic.{⊎-elim}
+use Rattle.records.specs.Numbers.{bytesOf, numberAt}
+use Rattle.records.specs.Records.{Codec, flat, filled, image, records, zeros}
+use Rattle.records.specs.Fields.{total, fieldBytes, numbersAt, byFields}
+use Rattle.records.proofs.Widths.{length-bytes, bytes-zero, number-past, number-front, bytes-back}
+use Rattle.records.proofs.Images.{flat-append, length-flat, flat-listBelow}
+use Rattle.records.proofs.Records.{Lawful}
+
+-- each field has a byte
+abbrev pub positive : List ℕ → Bool
+positive [] = true
+positive (w ∷ ws) = ltb 0 w && positive ws
+
+-- ---- the bytes of some numbers
+
+length-fields : (ws xs : List ℕ) → length xs ≡ length ws → length (fieldBytes ws xs) ≡ total ws
+length-fields [] xs e = refl
+length-fields (w ∷ ws) [] e = absurd (omega arith)
+length-fields (w ∷ ws) (x ∷ xs) e =
+    length-append (bytesOf w x) (fieldBytes ws xs) ∙ ap₂ _+_ (length-bytes w x) (length-fields ws xs (omega arith))
+
+fields-zero : (ws : List ℕ) → fieldBytes ws (zeros (length ws)) ≡ zeros (total ws)
+fields-zero [] = refl
+fields-zero (w ∷ ws) = ap₂ _++_ (bytes-zero w) (fields-zero ws) ∙ replicate-append-replicate w (total ws) 0
+
+-- the numbers whose bytes stand after a front
+fields-read : (ws xs : List ℕ) → positive ws ≡ true → length xs ≡ length ws → (a t : List ℕ) (base at : ℕ) → length a ≡ base + at
+    → numbersAt ws (a ++ (fieldBytes ws xs ++ t)) base at ≡ xs
+fields-read [] [] wide e a t base at l = refl
+fields-read [] (x ∷ xs) wide e a t base at l = absurd (omega arith)
+fields-read (w ∷ ws) [] wide e a t base at l = absurd (omega arith)
+fields-read (w ∷ ws) (x ∷ xs) wide e a t base at l =
+    let s : List ℕ = bytesOf w x in
+    let r : List ℕ = fieldBytes ws xs in
+    let p = both-true (ltb 0 w) (positive ws) wide in
+    let here : numberAt w (a ++ ((s ++ r) ++ t)) (base + at) ≡ x =
+    ap (numberAt w (a ++ ((s ++ r) ++ t))) (sym l ∙ sym (add-zero (length a)))
+    ∙ number-past w a ((s ++ r) ++ t) 0
+    ∙ ap (λ (b : List ℕ). numberAt w b 0) (append-assoc s r t)
+    ∙ number-front w x (r ++ t) (ltb-true 0 w (p .0)) in
+    let behind : a ++ ((s ++ r) ++ t) ≡ (a ++ s) ++ (r ++ t) = ap (λ (b : List ℕ). a ++ b) (append-assoc s r t) ∙ sym (append-assoc a s (r ++ t)) in
+    let rest : numbersAt ws (a ++ ((s ++ r) ++ t)) base (at + w) ≡ xs =
+    ap (λ (b : List ℕ). numbersAt ws b base (at + w)) behind
+    ∙ fields-read ws xs (p .1) (omega arith) (a ++ s) t base (at + w) (length-append a s ∙ ap₂ _+_ l (length-bytes w x) ∙ add-assoc base at w) in
+    ap₂ (λ (y : ℕ) (ys : List ℕ). y ∷ ys) here rest
+
+-- the bytes of the numbers that were read
+fields-back : (b : List ℕ) → ((i : ℕ) → getD b i 0 < 256) → (ws : List ℕ) (base at r : ℕ) → r < total ws
+    → getD (fieldBytes ws (numbersAt ws b base at)) r 0 ≡ getD b (base + at + r) 0
+fields-back b small [] base at r h = absurd (omega arith)
+fields-back b small (w ∷ ws) base at r h =
+    let s : List ℕ = bytesOf w (numberAt w b (base + at)) in
+    let t : List ℕ = fieldBytes ws (numbersAt ws b base (at + w)) in
+    let long : length s ≡ w = length-bytes w (numberAt w b (base + at)) in
+    ⊎-elim
+    (λ l. List·getD-append s t 0 r (omega arith) ∙ bytes-back b small w (base + at) r l)
+    (λ l.
+    let e : r ≡ length s + (r - w) = omega arith in
+    let f : base + (at + w) + (r - w) ≡ base + at + r = omega arith in
+    ap (λ (n : ℕ). getD (s ++ t) n 0) e ∙ getD-append-add s t (r - w) 0
+    ∙ fields-back b small ws base (at + w) (r - w) (omega arith) ∙ ap (λ (n : ℕ). getD b n 0) f)
+    (below-or r w)
+
+-- ---- the kind of record
+
+-- what has to be shown of the fields: there are some, and the record is theirs and they the record's
+pub record Fields {A : Type 0} (ws : List ℕ) (fields : A → List ℕ) (of : List ℕ → A) : Type 0 where
+  pub wide : positive ws ≡ true
+  pub some : 0 < total ws
+  pub many : (a : A) → length (fields a) ≡ length ws
+  pub back : (a : A) → of (fields a) ≡ a
+  pub there : (b : List ℕ) (base : ℕ) → fields (of (numbersAt ws b base 0)) ≡ numbersAt ws b base 0
+  pub none : fields (of (zeros (length ws))) ≡ zeros (length ws)
+
+module _ {A : Type 0} (ws : List ℕ) (fields : A → List ℕ) (of : List ℕ → A) (F : Fields ws fields of) where
+  long : (a : A) → length (fieldBytes ws (fields a)) ≡ total ws
+  long a = length-fields ws (fields a) (F .many a)
+
+  field-image : (n : ℕ) (l : List A) (i : ℕ) → i < length l → of (numbersAt ws (image (byFields ws fields of) n l) (total ws * i) 0) ≡ getD l i (of (zeros (length ws)))
+  unfolding image filled
+  field-image n l i h =
+      let enc : A → List ℕ = λ a. fieldBytes ws (fields a) in
+      let d : A = of (zeros (length ws)) in
+      let x : A = getD l i d in
+      let z : List ℕ = replicate (n - length (flat enc l)) 0 in
+      let front : List ℕ = flat enc (take i l) in
+      let rest : List ℕ = flat enc (drop (suc i) l) in
+      let parts : flat enc l ++ z ≡ front ++ (enc x ++ (rest ++ z)) =
+      ap (λ (m : List A). flat enc m ++ z) (split-at l i d h)
+      ∙ ap (λ (b : List ℕ). b ++ z) (flat-append enc (take i l) (x ∷ drop (suc i) l))
+      ∙ append-assoc front (enc x ++ rest) z ∙ ap (λ (b : List ℕ). front ++ b) (append-assoc (enc x) rest z) in
+      let long : length front ≡ total ws * i + 0 =
+      length-flat enc (total ws) long (take i l) ∙ ap (λ (k : ℕ). total ws * k) (length-take-le i l (omega arith)) ∙ sym (add-zero (total ws * i)) in
+      ap (λ (b : List ℕ). of (numbersAt ws b (total ws * i) 0)) parts
+      ∙ ap of (fields-read ws (fields x) (F .wide) (F .many x) front (rest ++ z) (total ws * i) 0 long) ∙ F .back x
+
+  pub fields-lawful : Lawful (byFields ws fields of)
+  fields-lawful = record {
+    wide = F .some;
+    len = long;
+    zero-record = ap (fieldBytes ws) (F .none) ∙ fields-zero ws;
+    reads = field-image;
+  }
+
+  -- the bytes of the records of a buffer are the buffer's bytes
+  pub fields-bytes : (k : ℕ) (s : List ℕ) → length s ≡ total ws * k → ((i : ℕ) → getD s i 0 < 256)
+      → flat (λ a. fieldBytes ws (fields a)) (records (byFields ws fields of) k s) ≡ s
+  unfolding records
+  fields-bytes k s e small =
+      flat-listBelow (λ a. fieldBytes ws (fields a)) (total ws) long k (λ i. of (numbersAt ws s (total ws * i) 0)) s e (λ i r hi hr.
+      ap (λ (xs : List ℕ). getD (fieldBytes ws xs) r 0) (F .there s (total ws * i))
+      ∙ fields-back s small ws (total ws * i) 0 r hr ∙ ap (λ (n : ℕ). getD s (n + r) 0) (add-zero (total ws * i)))

@@ -1,0 +1,2 @@
+-- What the proofs of `check` use.
+mod Rows

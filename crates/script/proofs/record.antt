@@ -1,0 +1,2 @@
+-- What the proofs of `record` use.
+mod Reading

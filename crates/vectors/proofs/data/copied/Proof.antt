@@ -1,0 +1,53 @@
+-- `data::copied` is safe and ends: the measure is how many bytes are left.
+-- Assumes nothing.
+use mathlib.Core.Path.{_≡_}
+use Prim.Native.Nat.{_-_}
+use lib.ListN.{length}
+use borrow.Author.Needs.{needs}
+use Rattle.vectors.proofs.data.copied.Statement.{statement}
+use Rattle.vectors.proofs.data.copied.Tie as tie
+
+abbrev Inv-loop : tie.InvT-loop
+Inv-loop out₀ from to at p₀ k₀ out p k = length out₀ ≡ length out
+
+abbrev μ-loop : tie.MeasureT-loop
+μ-loop out₀ from to at p₀ k₀ out p k = to - k
+
+loop-holds : tie.Need-loop-holds Inv-loop μ-loop
+loop-holds c = search needs
+
+byte-at-requires : tie.Need-byte-at-requires Inv-loop μ-loop
+byte-at-requires c κs = search needs
+
+put-byte-requires : tie.Need-put-byte-requires Inv-loop μ-loop
+put-byte-requires c κs = search needs
+
+add-k : tie.Need-add-k Inv-loop μ-loop
+add-k c = search needs
+
+loop-less : tie.Need-loop-less Inv-loop μ-loop
+loop-less c = search needs
+
+loop-again : tie.Need-loop-again Inv-loop μ-loop
+loop-again c = search needs
+
+same-length : tie.Need-same-length Inv-loop μ-loop
+same-length c = search needs
+
+returns : tie.Need-returns Inv-loop μ-loop
+returns c = search needs
+
+pub copied-spec : {M : Type 1} → statement M
+copied-spec =
+    tie.close
+    (tie.spec
+    Inv-loop
+    μ-loop
+    loop-holds
+    byte-at-requires
+    put-byte-requires
+    add-k
+    loop-less
+    loop-again
+    same-length
+    returns)

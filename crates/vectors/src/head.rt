@@ -1,0 +1,101 @@
+// The head of a row: the name of a call, and its numbers.
+use text::ReadNumber;
+use text::number;
+use text::place;
+
+// The calls: those on lists, and from TEST on those on vectors and coefficients.
+pub(crate) const CHECK: usize = 1;
+
+pub(crate) const VALUE: usize = 2;
+
+pub(crate) const VECTOR: usize = 3;
+
+pub(crate) const RUN: usize = 4;
+
+pub(crate) const TEST: usize = 5;
+
+pub(crate) const BEST: usize = 6;
+
+pub(crate) const FORM: usize = 7;
+
+pub(crate) const COEFFICIENTS: usize = 8;
+
+pub(crate) const BACK: usize = 9;
+
+// A number and the place after it; 0 and the same place where there is none.
+pub(crate) struct Numeral {
+    pub(crate) x: usize,
+    pub(crate) p: usize,
+}
+
+// The number of variables, the assignment or the polarity, the bytes of the lent buffer, and the place after them.
+pub(crate) struct Head {
+    pub(crate) n: usize,
+    pub(crate) given: usize,
+    pub(crate) room: usize,
+    pub(crate) p: usize,
+}
+
+// The one of two names that a row begins with.
+fn either(row: &[u8], a: &[u8], x: usize, b: &[u8], y: usize) -> ReadNumber {
+    match place::word_at(row, 0, a, x) {
+        ReadNumber::Read(name, p) => ReadNumber::Read(name, p),
+        ReadNumber::Wrong(_) => place::word_at(row, 0, b, y),
+    }
+}
+
+fn name_by_b(row: &[u8], first: u8) -> ReadNumber {
+    if first == b'b' {
+        return either(row, b"best ", BEST, b"back ", BACK);
+    }
+    either(row, b"run ", RUN, b"test ", TEST)
+}
+
+fn name_by_v(row: &[u8], first: u8) -> ReadNumber {
+    if first == b'v' {
+        return either(row, b"value ", VALUE, b"vector ", VECTOR);
+    }
+    name_by_b(row, first)
+}
+
+// The name that a row begins with, by its first letter.
+pub(crate) fn name(row: &[u8], first: u8) -> ReadNumber {
+    if first == b'c' {
+        return either(row, b"check ", CHECK, b"coefficients ", COEFFICIENTS);
+    }
+    if first == b'f' {
+        return place::word_at(row, 0, b"form ", FORM);
+    }
+    name_by_v(row, first)
+}
+
+// The place after a word, or the same place where another stands.
+pub(crate) fn after(row: &[u8], at: usize, word: &[u8]) -> usize {
+    match place::word_at(row, at, word, 0) {
+        ReadNumber::Read(_, p) => p,
+        ReadNumber::Wrong(_) => at,
+    }
+}
+
+// A number after a word.
+pub(crate) fn field(row: &[u8], at: usize, word: &[u8]) -> Numeral {
+    let from = after(row, at, word);
+    match number::number_at(row, from, usize::MAX) {
+        ReadNumber::Read(x, p) => Numeral { x, p },
+        ReadNumber::Wrong(_) => Numeral { x: 0, p: from },
+    }
+}
+
+// The numbers of a call: `N`, then `at A` or `under P`, then `into B`. One that isn't there is 0.
+pub(crate) fn numbers(row: &[u8], at: usize) -> Head {
+    let n = field(row, at, b"");
+    let a = field(row, n.p, b" at ");
+    let u = field(row, a.p, b" under ");
+    let b = field(row, u.p, b" into ");
+    Head {
+        n: n.x,
+        given: a.x | u.x,
+        room: b.x,
+        p: b.p,
+    }
+}

@@ -1,0 +1,18 @@
+// Vectors through the calls of `cube`, `script` and `polarity`: a table from standard input. Each row is printed as it stands, and after it what its call answers
+// and what it leaves in the buffer that it was lent; a row that can't be read is answered by the place from which on it can't.
+mod call;
+mod data;
+mod head;
+mod item;
+mod print;
+mod table;
+
+fn main() {
+    let mut bytes = io::large_buffer();
+    let size = io::read_full(libc::STDIN_FILENO, &mut bytes);
+    if size == bytes.len() {
+        print::text(b"the table is too long\n");
+        return;
+    }
+    table::rows(&bytes[..size]);
+}
