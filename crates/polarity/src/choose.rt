@@ -107,13 +107,13 @@ fn best_from(k: usize, w: Packed, p: usize) -> Chosen
     lesser_of(best_from(j, w, p), best_from(j, w.lowered(j), p + h))
 }
 
-// The same from the bits of one word, for at least one variable and at most six. The compiler drops the three words that are 0.
+// The same from the bits of one word, for at least two variables and at most six. The compiler drops the three words that are 0.
 fn best_in_word(k: usize, x: u64, p: usize) -> Chosen
-    requires { ⌜ (1 ≤ k) × (k ≤ 6) × (p + 2 ^ k ≤ 256) ⌝ }
+    requires { ⌜ (2 ≤ k) × (k ≤ 6) × (p + 2 ^ k ≤ 256) ⌝ }
     ensures { λ r. ⌜ r ≡ bestFrom k (alone x) p ⌝ }
 {
-    if k == 1 {
-        return best_of_two(Packed::alone(x), p);
+    if k == 2 {
+        return best_of_four(Packed::alone(x), p);
     }
     let j = k - 1;
     let h: usize = 1 << j;

@@ -17,8 +17,8 @@ use Rattle.script.proofs.record.put_step.Kinds as put-step-kinds
 use Rattle.script.proofs.record.put_step.Reads as put-step-reads
 use Rattle.script.proofs.check.check_script.Kinds as check-script-kinds
 use Rattle.script.proofs.check.check_script.Reads as check-script-reads
-use Rattle.script.proofs.run.pend_step.Kinds as pend-step-kinds
-use Rattle.script.proofs.run.pend_step.Reads as pend-step-reads
+use Rattle.script.proofs.run.pended.Kinds as pended-kinds
+use Rattle.script.proofs.run.pended.Reads as pended-reads
 use Rattle.script.proofs.run.advance.Kinds as advance-kinds
 use Rattle.script.proofs.run.advance.Reads as advance-reads
 use Rattle.script.proofs.run.undo.Kinds as undo-kinds
@@ -47,12 +47,11 @@ put-step-determined κs a z z′ ws ws′ p q = (refl, ap (λ (b : List ℕ). (b
 pub check-script-determined : Determined 1 check-script-kinds.ps check-script-kinds.r check-script-reads.Learnt
 check-script-determined κs a z z′ ws ws′ p q = (same-told counted counted-back counted-known p q, refl)
 
-pub pend-step-determined : Determined 1 pend-step-kinds.ps pend-step-kinds.r pend-step-reads.Learnt
-pend-step-determined κs a z z′ ws ws′ p q = (refl, ap (λ (os : List ℕ). (os, (tt, tt))) (same p q))
+pub pended-determined : Determined 0 pended-kinds.ps pended-kinds.r pended-reads.Learnt
+pended-determined κs a z z′ ws ws′ p q = (same p q, refl)
 
-pub advance-determined : Determined 2 advance-kinds.ps advance-kinds.r advance-reads.Learnt
-advance-determined κs a z z′ ws ws′ p q =
-    (same (p .0) (q .0), ap₂ (λ (b os : List ℕ). (b, (os, (tt, (tt, (tt, (tt, tt))))))) (same (p .1 .0) (q .1 .0)) (same (p .1 .1) (q .1 .1)))
+pub advance-determined : Determined 1 advance-kinds.ps advance-kinds.r advance-reads.Learnt
+advance-determined κs a z z′ ws ws′ p q = (same (p .0) (q .0), ap (λ (b : List ℕ). (b, (tt, (tt, (tt, (tt, tt)))))) (same (p .1) (q .1)))
 
 pub undo-determined : Determined 1 undo-kinds.ps undo-kinds.r undo-reads.Learnt
 undo-determined κs a z z′ ws ws′ p q = (refl, ap (λ (b : List ℕ). (b, (tt, (tt, (tt, tt))))) (same p q))

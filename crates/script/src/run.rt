@@ -24,7 +24,7 @@ ghost use Rattle.steps.specs.Steps.{meaning, reordered, step};
 ghost use Rattle.steps.specs.Calls.{Ready, Known};
 ghost use Rattle.script.specs.Pending.{pendStep, restored};
 ghost use Rattle.script.specs.Scripts.{stepRecords, fits, stepsOf};
-ghost use Rattle.script.specs.Progress.{advanced, workAdvanced, Stepping, Answered};
+ghost use Rattle.script.specs.Progress.{halted as Progress·halted, advanced, workAdvanced, Stepping, Answered};
 ghost use Rattle.script.specs.Calls.{checkRun, runOutcome, runAfter, finished};
 ghost use Rattle.records.specs.Answers.{Accepts};
 
@@ -32,37 +32,30 @@ ghost use Rattle.records.specs.Answers.{Accepts};
 pub const NONE_PENDING: [u8; MOST_VARIABLES] = [0; MOST_VARIABLES];
 
 // What is pending after one more step: the order of an L step follows that of its variable.
-pub fn pend_step(pending: &mut [u8], x: StepRecord)
-    ensures { λ _. ⌜ now (pending .exit) ≡ pendStep (now (pending .entry)) (meaning x) ⌝ }
+pub fn pended(pending: [u8; MOST_VARIABLES], x: StepRecord) -> [u8; MOST_VARIABLES]
+    ensures { λ r. ⌜ r ≡ pendStep pending (meaning x) ⌝ }
 {
     let op = x.op;
     let v = x.v as usize;
     if op < 5 {
-        return;
+        return pending;
     }
-    if pending.len() <= v {
-        return;
+    if MOST_VARIABLES <= v {
+        return pending;
     }
-    let before = pending[v];
-    pending[v] = orders::follow(before, orders::letter_order(x.literal));
+    let mut next = pending;
+    let before = next[v];
+    next[v] = orders::follow(before, orders::letter_order(x.literal));
+    next
 }
 
-// The step x done from where the run stands; a refusal clears the work buffer.
-pub fn advance(
-    work: &mut [u8],
-    pending: &mut [u8],
-    n: usize,
-    cap: usize,
-    x: StepRecord,
-    at: Standing,
-) -> Standing
+// The step x done from where the run stands; a refusal clears the work buffer. What is pending after it, `pended` says.
+pub fn advance(work: &mut [u8], n: usize, cap: usize, x: StepRecord, at: Standing) -> Standing
     requires { ⌜ Ready n (at .count) cap (now work) ⌝ }
     requires { ⌜ Known n x ⌝ }
     ensures { λ r. ⌜ r ≡ advanced at (step n cap (meaning x) (records cubes (at .count) (now (work .entry)))) ⌝ }
     ensures { λ _. ⌜ now (work .exit) ≡ workAdvanced (now (work .entry)) (step n cap (meaning x) (records cubes (at .count) (now (work .entry)))) ⌝ }
-    ensures { λ _. ⌜ now (pending .exit) ≡ pendStep (now (pending .entry)) (meaning x) ⌝ }
 {
-    pend_step(pending, x);
     match steps::step::do_step(work, n, at.count, cap, x) {
         Stepped::Refused(number) => {
             records::clear(work);
@@ -85,7 +78,22 @@ pub fn advance(
     }
 }
 
-// The steps of a script in turn, on the first records of the work buffer; a refusal clears it.
+// How far a run went that was refused by a number at step k.
+fn halted(number: u8, k: usize) -> Progress
+    ensures { λ r. ⌜ r ≡ Progress·halted number k ⌝ }
+{
+    Progress {
+        done: false,
+        number,
+        place: k,
+        count: 0,
+        peak: 0,
+        pending: NONE_PENDING,
+    }
+}
+
+// The steps of a script in turn, on the first records of the work buffer; a refusal clears it. What is pending is carried by value, and
+// looked at only where a step is an L step: a copy at every step shows in the time of a run.
 fn run_steps(work: &mut [u8], n: usize, first: usize, cap: usize, script: &[u8]) -> Progress
     requires { ⌜ Ready n first cap (now work) ⌝ }
     requires { ⌜ All (λ r. fits n r ≡ true) (listOf stepRecords (now script)) ⌝ }
@@ -102,18 +110,15 @@ fn run_steps(work: &mut [u8], n: usize, first: usize, cap: usize, script: &[u8])
     let mut k = 0;
     while k < steps {
         let x = check::step_at(script, k);
-        let next = advance(work, &mut pending, n, cap, x, at);
+        let next = advance(work, n, cap, x, at);
         if !next.done {
-            return Progress {
-                done: false,
-                number: next.number,
-                place: k,
-                count: 0,
-                peak: 0,
-                pending: NONE_PENDING,
-            };
+            return halted(next.number, k);
         }
         at = next;
+        if 5 <= x.op {
+            let before = pending;
+            pending = pended(before, x);
+        }
         k += 1;
     }
     Progress {

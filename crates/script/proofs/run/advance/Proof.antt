@@ -5,9 +5,6 @@ use Rattle.script.proofs.run.Advancing.{advance-refused, advance-done}
 use Rattle.script.proofs.run.advance.Statement.{statement}
 use Rattle.script.proofs.run.advance.Tie as tie
 
-pend-step-requires : tie.Need-pend-step-requires
-pend-step-requires c κs = search needs
-
 do-step-requires : tie.Need-do-step-requires
 do-step-requires c κs = search needs
 
@@ -26,45 +23,32 @@ larger-requires c κs = search needs
 same-length : tie.Need-same-length
 same-length c = search needs
 
-same-length-2 : tie.Need-same-length-2
-same-length-2 c = search needs
-
 returns : tie.Need-returns
 returns c =
     let c₅ = c .before .before .before .before .before in
     let c₉ = c₅ .before .before .before .before in
-    let c₁₃ = c₉ .before .before .before .before in
     let done = c₉ .do-step .ensures in
-    let r = advance-refused _ _ _ (c₁₃ .before .before .before .before .args .at) _ _ _ (done .0) (done .1) _ (c₅ .number .given .1) _ (c .before .before .clear .ensures) in
-    (r .0, (r .1, c₁₃ .pend-step .ensures))
+    advance-refused _ _ _ (c₉ .before .before .before .args .at) _ _ _ (done .0) (done .1) _ (c₅ .number .given .1) _ (c .before .before .clear .ensures)
 
-same-length-3 : tie.Need-same-length-3
-same-length-3 c = search needs
-
-same-length-4 : tie.Need-same-length-4
-same-length-4 c = search needs
+same-length-2 : tie.Need-same-length-2
+same-length-2 c = search needs
 
 returns-2 : tie.Need-returns-2
 returns-2 c =
     let c₆ = c .before .before .before .before .before .before in
-    let c₁₀ = c₆ .before .before .before .before in
     let done = c₆ .do-step .ensures in
-    let r = advance-done _ _ _ (c₁₀ .before .before .before .before .args .at) _ _ _ (done .0) (done .1) _ (c .before .before .count .given .1) _ (c .larger .ensures) in
-    (r .0, (r .1, c₁₀ .pend-step .ensures))
+    advance-done _ _ _ (c₆ .before .before .before .args .at) _ _ _ (done .0) (done .1) _ (c .before .before .count .given .1) _ (c .larger .ensures)
 
 pub advance-spec : {M : Type 1} → statement M
 advance-spec =
     tie.close
     (tie.spec
-    pend-step-requires
     do-step-requires
     enum-known-number
     clear-requires
     enum-known-count
     larger-requires
     same-length
-    same-length-2
     returns
-    same-length-3
-    same-length-4
+    same-length-2
     returns-2)

@@ -1,10 +1,14 @@
 -- `run::run_steps` meets its contract: the loop keeps `Running`.
 -- Assumes nothing.
+use mathlib.Core.Path.{sym, _∙_, subst}
+use mathlib.Core.Logic.{⊎-elim}
 use Prim.Native.Nat.{_-_, _/_}
 use lib.ListN.{length}
 use borrow.Author.Needs.{needs}
 use borrow.Author.Tests.{not-true, not-false}
 use Rattle.script.specs.Scripts.{stepWidth}
+use Rattle.script.specs.Progress.{Stepping}
+use Rattle.script.proofs.run.Advancing.{pend-other}
 use Rattle.script.proofs.run.Running.{Running, running-none, running-more, running-stop, running-end, step-known}
 use Rattle.script.proofs.run.run_steps.Statement.{statement}
 use Rattle.script.proofs.run.run_steps.Tie as tie
@@ -21,22 +25,26 @@ loop-holds c = search running-none
 step-at-requires : tie.Need-step-at-requires Inv-loop μ-loop
 step-at-requires c κs = search needs
 
-slice-aggregate-advance : tie.Need-slice-aggregate-advance Inv-loop μ-loop
-slice-aggregate-advance c = search needs
-
 advance-requires : tie.Need-advance-requires Inv-loop μ-loop
 advance-requires c κs = (search needs, search step-known)
+
+halted-requires : tie.Need-halted-requires Inv-loop μ-loop
+halted-requires c κs = search needs
 
 same-length : tie.Need-same-length Inv-loop μ-loop
 same-length c = search needs
 
 returns : tie.Need-returns Inv-loop μ-loop
 returns c =
-    let c₅ = c .before .before .before .before .before in
-    let c₈ = c₅ .before .before .before in
-    let l = c₈ .before .before in
-    running-stop _ _ _ _ _ _ _ _ _ (l .loop .inv) (c₈ .before .loop-test .taken) (l .before .before .before .pre .1) _ (c₈ .step-at .ensures) _ _
-    (c₅ .advance .ensures .0) (c₅ .advance .ensures .1 .0) (not-true _ (c .if1 .taken))
+    let stepped = c .before .before .before .before .before in
+    let looked = stepped .before .before in
+    let l = looked .before .before in
+    subst (Stepping _ _ _ _ _ _) (sym (c .halted .ensures))
+    (running-stop _ _ _ _ _ _ _ _ _ (l .loop .inv) (looked .before .loop-test .taken) (l .before .before .before .pre .1) _ (looked .step-at .ensures) _ _
+    (stepped .advance .ensures .0) (stepped .advance .ensures .1) (not-true _ (c .before .if1 .taken)))
+
+pended-requires : tie.Need-pended-requires Inv-loop μ-loop
+pended-requires c κs = search needs
 
 add-k : tie.Need-add-k Inv-loop μ-loop
 add-k c = search needs
@@ -46,11 +54,13 @@ loop-less c = search needs
 
 loop-again : tie.Need-loop-again Inv-loop μ-loop
 loop-again c =
-    let c₅ = c .before .before .before .before .before in
-    let c₈ = c₅ .before .before .before in
-    let l = c₈ .before .before in
-    running-more _ _ _ _ _ _ _ _ _ (l .loop .inv) (c₈ .before .loop-test .taken) (l .before .before .before .pre .1) _ (c₈ .step-at .ensures) _ _
-    (c₅ .advance .ensures .0) (c₅ .advance .ensures .1 .0) (not-false _ (c .if1 .left)) _ (c₅ .advance .ensures .1 .1)
+    let went = c .before .before in
+    let stepped = went .before .before .before .before in
+    let looked = stepped .before .before in
+    let l = looked .before .before in
+    running-more _ _ _ _ _ _ _ _ _ (l .loop .inv) (looked .before .loop-test .taken) (l .before .before .before .pre .1) _ (looked .step-at .ensures) _ _
+    (stepped .advance .ensures .0) (stepped .advance .ensures .1) (not-false _ (went .if1 .left)) _
+    (⊎-elim (λ t. t .2 ∙ t .1 .ensures) (λ t. t .1 ∙ pend-other _ _ (t .0 .left)) (c .if2 .came))
 
 same-length-2 : tie.Need-same-length-2 Inv-loop μ-loop
 same-length-2 c = search needs
@@ -66,10 +76,11 @@ run-steps-spec =
     μ-loop
     loop-holds
     step-at-requires
-    slice-aggregate-advance
     advance-requires
+    halted-requires
     same-length
     returns
+    pended-requires
     add-k
     loop-less
     loop-again
