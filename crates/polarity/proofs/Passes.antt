@@ -15,7 +15,7 @@ use Rattle.bits.specs.Packed.{plusUpper, plusLower}
 use Rattle.bits.proofs.Bools.{below-or, all-at₂}
 use Rattle.bits.proofs.Bits.{bit-lt, bit-high, bit-xor, within-bit, weight-le, with-same, with-other, is-with, plus-with, plus-lt, pow-bit, pow-bit-other, differ-zero}
 use Rattle.polarity.specs.Forms.{parityWithin, coefficient}
-use Rattle.polarity.proofs.Subsets.{xor-assoc, xor-swap, xor-twice, xor-parity}
+use Rattle.polarity.proofs.Subsets.{mask-assoc, mask-swap, xor-twice, xor-parity}
 use Rattle.polarity.proofs.Parities.{pow-double, parity-zero, parity-low, parity-top, parity-cong, parity-inside, parity-plus, parity-lt}
 
 -- ---- a set with variable k, and without it
@@ -226,5 +226,5 @@ module _ (n k : ℕ) (hk : k < n) (g : ℕ → ℕ) where
 -- With variable k turned in p, a set without k has the sum of its coefficient and that of the set with k; a set with k keeps its own.
 pub coefficient-turned : (n k p : ℕ) → k < n → (f : ℕ → ℕ) (s : ℕ) → s < 2 ^ n → coefficient n (bitXor p (2 ^ k)) f s ≡ plusUpper k (coefficient n p f) s
 coefficient-turned n k p hk f s hs =
-    parity-cong n (λ t. f (bitXor t (bitXor p (2 ^ k)))) (moved k (λ t. f (bitXor t p))) s (λ t l. ap f (xor-assoc t p (2 ^ k) ∙ xor-swap t p (2 ^ k)))
+    parity-cong n (λ t. f (bitXor t (bitXor p (2 ^ k)))) (moved k (λ t. f (bitXor t p))) s (λ t l. ap f (mask-assoc t p (2 ^ k) ∙ mask-swap t p (2 ^ k)))
     ∙ parity-moved n k hk (λ t. f (bitXor t p)) s hs

@@ -42,18 +42,18 @@ module _ (k t s : ℕ) where
 
 -- ---- EXOR
 
-pub xor-assoc : (t a b : ℕ) → bitXor t (bitXor a b) ≡ bitXor (bitXor t a) b
-xor-assoc t a b = bit-ext (bitXor t (bitXor a b)) (bitXor (bitXor t a) b) (λ j.
+pub mask-assoc : (t a b : ℕ) → bitXor t (bitXor a b) ≡ bitXor (bitXor t a) b
+mask-assoc t a b = bit-ext (bitXor t (bitXor a b)) (bitXor (bitXor t a) b) (λ j.
     bit-xor t (bitXor a b) j ∙ ap (differ (bit t j)) (bit-xor a b j)
     ∙ eqb-true _ _ (all-at₃ 2 2 2 (λ x y z. eqb (differ x (differ y z)) (differ (differ x y) z)) refl (bit t j) (bit a j) (bit b j) (bit-lt t j) (bit-lt a j) (bit-lt b j))
     ∙ sym (bit-xor (bitXor t a) b j ∙ ap (λ (x : ℕ). differ x (bit b j)) (bit-xor t a j)))
 
-pub xor-swap : (t a b : ℕ) → bitXor (bitXor t a) b ≡ bitXor (bitXor t b) a
-xor-swap t a b = sym (xor-assoc t a b) ∙ ap (bitXor t) (xor-comm a b) ∙ xor-assoc t b a
+pub mask-swap : (t a b : ℕ) → bitXor (bitXor t a) b ≡ bitXor (bitXor t b) a
+mask-swap t a b = sym (mask-assoc t a b) ∙ ap (bitXor t) (xor-comm a b) ∙ mask-assoc t b a
 
 -- with p, twice
 pub xor-twice : (p a : ℕ) → bitXor (bitXor a p) p ≡ a
-xor-twice p a = sym (xor-assoc a p p) ∙ ap (bitXor a) (xor-self p) ∙ xor-zero-r a
+xor-twice p a = sym (mask-assoc a p p) ∙ ap (bitXor a) (xor-self p) ∙ xor-zero-r a
 
 -- of two bits it is the parity of their sum
 pub xor-parity : (x y : ℕ) → x < 2 → y < 2 → bitXor x y ≡ (x + y) % 2

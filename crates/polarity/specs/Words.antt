@@ -25,8 +25,8 @@ passed pass zero w = w
 passed pass (suc k) w = pass k (passed pass k w)
 
 -- from the coefficients under one polarity to those with variable k turned in it, where p has k
-unfoldable pub turned : ℕ → ℕ → Packed → Packed
-turned p k w = cond (eqb (bit p k) 0) w (lowered k w)
+unfoldable pub turnedAt : ℕ → ℕ → Packed → Packed
+turnedAt p k w = cond (eqb (bit p k) 0) w (lowered k w)
 
 -- the coefficients under p of a vector, or the vector of such coefficients
 abbrev pub transformed : Bool → ℕ → ℕ → (ℕ → ℕ) → ℕ → ℕ

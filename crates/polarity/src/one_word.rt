@@ -5,7 +5,7 @@ ghost use mathlib.Core.Path.{_≡_};
 ghost use Prim.Native.Nat.{_^_, _≤_, _<_};
 ghost use Rattle.bits.specs.Packed.{alone, raised};
 ghost use Rattle.polarity.specs.Vectors.{byteAt, Vector};
-ghost use Rattle.polarity.specs.Words.{Shows, passed, turned, transformed};
+ghost use Rattle.polarity.specs.Words.{Shows, passed, turnedAt, transformed};
 
 // The pass up of each variable below n: from a vector, its positive coefficients.
 pub(crate) fn raised_below(n: usize, x: u64) -> u64
@@ -25,7 +25,7 @@ pub(crate) fn raised_below(n: usize, x: u64) -> u64
 // The pass down of variable k, where p has it.
 fn turned_at(p: usize, k: usize, x: u64) -> u64
     requires { ⌜ k < 6 ⌝ }
-    ensures { λ r. ⌜ alone r ≡ turned p k (alone x) ⌝ }
+    ensures { λ r. ⌜ alone r ≡ turnedAt p k (alone x) ⌝ }
 {
     if (p >> k) % 2 == 0 {
         return x;
@@ -36,7 +36,7 @@ fn turned_at(p: usize, k: usize, x: u64) -> u64
 // The pass down of each variable of p.
 fn turned_by(n: usize, p: usize, x: u64) -> u64
     requires { ⌜ n ≤ 6 ⌝ }
-    ensures { λ r. ⌜ alone r ≡ passed (turned p) n (alone x) ⌝ }
+    ensures { λ r. ⌜ alone r ≡ passed (turnedAt p) n (alone x) ⌝ }
 {
     let mut bits = x;
     let mut k: usize = 0;

@@ -15,7 +15,7 @@ ghost use Rattle.bits.specs.Packed.{raised};
 ghost use Rattle.records.specs.Answers.{counted, afterCall};
 ghost use Rattle.polarity.specs.Vectors.{byteAt, Vector};
 ghost use Rattle.polarity.specs.Calls.{coefficientsOutcome, coefficientsAfter, backAfter};
-ghost use Rattle.polarity.specs.Words.{Shows, passed, turned, transformed};
+ghost use Rattle.polarity.specs.Words.{Shows, passed, turnedAt, transformed};
 
 // The pass up of each variable below n: from a vector, its positive coefficients.
 pub(crate) fn raised_below(n: usize, w: Packed) -> Packed
@@ -34,7 +34,7 @@ pub(crate) fn raised_below(n: usize, w: Packed) -> Packed
 // The pass down of variable k, where p has it.
 fn turned_at(p: usize, k: usize, w: Packed) -> Packed
     requires { ⌜ k < 64 ⌝ }
-    ensures { λ r. ⌜ r ≡ turned p k w ⌝ }
+    ensures { λ r. ⌜ r ≡ turnedAt p k w ⌝ }
 {
     if (p >> k) % 2 == 0 {
         return w;
@@ -45,7 +45,7 @@ fn turned_at(p: usize, k: usize, w: Packed) -> Packed
 // The pass down of each variable of p: from the coefficients under any polarity, those with p's variables turned in it.
 fn turned_by(n: usize, p: usize, w: Packed) -> Packed
     requires { ⌜ n ≤ 64 ⌝ }
-    ensures { λ r. ⌜ r ≡ passed (turned p) n w ⌝ }
+    ensures { λ r. ⌜ r ≡ passed (turnedAt p) n w ⌝ }
 {
     let mut bits = w;
     let mut k: usize = 0;

@@ -14,7 +14,7 @@ use Rattle.bits.specs.Sums.{firstBad}
 use Rattle.bits.proofs.Sums.{all-get, first-le, first-fails, first-lowest, first-none}
 use Rattle.records.specs.Answers.{Outcome, accepted, refused, refusal, unless, unlessAt, andThen}
 use Rattle.records.proofs.Answers.{and-then, and-not}
-use Rattle.promises.specs.Refusals.{Lowest, Reason, at, lowest, numberOf, Wrong, NoneWrong, FirstWrong}
+use Rattle.promises.specs.Refusals.{Lowest, Reason, at, lowest, reasonNumber, Wrong, NoneWrong, FirstWrong}
 
 -- ---- reasons
 
@@ -46,7 +46,7 @@ not-none (x ∷ xs) number place (inr f) none = not-none xs number place (f .1) 
 -- its number is that of one of them, and those are above 0
 abbrev pub Numbered : List Reason → Type 0
 Numbered [] = Unit {0}
-Numbered (x ∷ xs) = (1 ≤ numberOf x) × Numbered xs
+Numbered (x ∷ xs) = (1 ≤ reasonNumber x) × Numbered xs
 
 pub first-number : (xs : List Reason) → Numbered xs → (number place : ℕ) → FirstWrong xs number place → 1 ≤ number
 first-number [] h number place f = absurd f

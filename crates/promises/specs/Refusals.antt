@@ -29,9 +29,9 @@ pub data Reason : Type 1 where
   at : ℕ → ℕ → Type 0 → Reason
   lowest : {A : Type 0} → ℕ → (A → Bool) → A → List A → Reason
 
-abbrev pub numberOf : Reason → ℕ
-numberOf (at number place when) = number
-numberOf (lowest number test d l) = number
+abbrev pub reasonNumber : Reason → ℕ
+reasonNumber (at number place when) = number
+reasonNumber (lowest number test d l) = number
 
 -- the reason is there, at this place
 abbrev pub Wrong : Reason → ℕ → Type 0
@@ -46,7 +46,7 @@ NoneWrong (x ∷ xs) = ((q : ℕ) → Wrong x q → ⊥) × NoneWrong xs
 -- the first of them that is there has this number, and is at this place
 abbrev pub FirstWrong : List Reason → ℕ → ℕ → Type 0
 FirstWrong [] number place = ⊥
-FirstWrong (x ∷ xs) number place = ((number ≡ numberOf x) × Wrong x place) ⊎ (((q : ℕ) → Wrong x q → ⊥) × FirstWrong xs number place)
+FirstWrong (x ∷ xs) number place = ((number ≡ reasonNumber x) × Wrong x place) ⊎ (((q : ℕ) → Wrong x q → ⊥) × FirstWrong xs number place)
 
 -- ---- the order of each call
 

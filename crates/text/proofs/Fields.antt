@@ -18,7 +18,7 @@ use Rattle.text.specs.declared.ReadStep.{ReadStep}
 use Rattle.text.specs.declared.ReadStep.the-variants as step-is
 use Rattle.text.specs.Numbers.{isDigit}
 use Rattle.text.specs.Steps.{dropWord, joinWord, splitWord, turnWord, lWord}
-use Rattle.text.specs.Reading.{wordAt, digitsFrom, numberAt, onRead, fieldAt, operationAt, fieldsAt, stepAt}
+use Rattle.text.specs.Reading.{wordIn, digitsFrom, numberIn, onRead, fieldAt, operationAt, fieldsAt, stepIn}
 
 -- ---- what is read is no greater than it may be
 
@@ -40,8 +40,8 @@ digits-most most (b ∷ t) p x h =
     (λ e. digits-most most t (p + 1) (x * 10 + (b - 48)) (leb-true (x * 10 + (b - 48)) most e)) tt)
     h
 
-number-most : (most : ℕ) (t : List ℕ) (p : ℕ) → AtMost most (numberAt most t p)
-unfolding numberAt
+number-most : (most : ℕ) (t : List ℕ) (p : ℕ) → AtMost most (numberIn most t p)
+unfolding numberIn
 number-most most t p =
     either (AtMost most) (isDigit (getD t p 0)) _ (number-is.Wrong p) (λ d. digits-most most (drop p t) p 0 (omega arith)) tt
 
@@ -51,11 +51,11 @@ on-read-most most (number-is.Wrong p) k f = tt
 
 field-most : (used : Bool) (most : ℕ) (t : List ℕ) (p : ℕ) → AtMost most (fieldAt used most t p)
 unfolding fieldAt
-field-most true most t p = on-read-most most (wordAt 0 (32 ∷ []) t p) (λ x q. numberAt most t q) (λ x q. number-most most t q)
+field-most true most t p = on-read-most most (wordIn 0 (32 ∷ []) t p) (λ x q. numberIn most t q) (λ x q. number-most most t q)
 field-most false most t p = omega arith
 
-word-most : (most number : ℕ) → number ≤ most → (w t : List ℕ) (p : ℕ) → AtMost most (wordAt number w t p)
-unfolding wordAt
+word-most : (most number : ℕ) → number ≤ most → (w t : List ℕ) (p : ℕ) → AtMost most (wordIn number w t p)
+unfolding wordIn
 word-most most number h [] t p = h
 word-most most number h (x ∷ w) t p =
     either (AtMost most) (ltb p (length t) && eqb (getD t p 0) x) _ (number-is.Wrong p) (λ e. word-most most number h w t (p + 1)) tt
@@ -82,26 +82,26 @@ operation-fits t p x q e d = record { fits = lt-of-le-of-lt (read-most 5 x q (sy
 -- ---- the operation, by its first letter
 
 module _ (t : List ℕ) (p : ℕ) {b : ℕ} (e : b ≡ getD t p 0) {r : ReadNumber} where
-  pub reads-drop : b ≡ 100 → r ≡ wordAt 1 dropWord t p → r ≡ operationAt t p
+  pub reads-drop : b ≡ 100 → r ≡ wordIn 1 dropWord t p → r ≡ operationAt t p
   unfolding operationAt
   reads-drop h w = w ∙ sym (simp (sym e, eq-eqb b 100 h))
 
   module _ (h1 : b ≡ 100 → ⊥) where
-    pub reads-join : b ≡ 106 → r ≡ wordAt 2 joinWord t p → r ≡ operationAt t p
+    pub reads-join : b ≡ 106 → r ≡ wordIn 2 joinWord t p → r ≡ operationAt t p
     unfolding operationAt
     reads-join h w = w ∙ sym (simp (sym e, ne-eqb b 100 h1, eq-eqb b 106 h))
 
     module _ (h2 : b ≡ 106 → ⊥) where
-      pub reads-split : b ≡ 115 → r ≡ wordAt 3 splitWord t p → r ≡ operationAt t p
+      pub reads-split : b ≡ 115 → r ≡ wordIn 3 splitWord t p → r ≡ operationAt t p
       unfolding operationAt
       reads-split h w = w ∙ sym (simp (sym e, ne-eqb b 100 h1, ne-eqb b 106 h2, eq-eqb b 115 h))
 
       module _ (h3 : b ≡ 115 → ⊥) where
-        pub reads-turn : b ≡ 116 → r ≡ wordAt 4 turnWord t p → r ≡ operationAt t p
+        pub reads-turn : b ≡ 116 → r ≡ wordIn 4 turnWord t p → r ≡ operationAt t p
         unfolding operationAt
         reads-turn h w = w ∙ sym (simp (sym e, ne-eqb b 100 h1, ne-eqb b 106 h2, ne-eqb b 115 h3, eq-eqb b 116 h))
 
-        pub reads-L : (b ≡ 116 → ⊥) → r ≡ wordAt 5 lWord t p → r ≡ operationAt t p
+        pub reads-L : (b ≡ 116 → ⊥) → r ≡ wordIn 5 lWord t p → r ≡ operationAt t p
         unfolding operationAt
         reads-L h w = w ∙ sym (simp (sym e, ne-eqb b 100 h1, ne-eqb b 106 h2, ne-eqb b 115 h3, ne-eqb b 116 h))
 
@@ -112,12 +112,12 @@ module _ (most : ℕ) (t : List ℕ) (p : ℕ) (used : Bool) where
   unfolding fieldAt
   field-unused h = rw (not-true used h)
 
-  module _ (h : not used ≡ false) {w : ReadNumber} (e : w ≡ wordAt 0 (32 ∷ []) t p) where
+  module _ (h : not used ≡ false) {w : ReadNumber} (e : w ≡ wordIn 0 (32 ∷ []) t p) where
     pub field-wrong : {q : ℕ} → w ≡ number-is.Wrong q → number-is.Wrong q ≡ fieldAt used most t p
     unfolding fieldAt
     field-wrong d = rw (not-false used h, sym e ∙ d)
 
-    pub field-number : {x q : ℕ} {r : ReadNumber} → w ≡ number-is.Read x q → r ≡ numberAt most t q → r ≡ fieldAt used most t p
+    pub field-number : {x q : ℕ} {r : ReadNumber} → w ≡ number-is.Read x q → r ≡ numberIn most t q → r ≡ fieldAt used most t p
     unfolding fieldAt
     field-number d n = n ∙ rw (not-false used h, sym e ∙ d)
 
@@ -154,10 +154,10 @@ module _ (op p : ℕ) (t : List ℕ) {f : ReadNumber} (e : f ≡ fieldAt (usesV 
 -- ---- the whole
 
 module _ (t : List ℕ) (p : ℕ) {f : ReadNumber} (e : f ≡ operationAt t p) where
-  pub wrong-word : {q : ℕ} → f ≡ number-is.Wrong q → step-is.Wrong q ≡ stepAt t p
-  unfolding stepAt
+  pub wrong-word : {q : ℕ} → f ≡ number-is.Wrong q → step-is.Wrong q ≡ stepIn t p
+  unfolding stepIn
   wrong-word d = rw (sym e ∙ d)
 
-  pub step-read : {op q : ℕ} {r : ReadStep} → f ≡ number-is.Read op q → r ≡ fieldsAt op t q → r ≡ stepAt t p
-  unfolding stepAt
+  pub step-read : {op q : ℕ} {r : ReadStep} → f ≡ number-is.Read op q → r ≡ fieldsAt op t q → r ≡ stepIn t p
+  unfolding stepIn
   step-read d g = g ∙ rw (sym e ∙ d)

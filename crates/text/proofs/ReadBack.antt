@@ -29,7 +29,7 @@ use Rattle.text.specs.Places.{Laid}
 use Rattle.text.specs.Numbers.{isDigit, decimalBy, decimal}
 use Rattle.text.specs.Cubes.{glyph, codeOfGlyph, cubeText}
 use Rattle.text.specs.Steps.{dropWord, joinWord, splitWord, turnWord, lWord, fieldText, stepText}
-use Rattle.text.specs.Reading.{wordAt, digitsFrom, numberAt, codesFrom, cubeAt, fieldAt, operationAt, stepAt}
+use Rattle.text.specs.Reading.{wordIn, digitsFrom, numberIn, codesFrom, cubeIn, fieldAt, operationAt, stepIn}
 use Rattle.text.proofs.Laying.{Stands, stands, length-cube}
 use Rattle.text.proofs.Fields.{reads-drop, reads-join, reads-split, reads-turn, reads-L, field-unused, fields-read, step-read}
 
@@ -52,12 +52,12 @@ char t p x s e = record {
 
 -- ---- words
 
-pub word-back : (number : ℕ) (w t rest : List ℕ) (p q : ℕ) → q ≡ p + length w → drop p t ≡ w ++ rest → wordAt number w t p ≡ number-is.Read number q
-unfolding wordAt
+pub word-back : (number : ℕ) (w t rest : List ℕ) (p q : ℕ) → q ≡ p + length w → drop p t ≡ w ++ rest → wordIn number w t p ≡ number-is.Read number q
+unfolding wordIn
 word-back number [] t rest p q l e = let same : p ≡ q = omega arith in ap (number-is.Read number) same
 word-back number (x ∷ w) t rest p q l e =
     let c : Char t p x (w ++ rest) = char t p x (w ++ rest) e in
-    let on : wordAt number w t (p + 1) ≡ number-is.Read number q = word-back number w t rest (p + 1) q (omega arith) (c .rest) in
+    let on : wordIn number w t (p + 1) ≡ number-is.Read number q = word-back number w t rest (p + 1) q (omega arith) (c .rest) in
     simp (lt-ltb p (length t) (c .here), eq-eqb (getD t p 0) x (c .is)) on
 
 -- what stands after a text
@@ -127,8 +127,8 @@ number-ends most (b ∷ rest) q x h = simp h
 
 -- a number reads back, where no digit follows it
 module _ (most x : ℕ) (few : x ≤ most) (t rest : List ℕ) (p : ℕ) (none : isDigit (getD rest 0 0) ≡ false) where
-  pub number-back : drop p t ≡ decimal x ++ rest → numberAt most t p ≡ number-is.Read x (p + length (decimal x))
-  unfolding numberAt
+  pub number-back : drop p t ≡ decimal x ++ rest → numberIn most t p ≡ number-is.Read x (p + length (decimal x))
+  unfolding numberIn
   number-back e =
       let first : isDigit (getD t p 0) ≡ true = ap isDigit (first-of t p ∙ ap (λ (l : List ℕ). getD l 0 0) e) ∙ first-digit x x (omega arith) rest in
       simp first
@@ -218,7 +218,7 @@ glyph-at (suc n) c i h =
     (λ l. let e : i ≡ n = omega arith in rw e (getD-at (cubeText n c) (glyph (code c n)) [] 0 n (length-cube n c)))
     (below-or i n)
 
-pub cube-back : (n : ℕ) (c : Cube) → n ≤ maskBits → Good n c → (t rest : List ℕ) (p : ℕ) → drop p t ≡ cubeText n c ++ rest → cubeAt n t p ≡ cube-is.Read c (p + n)
+pub cube-back : (n : ℕ) (c : Cube) → n ≤ maskBits → Good n c → (t rest : List ℕ) (p : ℕ) → drop p t ≡ cubeText n c ++ rest → cubeIn n t p ≡ cube-is.Read c (p + n)
 unfolding upTo
 cube-back n c few g t rest p e =
     let none : 0 + n ≡ n = omega arith in
@@ -265,7 +265,7 @@ module _ (t rest : List ℕ) (p : ℕ) where
 
 -- a step that its record can hold reads back as its record, where no digit follows it
 pub step-back : (s : Step) → Bytes (recordOf s) → (t rest : List ℕ) (p : ℕ) → isDigit (getD rest 0 0) ≡ false → drop p t ≡ stepText s ++ rest
-    → stepAt t p ≡ step-is.Read (recordOf s) (p + length (stepText s))
+    → stepIn t p ≡ step-is.Read (recordOf s) (p + length (stepText s))
 unfolding recordOf stepText
 step-back (step-of.drop i j) b t rest p none e =
     let at : drop (p + 4) t ≡ (fieldText i ++ fieldText j) ++ rest = after-text dropWord t ((fieldText i ++ fieldText j) ++ rest) p (p + 4) refl e in
@@ -306,7 +306,7 @@ step-back (step-of.L v x) b t rest p none e =
 -- ---- what a printer left in a buffer with room reads back from there
 
 module _ {b b′ : List ℕ} {at next : ℕ} where
-  pub cube-reads-back : (n : ℕ) (c : Cube) → n ≤ maskBits → Good n c → Laid b at (cubeText n c) next b′ → at + n ≤ length b → cubeAt n b′ at ≡ cube-is.Read c next
+  pub cube-reads-back : (n : ℕ) (c : Cube) → n ≤ maskBits → Good n c → Laid b at (cubeText n c) next b′ → at + n ≤ length b → cubeIn n b′ at ≡ cube-is.Read c next
   cube-reads-back n c few g f room =
       let long : length (cubeText n c) ≡ n = length-cube n c in
       let st : Stands b at (cubeText n c) next b′ = stands f (omega arith) in
@@ -315,7 +315,7 @@ module _ {b b′ : List ℕ} {at next : ℕ} where
 
   pub step-reads-back : (n : ℕ) (r : StepRecord) → fits n r ≡ true → Bytes r → Laid b at (stepText (meaning r)) next b′
       → at + length (stepText (meaning r)) ≤ length b → isDigit (getD (drop (at + length (stepText (meaning r))) b) 0 0) ≡ false
-      → stepAt b′ at ≡ step-is.Read r next
+      → stepIn b′ at ≡ step-is.Read r next
   step-reads-back n r fit bytes f room none =
       let st : Stands b at (stepText (meaning r)) next b′ = stands f room in
       let same : recordOf (meaning r) ≡ r = record-meaning n r fit in

@@ -18,62 +18,62 @@ use Rattle.text.specs.declared.ReadCube.{ReadCube}
 use Rattle.text.specs.declared.ReadCube.the-variants as cube-is
 use Rattle.text.specs.Numbers.{isDigit}
 use Rattle.text.specs.Cubes.{codeOfGlyph}
-use Rattle.text.specs.Reading.{wordAt, digitsFrom, numberAt, codesFrom, cubeAt}
+use Rattle.text.specs.Reading.{wordIn, digitsFrom, numberIn, codesFrom, cubeIn}
 
 -- ---- words: what is read from letter k on, at p, is what is read from the first on
 
 pub record Matching (number : ℕ) (word t : List ℕ) (at p k : ℕ) : Type 0 where
-  pub same : wordAt number (drop k word) t p ≡ wordAt number word t at
+  pub same : wordIn number (drop k word) t p ≡ wordIn number word t at
 
 pub matching-none : (number : ℕ) (word t : List ℕ) (at : ℕ) → Matching number word t at at 0
 matching-none number word t at = record { same = refl }
 
 module _ {number at p k : ℕ} {word t : List ℕ} (m : Matching number word t at p k) where
-  on-letter : k < length word → wordAt number (getD word k 0 ∷ drop (suc k) word) t p ≡ wordAt number word t at
+  on-letter : k < length word → wordIn number (getD word k 0 ∷ drop (suc k) word) t p ≡ wordIn number word t at
   on-letter h = rw (drop-cons word k 0 h) at (m .same)
 
-  pub word-short : k < length word → length t ≤ p → number-is.Wrong p ≡ wordAt number word t at
-  unfolding wordAt
+  pub word-short : k < length word → length t ≤ p → number-is.Wrong p ≡ wordIn number word t at
+  unfolding wordIn
   word-short h l = simp (le-ltb p (length t) l) at (on-letter h)
 
-  pub word-other : k < length word → p < length t → (getD t p 0 ≡ getD word k 0 → ⊥) → number-is.Wrong p ≡ wordAt number word t at
-  unfolding wordAt
+  pub word-other : k < length word → p < length t → (getD t p 0 ≡ getD word k 0 → ⊥) → number-is.Wrong p ≡ wordIn number word t at
+  unfolding wordIn
   word-other h l e = simp (lt-ltb p (length t) l, ne-eqb (getD t p 0) (getD word k 0) e) at (on-letter h)
 
   pub word-more : k < length word → p < length t → getD t p 0 ≡ getD word k 0 → Matching number word t at (p + 1) (k + 1)
-  unfolding wordAt
+  unfolding wordIn
   word-more h l e = record {
     same = rw (add-one k) (simp (lt-ltb p (length t) l, eq-eqb (getD t p 0) (getD word k 0) e) at (on-letter h));
   }
 
-  pub word-end : length word ≤ k → number-is.Read number p ≡ wordAt number word t at
-  unfolding wordAt
+  pub word-end : length word ≤ k → number-is.Read number p ≡ wordIn number word t at
+  unfolding wordIn
   word-end h = rw (drop-of-length-le word h) at (m .same)
 
 -- ---- numbers: what is read from p on, after x
 
 pub record Digits (most : ℕ) (t : List ℕ) (at p x : ℕ) : Type 0 where
-  pub same : digitsFrom most (drop p t) p x ≡ numberAt most t at
+  pub same : digitsFrom most (drop p t) p x ≡ numberIn most t at
 
 module _ (most at : ℕ) (t : List ℕ) {b : ℕ} {s : Bool} (e : b ≡ getD t at 0) (d : s ≡ isDigit b) where
-  pub no-digit : not s ≡ true → number-is.Wrong at ≡ numberAt most t at
-  unfolding numberAt
+  pub no-digit : not s ≡ true → number-is.Wrong at ≡ numberIn most t at
+  unfolding numberIn
   no-digit h = simp (sym e, sym d ∙ not-true s h)
 
   pub digits-none : not s ≡ false → Digits most t at at 0
-  unfolding numberAt
+  unfolding numberIn
   digits-none h = record { same = simp (sym e, sym d ∙ not-false s h) }
 
 module _ {most at p x : ℕ} {t : List ℕ} (m : Digits most t at p x) where
-  on-digit : p < length t → digitsFrom most (getD t p 0 ∷ drop (p + 1) t) p x ≡ numberAt most t at
+  on-digit : p < length t → digitsFrom most (getD t p 0 ∷ drop (p + 1) t) p x ≡ numberIn most t at
   on-digit h = rw (drop-cons t p 0 h, ← add-one p) at (m .same)
 
-  pub digits-end : length t ≤ p → number-is.Read x p ≡ numberAt most t at
+  pub digits-end : length t ≤ p → number-is.Read x p ≡ numberIn most t at
   unfolding digitsFrom
   digits-end h = rw (drop-of-length-le t h) at (m .same)
 
   module _ (h : p < length t) {s : Bool} (d : s ≡ isDigit (getD t p 0)) where
-    pub digits-stop : not s ≡ true → number-is.Read x p ≡ numberAt most t at
+    pub digits-stop : not s ≡ true → number-is.Read x p ≡ numberIn most t at
     unfolding digitsFrom
     digits-stop k = simp (sym d ∙ not-true s k) at (on-digit h)
 
@@ -81,7 +81,7 @@ module _ {most at p x : ℕ} {t : List ℕ} (m : Digits most t at p x) where
       room : u ≡ leb (x * 10 + (getD t p 0 - 48)) most
       room = rw g at r
 
-      pub digits-above : not u ≡ true → number-is.Wrong p ≡ numberAt most t at
+      pub digits-above : not u ≡ true → number-is.Wrong p ≡ numberIn most t at
       unfolding digitsFrom
       digits-above l = simp (sym d ∙ not-false s k, sym room ∙ not-true u l) at (on-digit h)
 
@@ -96,20 +96,20 @@ room-le x v most {u} r l = leb-true (x * 10 + v) most (sym r ∙ not-false u l)
 
 pub record Coding (n : ℕ) (t : List ℕ) (at : ℕ) (c : Cube) (p k : ℕ) : Type 0 where
   pub upto : k ≤ n
-  pub same : codesFrom t (n - k) k p c ≡ cubeAt n t at
+  pub same : codesFrom t (n - k) k p c ≡ cubeIn n t at
 
 pub coding-none : (n : ℕ) (t : List ℕ) (at : ℕ) → Coding n t at one at 0
 coding-none n t at = record { upto = omega arith; same = let e : n - 0 ≡ n = omega arith in rw e }
 
 module _ {n at p k : ℕ} {t : List ℕ} {c : Cube} (m : Coding n t at c p k) where
-  on-code : k < n → codesFrom t (suc (n - (k + 1))) k p c ≡ cubeAt n t at
+  on-code : k < n → codesFrom t (suc (n - (k + 1))) k p c ≡ cubeIn n t at
   on-code h = let e : n - k ≡ suc (n - (k + 1)) = omega arith in rw e at (m .same)
 
-  pub codes-short : k < n → length t ≤ p → cube-is.Wrong p ≡ cubeAt n t at
+  pub codes-short : k < n → length t ≤ p → cube-is.Wrong p ≡ cubeIn n t at
   unfolding codesFrom
   codes-short h l = simp (List·getD-eq-default t 0 l) at (on-code h)
 
-  pub codes-other : {x : ℕ} → k < n → x ≡ codeOfGlyph (getD t p 0) → 2 < x → cube-is.Wrong p ≡ cubeAt n t at
+  pub codes-other : {x : ℕ} → k < n → x ≡ codeOfGlyph (getD t p 0) → 2 < x → cube-is.Wrong p ≡ cubeIn n t at
   unfolding codesFrom
   codes-other {x} h e l = simp (sym e, le-ltb x 3 l) at (on-code h)
 
@@ -120,6 +120,6 @@ module _ {n at p k : ℕ} {t : List ℕ} {c : Cube} (m : Coding n t at c p k) wh
     same = rw w (simp (sym e, lt-ltb x 3 (omega arith)) at (on-code h));
   }
 
-  pub codes-end : n ≤ k → cube-is.Read c p ≡ cubeAt n t at
+  pub codes-end : n ≤ k → cube-is.Read c p ≡ cubeIn n t at
   unfolding codesFrom
   codes-end h = let e : n - k ≡ 0 = omega arith in rw e at (m .same)

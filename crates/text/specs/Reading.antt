@@ -21,9 +21,9 @@ use Rattle.text.specs.Steps.{dropWord, joinWord, splitWord, turnWord, lW
 -- ---- words
 
 -- a word, which stands for a number; wrong at the first letter that is another
-unfoldable pub wordAt : ℕ → List ℕ → List ℕ → ℕ → ReadNumber
-wordAt number [] t p = number-is.Read number p
-wordAt number (w ∷ ws) t p = cond (ltb p (length t) && eqb (getD t p 0) w) (wordAt number ws t (p + 1)) (number-is.Wrong p)
+unfoldable pub wordIn : ℕ → List ℕ → List ℕ → ℕ → ReadNumber
+wordIn number [] t p = number-is.Read number p
+wordIn number (w ∷ ws) t p = cond (ltb p (length t) && eqb (getD t p 0) w) (wordIn number ws t (p + 1)) (number-is.Wrong p)
 
 -- ---- numbers
 
@@ -34,8 +34,8 @@ digitsFrom most (b ∷ t) p x =
     cond (isDigit b) (cond (leb (x * 10 + (b - 48)) most) (digitsFrom most t (p + 1) (x * 10 + (b - 48))) (number-is.Wrong p)) (number-is.Read x p)
 
 -- a number of at least one digit
-unfoldable pub numberAt : ℕ → List ℕ → ℕ → ReadNumber
-numberAt most t p = cond (isDigit (getD t p 0)) (digitsFrom most (drop p t) p 0) (number-is.Wrong p)
+unfoldable pub numberIn : ℕ → List ℕ → ℕ → ReadNumber
+numberIn most t p = cond (isDigit (getD t p 0)) (digitsFrom most (drop p t) p 0) (number-is.Wrong p)
 
 -- ---- cubes
 
@@ -46,8 +46,8 @@ codesFrom t (suc left) k p c =
     cond (ltb (codeOfGlyph (getD t p 0)) 3) (codesFrom t left (k + 1) (p + 1) (withCode c k (codeOfGlyph (getD t p 0)))) (cube-is.Wrong p)
 
 -- a cube over n variables
-abbrev pub cubeAt : ℕ → List ℕ → ℕ → ReadCube
-cubeAt n t p = codesFrom t n 0 p one
+abbrev pub cubeIn : ℕ → List ℕ → ℕ → ReadCube
+cubeIn n t p = codesFrom t n 0 p one
 
 -- ---- steps
 
@@ -62,17 +62,17 @@ onField (number-is.Wrong p) rest = step-is.Wrong p
 
 -- a space and a number at most `most`, where the field is used
 unfoldable pub fieldAt : Bool → ℕ → List ℕ → ℕ → ReadNumber
-fieldAt true most t p = onRead (wordAt 0 (32 ∷ []) t p) (λ x q. numberAt most t q)
+fieldAt true most t p = onRead (wordIn 0 (32 ∷ []) t p) (λ x q. numberIn most t q)
 fieldAt false most t p = number-is.Read 0 p
 
 -- the operation, by its name
 unfoldable pub operationAt : List ℕ → ℕ → ReadNumber
 operationAt t p =
-    cond (eqb (getD t p 0) 100) (wordAt 1 dropWord t p)
-    (cond (eqb (getD t p 0) 106) (wordAt 2 joinWord t p)
-    (cond (eqb (getD t p 0) 115) (wordAt 3 splitWord t p)
-    (cond (eqb (getD t p 0) 116) (wordAt 4 turnWord t p)
-    (wordAt 5 lWord t p))))
+    cond (eqb (getD t p 0) 100) (wordIn 1 dropWord t p)
+    (cond (eqb (getD t p 0) 106) (wordIn 2 joinWord t p)
+    (cond (eqb (getD t p 0) 115) (wordIn 3 splitWord t p)
+    (cond (eqb (getD t p 0) 116) (wordIn 4 turnWord t p)
+    (wordIn 5 lWord t p))))
 
 -- the fields that an operation uses, each as large as its bytes of the record allow; "Fields that an operation does not use are zero"
 unfoldable pub fieldsAt : ℕ → List ℕ → ℕ → ReadStep
@@ -83,5 +83,5 @@ fieldsAt op t p =
     onField (fieldAt (usesLiteral op) 255 t e) (λ literal z.
     step-is.Read (record { op = op; v = v; i = i; j = j; literal = literal; zero = 0 }) z))))
 
-unfoldable pub stepAt : List ℕ → ℕ → ReadStep
-stepAt t p = onField (operationAt t p) (λ op q. fieldsAt op t q)
+unfoldable pub stepIn : List ℕ → ℕ → ReadStep
+stepIn t p = onField (operationAt t p) (λ op q. fieldsAt op t q)

@@ -5,7 +5,7 @@ use cube::Cube;
 ghost use mathlib.Core.Path.{_≡_};
 ghost use Rattle.text.specs.Places.{Laid};
 ghost use Rattle.text.specs.Cubes.{glyph as Cubes·glyph, codeOfGlyph, cubeText};
-ghost use Rattle.text.specs.Reading.{cubeAt};
+ghost use Rattle.text.specs.Reading.{cubeIn};
 
 // The character of a literal code.
 fn glyph(x: u8) -> u8
@@ -52,7 +52,7 @@ pub fn put_cube(out: &mut [u8], at: usize, n: u32, c: Cube) -> usize
 
 // The cube over n variables at a place of a text. It is wrong at the first character that is no code.
 pub fn cube_at(text: &[u8], at: usize, n: u32) -> ReadCube
-    ensures { λ r. ⌜ r ≡ cubeAt n (now (text .entry)) at ⌝ }
+    ensures { λ r. ⌜ r ≡ cubeIn n (now (text .entry)) at ⌝ }
 {
     let mut c = Cube::ONE;
     let mut p = at;

@@ -6,7 +6,7 @@ ghost use Prim.Native.Nat.{_+_, _*_, _-_};
 ghost use lib.Dec.{leb};
 ghost use Rattle.text.specs.Places.{Laid};
 ghost use Rattle.text.specs.Numbers.{isDigit, decimal};
-ghost use Rattle.text.specs.Reading.{numberAt};
+ghost use Rattle.text.specs.Reading.{numberIn};
 
 // Whether a byte is a digit's character.
 pub fn is_digit(b: u8) -> bool
@@ -51,7 +51,7 @@ fn has_room(x: usize, d: usize, most: usize) -> bool
 
 // The number at a place of a text, as far as its digits go. It is wrong where no digit stands, and at the digit that takes it above `most`.
 pub fn number_at(text: &[u8], at: usize, most: usize) -> ReadNumber
-    ensures { λ r. ⌜ r ≡ numberAt most (now (text .entry)) at ⌝ }
+    ensures { λ r. ⌜ r ≡ numberIn most (now (text .entry)) at ⌝ }
 {
     if !is_digit(place::byte_at(text, at)) {
         return ReadNumber::Wrong(at);

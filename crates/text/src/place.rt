@@ -4,7 +4,7 @@ ghost use mathlib.Core.Path.{_≡_};
 ghost use mathlib.Core.List.{[], _∷_};
 ghost use lib.ListN.{getD};
 ghost use Rattle.text.specs.Places.{Laid};
-ghost use Rattle.text.specs.Reading.{wordAt};
+ghost use Rattle.text.specs.Reading.{wordIn};
 
 // The place after a byte that found no room.
 pub const NO_PLACE: usize = usize::MAX;
@@ -46,7 +46,7 @@ pub fn put_text(out: &mut [u8], at: usize, text: &[u8]) -> usize
 
 // The word at a place of a text, read as the number that it stands for.
 pub fn word_at(text: &[u8], at: usize, word: &[u8], number: usize) -> ReadNumber
-    ensures { λ r. ⌜ r ≡ wordAt number (now (word .entry)) (now (text .entry)) at ⌝ }
+    ensures { λ r. ⌜ r ≡ wordIn number (now (word .entry)) (now (text .entry)) at ⌝ }
 {
     let mut p = at;
     let mut k: usize = 0;

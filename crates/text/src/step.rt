@@ -10,7 +10,7 @@ ghost use Rattle.script.specs.Scripts.{usesJ};
 ghost use Rattle.text.specs.Places.{Laid};
 ghost use Rattle.text.specs.Steps.{stepText};
 ghost use Rattle.text.specs.Printing.{wordOf, fieldIf};
-ghost use Rattle.text.specs.Reading.{fieldAt, operationAt, fieldsAt, stepAt};
+ghost use Rattle.text.specs.Reading.{fieldAt, operationAt, fieldsAt, stepIn};
 
 // The greatest variable and literal, and the greatest place, that a step's record holds.
 const MOST_BYTE: usize = 255;
@@ -133,7 +133,7 @@ fn fields_at(text: &[u8], at: usize, op: u8) -> ReadStep
 
 // The step at a place of a text. It is wrong at the first character that none of the five has there.
 pub fn step_at(text: &[u8], at: usize) -> ReadStep
-    ensures { λ r. ⌜ r ≡ stepAt (now (text .entry)) at ⌝ }
+    ensures { λ r. ⌜ r ≡ stepIn (now (text .entry)) at ⌝ }
 {
     match operation_at(text, at) {
         ReadNumber::Wrong(p) => ReadStep::Wrong(p),

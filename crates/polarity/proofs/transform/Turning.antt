@@ -21,8 +21,8 @@ use Rattle.bits.proofs.Below.{listBelow-cong}
 use Rattle.bits.proofs.packed.Alone.{alone-bit}
 use Rattle.polarity.specs.Forms.{parityWithin, coefficient, valueBack}
 use Rattle.polarity.specs.Vectors.{byteAt, Vector}
-use Rattle.polarity.specs.Words.{Shows, passed, turned, transformed}
-use Rattle.polarity.proofs.Subsets.{xor-assoc}
+use Rattle.polarity.specs.Words.{Shows, passed, turnedAt, transformed}
+use Rattle.polarity.proofs.Subsets.{mask-assoc}
 use Rattle.polarity.proofs.Parities.{parity-lt, parity-twice}
 use Rattle.polarity.proofs.Passes.{xor-with}
 use Rattle.polarity.proofs.Shown.{most, shows-vector, shows-cong, shows-turn, shows-parities, shows-positive}
@@ -44,49 +44,49 @@ module _ (p k : ℕ) where
       sum ∙ sym (xor-with (p % 2 ^ k) k (bit-high k (p % 2 ^ k) k (mod-lt p (pow-pos k)) (le-refl k)))
 
 module _ (n : ℕ) (few : n ≤ 8) (p q : ℕ) (f : ℕ → ℕ) (w : Packed) (S : Shows n (coefficient n q f) w) where
-  shows-part : (k : ℕ) → k ≤ n → Shows n (coefficient n (bitXor q (p % 2 ^ k)) f) (passed (turned p) k w)
-  unfolding passed turned
+  shows-part : (k : ℕ) → k ≤ n → Shows n (coefficient n (bitXor q (p % 2 ^ k)) f) (passed (turnedAt p) k w)
+  unfolding passed turnedAt
   shows-part zero h = subst (λ (x : ℕ). Shows n (coefficient n x f) w) (sym (ap (bitXor q) (mod-one p) ∙ xor-zero-r q)) S
-  shows-part (suc k) h = go (bit p k) refl (bit-lt p k) (passed (turned p) k w) (shows-part k (omega arith))
+  shows-part (suc k) h = go (bit p k) refl (bit-lt p k) (passed (turnedAt p) k w) (shows-part k (omega arith))
     where
       go : (b : ℕ) → bit p k ≡ b → b < 2 → (v : Packed) → Shows n (coefficient n (bitXor q (p % 2 ^ k)) f) v
           → Shows n (coefficient n (bitXor q (p % 2 ^ suc k)) f) (cond (eqb b 0) v (lowered k v))
       go zero e l v T = subst (λ (x : ℕ). Shows n (coefficient n (bitXor q x) f) v) (sym (upto-same p k e)) T
       go (suc zero) e l v T =
-          subst (λ (x : ℕ). Shows n (coefficient n x f) (lowered k v)) (sym (ap (bitXor q) (upto-more p k e) ∙ xor-assoc q (p % 2 ^ k) (2 ^ k)))
+          subst (λ (x : ℕ). Shows n (coefficient n x f) (lowered k v)) (sym (ap (bitXor q) (upto-more p k e) ∙ mask-assoc q (p % 2 ^ k) (2 ^ k)))
           (shows-turn n few k h (bitXor q (p % 2 ^ k)) f v T)
       go (suc (suc b)) e l v T = absurd (omega arith)
 
-  shows-turned : p < 2 ^ n → Shows n (coefficient n (bitXor q p) f) (passed (turned p) n w)
-  shows-turned h = subst (λ (x : ℕ). Shows n (coefficient n (bitXor q x) f) (passed (turned p) n w)) (mod-eq-of-lt h) (shows-part n (le-refl n))
+  shows-turned : p < 2 ^ n → Shows n (coefficient n (bitXor q p) f) (passed (turnedAt p) n w)
+  shows-turned h = subst (λ (x : ℕ). Shows n (coefficient n (bitXor q x) f) (passed (turnedAt p) n w)) (mod-eq-of-lt h) (shows-part n (le-refl n))
 
 -- ---- coefficients and back
 
 module _ (n p : ℕ) (l : List ℕ) (v : Vector n l) (h : p < 2 ^ n) (w : Packed) (e : w ≡ packed l) where
-  shows-coefficients : Shows n (coefficient n p (byteAt l)) (passed (turned p) n (passed raised n w))
+  shows-coefficients : Shows n (coefficient n p (byteAt l)) (passed (turnedAt p) n (passed raised n w))
   shows-coefficients =
       shows-turned n (v .few) p 0 (byteAt l) (passed raised n w) (shows-positive n (v .few) (byteAt l) w (shows-vector n l v w e) (v .bits)) h
 
   -- they are the coefficients under p of the vector that they stand for; without p's variables they are its positive ones
-  shows-back : Shows n (valueBack n p (byteAt l)) (passed raised n (passed (turned p) n w))
+  shows-back : Shows n (valueBack n p (byteAt l)) (passed raised n (passed (turnedAt p) n w))
   shows-back =
       let f : ℕ → ℕ = valueBack n p (byteAt l) in
       let under : Shows n (coefficient n p f) w =
       shows-cong n (byteAt l) (coefficient n p f) w (λ s m. sym (coefficients-back n p h (byteAt l) s m ∙ mod-eq-of-lt (v .bits s))) (shows-vector n l v w e) in
-      let positive : Shows n (parityWithin n f) (passed (turned p) n w) =
-      shows-cong n (coefficient n (bitXor p p) f) (parityWithin n f) (passed (turned p) n w)
+      let positive : Shows n (parityWithin n f) (passed (turnedAt p) n w) =
+      shows-cong n (coefficient n (bitXor p p) f) (parityWithin n f) (passed (turnedAt p) n w)
       (λ s m. ap (λ (q : ℕ). coefficient n q f s) (xor-self p) ∙ positive-coefficient n f s) (shows-turned n (v .few) p p f w under h) in
-      shows-cong n (parityWithin n (parityWithin n f)) f (passed raised n (passed (turned p) n w))
+      shows-cong n (parityWithin n (parityWithin n f)) f (passed raised n (passed (turnedAt p) n w))
       (λ a m. parity-twice n f a m ∙ mod-eq-of-lt (parity-lt n (byteAt l) (bitXor a p)))
-      (shows-parities n (v .few) (parityWithin n f) (passed (turned p) n w) positive (parity-lt n f))
+      (shows-parities n (v .few) (parityWithin n f) (passed (turnedAt p) n w) positive (parity-lt n f))
 
   -- either way, as the code goes
   module _ (b : Bool) (v₁ v₂ : Packed) where
-    pub transformed-there : b ≡ false → v₁ ≡ passed raised n w → v₂ ≡ passed (turned p) n v₁ → Shows n (transformed b n p (byteAt l)) v₂
+    pub transformed-there : b ≡ false → v₁ ≡ passed raised n w → v₂ ≡ passed (turnedAt p) n v₁ → Shows n (transformed b n p (byteAt l)) v₂
     transformed-there eb e₁ e₂ =
-        subst₂ (λ (t : Bool) (x : Packed). Shows n (transformed t n p (byteAt l)) x) (sym eb) (sym (e₂ ∙ ap (passed (turned p) n) e₁)) shows-coefficients
+        subst₂ (λ (t : Bool) (x : Packed). Shows n (transformed t n p (byteAt l)) x) (sym eb) (sym (e₂ ∙ ap (passed (turnedAt p) n) e₁)) shows-coefficients
 
-    pub transformed-back : b ≡ true → v₁ ≡ passed (turned p) n w → v₂ ≡ passed raised n v₁ → Shows n (transformed b n p (byteAt l)) v₂
+    pub transformed-back : b ≡ true → v₁ ≡ passed (turnedAt p) n w → v₂ ≡ passed raised n v₁ → Shows n (transformed b n p (byteAt l)) v₂
     transformed-back eb e₁ e₂ =
         subst₂ (λ (t : Bool) (x : Packed). Shows n (transformed t n p (byteAt l)) x) (sym eb) (sym (e₂ ∙ ap (passed raised n) e₁)) shows-back
 
@@ -107,12 +107,12 @@ shows-word n few f x S m e =
 -- ---- one pass as the code goes, and the loop of the passes
 
 module _ (p k : ℕ) (w : Packed) where
-  pub turned-not : bit p k ≡ 0 → w ≡ turned p k w
-  unfolding turned
+  pub turned-not : bit p k ≡ 0 → w ≡ turnedAt p k w
+  unfolding turnedAt
   turned-not e = sym (ap (λ (b : Bool). cond b w (lowered k w)) (eq-eqb (bit p k) 0 e))
 
-  pub turned-is : (bit p k ≡ 0 → ⊥) → (v : Packed) → v ≡ lowered k w → v ≡ turned p k w
-  unfolding turned
+  pub turned-is : (bit p k ≡ 0 → ⊥) → (v : Packed) → v ≡ lowered k w → v ≡ turnedAt p k w
+  unfolding turnedAt
   turned-is d v e = e ∙ sym (ap (λ (b : Bool). cond b w (lowered k w)) (ne-eqb (bit p k) 0 d))
 
 -- the passes of the variables below k are done

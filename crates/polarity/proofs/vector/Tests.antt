@@ -27,13 +27,13 @@ use Rattle.polarity.specs.Vectors.{byteAt, isBit, checkVector}
 -- ---- the lowest byte above 1: bytes are records of width 1
 
 module _ (l : List ℕ) (i : ℕ) where
-  pub stride-short : length l - i < 8 → false ≡ passFrom isBit 0 8 l i
+  pub eight-short : length l - i < 8 → false ≡ passFrom isBit 0 8 l i
   unfolding passFrom
-  stride-short h = sym (simp (lt-leb 8 (length l - i) h))
+  eight-short h = sym (simp (lt-leb 8 (length l - i) h))
 
-  pub stride-eight : 8 ≤ length l - i → (end : ℕ) → end ≡ i + 8 → (t : Bool) → t ≡ allBelow 8 (λ j. isBit (getD (take (end - i) (drop i l)) j 0)) → t ≡ passFrom isBit 0 8 l i
+  pub eight-pass : 8 ≤ length l - i → (end : ℕ) → end ≡ i + 8 → (t : Bool) → t ≡ allBelow 8 (λ j. isBit (getD (take (end - i) (drop i l)) j 0)) → t ≡ passFrom isBit 0 8 l i
   unfolding passFrom
-  stride-eight h end e t et =
+  eight-pass h end e t et =
       et ∙ all-ext 8 (λ j. isBit (getD (take (end - i) (drop i l)) j 0)) (λ j. isBit (byteAt l (i + j)))
       (λ j b. ap isBit (getD-take (end - i) (drop i l) j 0 (omega arith) ∙ getD-drop i l j 0))
       ∙ sym (ap (λ (t : Bool). t && allBelow 8 (λ j. isBit (byteAt l (i + j)))) (le-leb 8 (length l - i) h))

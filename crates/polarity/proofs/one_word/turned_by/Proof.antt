@@ -3,13 +3,13 @@
 use Prim.Native.Nat.{_-_}
 use native.Mathlib.Omega.{arith}
 use Rattle.bits.specs.Packed.{alone}
-use Rattle.polarity.specs.Words.{turned}
+use Rattle.polarity.specs.Words.{turnedAt}
 use Rattle.polarity.proofs.transform.Turning.{Passing, passing-none, passing-more, passing-all}
 use Rattle.polarity.proofs.one_word.turned_by.Statement.{statement}
 use Rattle.polarity.proofs.one_word.turned_by.Tie as tie
 
 abbrev Inv-loop : tie.InvT-loop
-Inv-loop n p x bits₀ k₀ bits k = Passing (turned p) n (alone bits₀) (alone bits) k
+Inv-loop n p x bits₀ k₀ bits k = Passing (turnedAt p) n (alone bits₀) (alone bits) k
 
 abbrev μ-loop : tie.MeasureT-loop
 μ-loop n p x bits₀ k₀ bits k = n - k

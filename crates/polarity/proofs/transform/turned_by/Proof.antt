@@ -2,13 +2,13 @@
 -- Assumes nothing.
 use Prim.Native.Nat.{_-_}
 use borrow.Author.Needs.{needs}
-use Rattle.polarity.specs.Words.{turned}
+use Rattle.polarity.specs.Words.{turnedAt}
 use Rattle.polarity.proofs.transform.Turning.{Passing, passing-none, passing-more, passing-all}
 use Rattle.polarity.proofs.transform.turned_by.Statement.{statement}
 use Rattle.polarity.proofs.transform.turned_by.Tie as tie
 
 abbrev Inv-loop : tie.InvT-loop
-Inv-loop n p bits₀ k₀ bits k = Passing (turned p) n bits₀ bits k
+Inv-loop n p bits₀ k₀ bits k = Passing (turnedAt p) n bits₀ bits k
 
 abbrev μ-loop : tie.MeasureT-loop
 μ-loop n p bits₀ k₀ bits k = n - k

@@ -2,7 +2,7 @@
 -- Assumes nothing.
 use mathlib.Core.Path.{refl}
 use borrow.Author.Needs.{needs}
-use Rattle.polarity.proofs.vector.Tests.{stride-short, stride-eight}
+use Rattle.polarity.proofs.vector.Tests.{eight-short, eight-pass}
 use Rattle.polarity.proofs.vector.stride_good.Statement.{statement}
 use Rattle.polarity.proofs.vector.stride_good.Tie as tie
 
@@ -10,7 +10,7 @@ sub-if1 : tie.Need-sub-if1
 sub-if1 c = search needs
 
 returns : tie.Need-returns
-returns c = stride-short (c .before .before .args .bytes .now) (c .before .before .args .i) (c .if1 .taken)
+returns c = eight-short (c .before .before .args .bytes .now) (c .before .before .args .i) (c .if1 .taken)
 
 add-end : tie.Need-add-end
 add-end c = search needs
@@ -30,7 +30,7 @@ eight-bits-requires c κs = search needs
 returns-2 : tie.Need-returns-2
 returns-2 c =
     let s = c .before .before .before .before .args in
-    stride-eight (s .bytes .now) (s .i) (c .before .before .if1 .left) _ refl _ (c .eight-bits .ensures)
+    eight-pass (s .bytes .now) (s .i) (c .before .before .if1 .left) _ refl _ (c .eight-bits .ensures)
 
 pub stride-good-spec : {M : Type 1} → statement M
 stride-good-spec =
