@@ -49,7 +49,8 @@ pub fn pended(pending: [u8; MOST_VARIABLES], x: StepRecord) -> [u8; MOST_VARIABL
     next
 }
 
-// The step x done from where the run stands; a refusal clears the work buffer. What is pending after it, `pended` says.
+// The step x done from where the run stands; a refusal clears the work buffer.
+// What is pending after it, `pended` says.
 pub fn advance(work: &mut [u8], n: usize, cap: usize, x: StepRecord, at: Standing) -> Standing
     requires { ⌜ Ready n (at .count) cap (now work) ⌝ }
     requires { ⌜ Known n x ⌝ }
