@@ -7,12 +7,13 @@ use mathlib.Core.List.{List, [], _∷_, _++_, map, List·Memᴰ, List·Memᴰ·h
 use Prim.Native.Nat.{ℕ, zero, suc, _+_, _-_, _*_, _/_, _%_, _^_, _≤_, _<_, zero-le, suc-le-suc}
 use native.Mathlib.Nat.{mod-lt, zero-lt-suc, zero-add, suc-add, add-zero, add-suc, add-assoc, zero-mul, suc-mul, add-mul, le-refl, le-of-suc-le-suc, not-suc-le-zero}
 use native.Mathlib.Decide.{ℕ-discrete}
+use native.Mathlib.Numerals.{add-one}
 use native.Mathlib.Omega.{arith}
 use borrow.Author.Tests.{eqb-true, eq-eqb}
 use lib.Arith.{lt-one}
 use lib.Count.{ones, ones-step, trailingZeros, under}
 use lib.Dec.{eqb}
-use lib.ListN.{length, getD}
+use lib.ListN.{length, getD, length-map}
 use lib.Seq.{ext-getD}
 use Rattle.bits.specs.Bits.{bit}
 use Rattle.bits.specs.Below.{allBelow, those, sumBelow, listBelow}
@@ -67,10 +68,33 @@ those-ascend f (suc m) k p q l e = go (f k) (those-ascend f m (suc k) p q l) e
         let bounds = those-bounds f m (suc k) q (subst (λ (t : List ℕ). List·Memᴰ q t) (sym tail) (List·Memᴰ·head refl)) in
         omega (arith, head, bounds .0)
 
-pub those-cong : (f g : ℕ → Bool) → ((k : ℕ) → f k ≡ g k) → (m k : ℕ) → those f m k ≡ those g m k
+-- two tests that agree where they are made
+pub those-same : (f g : ℕ → Bool) (m k : ℕ) → ((s : ℕ) → k ≤ s → s < k + m → f s ≡ g s) → those f m k ≡ those g m k
 unfolding those
-those-cong f g h zero k = refl
-those-cong f g h (suc m) k = ap₂ (λ (b : Bool) (l : List ℕ). cond b (k ∷ l) l) (h k) (those-cong f g h m (suc k))
+those-same f g zero k h = refl
+those-same f g (suc m) k h = ap₂ (λ (b : Bool) (l : List ℕ). cond b (k ∷ l) l) (h k (le-refl k) (omega arith)) (those-same f g m (suc k) (λ s g l. h s (omega arith) (omega arith)))
+
+pub those-cong : (f g : ℕ → Bool) → ((k : ℕ) → f k ≡ g k) → (m k : ℕ) → those f m k ≡ those g m k
+those-cong f g h m k = those-same f g m k (λ s l u. h s)
+
+-- from the front of those below m, one by one
+module _ (f : ℕ → Bool) (m k : ℕ) where
+  -- the next one is one of them, or not
+  those-on : k < m → those f (m - k) k ≡ cond (f k) (k ∷ those f (m - (k + 1)) (k + 1)) (those f (m - (k + 1)) (k + 1))
+  unfolding those
+  those-on h =
+      let e : m - k ≡ suc (m - (k + 1)) = omega arith in
+      ap (λ (j : ℕ). those f j k) e ∙ ap (λ (j : ℕ). cond (f k) (k ∷ those f (m - (k + 1)) j) (those f (m - (k + 1)) j)) (sym (add-one k))
+
+  pub those-next : k < m → f k ≡ true → those f (m - k) k ≡ k ∷ those f (m - (k + 1)) (k + 1)
+  those-next h e = those-on h ∙ ap (λ (b : Bool). cond b (k ∷ those f (m - (k + 1)) (k + 1)) (those f (m - (k + 1)) (k + 1))) e
+
+  pub those-skip : k < m → f k ≡ false → those f (m - k) k ≡ those f (m - (k + 1)) (k + 1)
+  those-skip h e = those-on h ∙ ap (λ (b : Bool). cond b (k ∷ those f (m - (k + 1)) (k + 1)) (those f (m - (k + 1)) (k + 1))) e
+
+  pub those-end : m ≤ k → those f (m - k) k ≡ []
+  unfolding those
+  those-end h = let e : m - k ≡ 0 = omega arith in ap (λ (j : ℕ). those f j k) e
 
 -- ---- the set bits of a number, ascending: how many they are, and the first of them
 
@@ -95,10 +119,6 @@ setBits-suc n x =
     (those-shift (λ k. not (eqb (bit x k) 0)) n 0
     ∙ ap (map suc) (those-cong (λ k. not (eqb (bit x (suc k)) 0)) (λ k. not (eqb (bit (x / 2) k) 0)) (λ k. ap (λ (y : ℕ). not (eqb y 0)) (bit-suc x k)) n 0))
 
-length-mapped : (l : List ℕ) → length (map suc l) ≡ length l
-length-mapped [] = refl
-length-mapped (x ∷ l) = ap suc (length-mapped l)
-
 pub count-setBits : (n x : ℕ) → x < 2 ^ n → length (setBits n x) ≡ ones x
 unfolding those ones
 count-setBits zero x h = ap ones (sym (lt-one h))
@@ -109,8 +129,8 @@ count-setBits (suc n) x h =
     ∙ sym (ones-step x)
   where
     go : (y : ℕ) → y < 2 → (l : List ℕ) → length (cond (not (eqb y 0)) (0 ∷ map suc l) (map suc l)) ≡ y + length l
-    go zero h l = omega (arith, length-mapped l)
-    go (suc zero) h l = omega (arith, length-mapped l)
+    go zero h l = omega (arith, length-map l suc)
+    go (suc zero) h l = omega (arith, length-map l suc)
     go (suc (suc y)) h l = absurd (omega arith)
 
 -- the first element, or d where there is none

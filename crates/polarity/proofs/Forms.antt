@@ -5,7 +5,7 @@ use mathlib.Core.Bool.{Bool, true, false, cond, Bool·beq}
 use mathlib.Core.List.{List, [], _∷_, map}
 use Prim.Native.Nat.{ℕ, zero, suc, _+_, _-_, _%_, _^_, _<_, _≤_, min}
 use native.Mathlib.Nat.{add-zero, zero-add, le-refl, min-le-left, lt-of-le-of-lt}
-use native.Mathlib.Numerals.{add-one, one-add}
+use native.Mathlib.Numerals.{one-add}
 use native.Mathlib.Omega.{arith}
 use lib.Bits.{bitAnd, bitXor, differ, and-le-l}
 use lib.Dec.{eqb, ltb}
@@ -17,36 +17,13 @@ use Rattle.bits.specs.Below.{those, sumBelow}
 use Rattle.bits.specs.Sums.{tally, oneIf, All}
 use Rattle.bits.proofs.Bools.{all-at₂, all-at₃, all-ext, beq-eq}
 use Rattle.bits.proofs.Bits.{bit-lt, bit-and, bit-xor, bit-high}
-use Rattle.bits.proofs.Below.{eqb-bits, sum-parts, sum-cong, sum-none}
+use Rattle.bits.proofs.Below.{eqb-bits, those-same, sum-parts, sum-cong, sum-none}
 use Rattle.cube.specs.Cubes.{codeOf, code, met, holds, Good}
 use Rattle.cube.specs.Lists.{trues, listValue}
 use Rattle.polarity.specs.Forms.{parityWithin, valueBack, product, formFrom, countsOf}
 use Rattle.polarity.specs.Words.{nonzero}
 
--- ---- those of the numbers that pass a test, from the front
-
-module _ (f : ℕ → Bool) (m k : ℕ) where
-  -- the next one is one of them, or not
-  those-on : k < m → those f (m - k) k ≡ cond (f k) (k ∷ those f (m - (k + 1)) (k + 1)) (those f (m - (k + 1)) (k + 1))
-  unfolding those
-  those-on h =
-      let e : m - k ≡ suc (m - (k + 1)) = omega arith in
-      ap (λ (j : ℕ). those f j k) e ∙ ap (λ (j : ℕ). cond (f k) (k ∷ those f (m - (k + 1)) j) (those f (m - (k + 1)) j)) (sym (add-one k))
-
-  pub those-next : k < m → f k ≡ true → those f (m - k) k ≡ k ∷ those f (m - (k + 1)) (k + 1)
-  those-next h e = those-on h ∙ ap (λ (b : Bool). cond b (k ∷ those f (m - (k + 1)) (k + 1)) (those f (m - (k + 1)) (k + 1))) e
-
-  pub those-skip : k < m → f k ≡ false → those f (m - k) k ≡ those f (m - (k + 1)) (k + 1)
-  those-skip h e = those-on h ∙ ap (λ (b : Bool). cond b (k ∷ those f (m - (k + 1)) (k + 1)) (those f (m - (k + 1)) (k + 1))) e
-
-  pub those-end : m ≤ k → those f (m - k) k ≡ []
-  unfolding those
-  those-end h = let e : m - k ≡ 0 = omega arith in ap (λ (j : ℕ). those f j k) e
-
-pub those-same : (f g : ℕ → Bool) (m k : ℕ) → ((s : ℕ) → k ≤ s → s < k + m → f s ≡ g s) → those f m k ≡ those g m k
-unfolding those
-those-same f g zero k h = refl
-those-same f g (suc m) k h = ap₂ (λ (b : Bool) (l : List ℕ). cond b (k ∷ l) l) (h k (le-refl k) (omega arith)) (those-same f g m (suc k) (λ s g l. h s (omega arith) (omega arith)))
+-- ---- those of the numbers that pass a test
 
 -- what holds of each that passes
 pub all-those : {A : Type 0} (P : A → Type 0) (h : ℕ → A) (f : ℕ → Bool) (m k : ℕ) → ((s : ℕ) → k ≤ s → s < k + m → P (h s)) → All P (map h (those f m k))

@@ -16,14 +16,14 @@ use Rattle.bits.specs.Below.{those}
 use Rattle.bits.specs.Sums.{oneIf, All}
 use Rattle.bits.proofs.Bits.{bit-lt}
 use Rattle.bits.proofs.Bools.{one-lt}
-use Rattle.bits.proofs.Below.{those-cong}
+use Rattle.bits.proofs.Below.{those-same, those-cong}
 use Rattle.cube.specs.declared.Cube.{Cube}
 use Rattle.cube.specs.Cubes.{codeOf, code, Good}
 use Rattle.cube.specs.Lists.{listValue}
 use Rattle.cube.proofs.Codes.{code-absent, code-present, cube-ext, good-seen}
 use Rattle.polarity.specs.Forms.{coefficient, product, formFrom, formList, Ascending, variables, Form}
 use Rattle.polarity.specs.Words.{nonzero}
-use Rattle.polarity.proofs.Forms.{those-same, product-code, product-good, form-good}
+use Rattle.polarity.proofs.Forms.{product-code, product-good, form-good}
 use Rattle.polarity.proofs.Theorems.{literal-of-polarity-missing, form-unique}
 
 -- ---- a product is its set of variables

@@ -25,7 +25,8 @@ use Rattle.polarity.specs.Vectors.{byteAt, Vector, checkVector}
 use Rattle.polarity.specs.Calls.{formOutcome}
 use Rattle.polarity.specs.Words.{nonzero}
 use Rattle.polarity.proofs.Vectors.{check-accepts, check-long}
-use Rattle.polarity.proofs.Forms.{those-next, those-skip, those-end, product-good, form-length}
+use Rattle.bits.proofs.Below.{those-next, those-skip, those-end}
+use Rattle.polarity.proofs.Forms.{product-good, form-length}
 
 -- ---- counting
 
