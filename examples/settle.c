@@ -5,13 +5,13 @@
 #include <stdio.h>
 
 #define VARIABLES 2
-#define RECORD 4
+#define RECORD 8
 
 /* The cubes 1-, -1 and 11: seen, then value. */
 static const uint8_t list[] = {
-    0x01, 0x00, 0x01, 0x00,
-    0x02, 0x00, 0x02, 0x00,
-    0x03, 0x00, 0x03, 0x00,
+    0x01, 0x00, 0x00, 0x00, 0x01, 0x00, 0x00, 0x00,
+    0x02, 0x00, 0x00, 0x00, 0x02, 0x00, 0x00, 0x00,
+    0x03, 0x00, 0x00, 0x00, 0x03, 0x00, 0x00, 0x00,
 };
 
 /* Join 1 2; then turn v=0 0 1. */
@@ -20,10 +20,14 @@ static const uint8_t script[] = {
     4, 0, 0, 0, 1, 0, 0, 0,
 };
 
+static uint32_t number(const uint8_t *bytes)
+{
+    return bytes[0] | (uint32_t)bytes[1] << 8 | (uint32_t)bytes[2] << 16 | (uint32_t)bytes[3] << 24;
+}
+
 static void print_cube(const uint8_t *record)
 {
-    unsigned seen = record[0] | (unsigned)record[1] << 8;
-    unsigned value = record[2] | (unsigned)record[3] << 8;
+    uint32_t seen = number(record), value = number(record + 4);
     for (unsigned k = 0; k < VARIABLES; k++)
         putchar(seen >> k & 1 ? '0' + (int)(value >> k & 1) : '-');
     putchar('\n');

@@ -2,8 +2,11 @@
  *
  * A number of variables n, an assignment a and a polarity p are uint64_t; bit k stands for variable k.
  *
- * A list is cube records end to end, 4 bytes each: two bytes "seen", two bytes "value", little-endian. Seen is set where
- * a literal stands; value holds 0 for the complemented literal, 1 for the plain one. At most 4,096 records.
+ * A list is cube records end to end, 8 bytes each: four bytes "seen", four bytes "value", little-endian. Seen is set
+ * where a literal stands; value holds 0 for the complemented literal, 1 for the plain one. At most 4,096 records.
+ *
+ * An old list is of narrow records, 4 bytes each: two bytes "seen", two bytes "value". Only dm_wide_from_narrow takes one;
+ * a list has no header, so every other call reads the bytes of an old list as records of 8.
  *
  * A script is steps end to end, 8 bytes each: operation, variable v, place i (2 bytes, little-endian), place j (2 bytes,
  * little-endian), literal, zero. Fields that an operation does not use are zero. At most 1,024 steps.
@@ -17,11 +20,12 @@
  * A truth vector is 2^n bytes, each 0 or 1, indexed by assignment; coefficients are 2^n bytes, each 0 or 1, indexed by
  * the set of variables. A set bit k of a polarity means that variable k appears only complemented.
  *
- * The limit of n is 16 for check, value, run and settle, and 8 for the other calls.
+ * The limit of n is 32 for check, value, run, settle and narrow from wide, 16 for wide from narrow, and 8 for the other
+ * calls.
  *
  * A buffer is passed as a pointer and a length in bytes. Pointers are not null, even where a length is 0, need no
  * alignment (but answer, which is aligned as uint64_t is), and no buffer that a call writes overlaps another argument.
- * The capacity of a work or output buffer for records is its length divided by 4, rounded down, and at most 4,096.
+ * The capacity of a work or output buffer for records is its length divided by 8, rounded down, and at most 4,096.
  *
  * Every call fills all eight words of `answer`:
  *
@@ -30,7 +34,7 @@
  *     answer[2..]  the values that stand with each call below; 0 for the rest, and when refused
  *
  *     DM_N                1   n above the call's limit                                    place 0
- *     DM_LIST_LENGTH      2   list length not a multiple of 4                             place 0
+ *     DM_LIST_LENGTH      2   list length not a multiple of 8 (of 4 for an old list)      place 0
  *     DM_LIST_RECORDS     3   more than 4,096 records                                     place 0
  *     DM_RECORD           4   a value bit outside seen, or a seen bit at or above n       the lowest such record
  *     DM_BUFFER           5   capacity or length of a written buffer too small            place 0
@@ -46,9 +50,10 @@
  *     DM_VECTOR          14   vector or coefficient length not 2^n                        2^n
  *                             else a byte above 1                                         the lowest such byte
  *     DM_POLARITY        15   polarity has a bit at or above n                            place 0
+ *     DM_NARROW_N        20   n above 16, the variables of a narrow record                place 0
  *
- * What a refusal leaves behind: 1 to 9, 14 and 15 are found before anything is written, and every buffer but `answer` is
- * as it was. 10 to 13 are found at a step (run and settle only): then every byte of `work` is zero, and `out` is as it
+ * What a refusal leaves behind: 1 to 9, 14, 15 and 20 are found before anything is written, and every buffer but `answer`
+ * is as it was. 10 to 13 are found at a step (run and settle only): then every byte of `work` is zero, and `out` is as it
  * was. Lists, scripts, vectors and coefficients are only read.
  */
 #ifndef DRUTHMOY_H
@@ -77,7 +82,8 @@ enum dm_refusal {
     DM_CUBES = 12,
     DM_FULL = 13,
     DM_VECTOR = 14,
-    DM_POLARITY = 15
+    DM_POLARITY = 15,
+    DM_NARROW_N = 20
 };
 
 #define DM_ANSWER_WORDS 8
@@ -122,7 +128,7 @@ void dm_vector(uint64_t n,
                uint64_t *answer);
 
 /* The list of a form: a cube for each nonzero coefficient, sets of variables ascending. answer[2]: its count.
- * Writes the first 4 * count bytes of out, and no other byte; a refusal writes none.
+ * Writes the first 8 * count bytes of out, and no other byte; a refusal writes none.
  * Refuses, in this order: 1, 14, 15, 5 (capacity of out below the count). */
 void dm_write_form(uint64_t n,
                    const uint8_t *coefficients, size_t coefficients_length,
@@ -161,6 +167,22 @@ void dm_settle(uint64_t n,
                uint8_t *work, size_t work_length,
                uint8_t *out, size_t out_length,
                uint64_t *answer);
+
+/* An old list as a list: the same cubes at the same places. answer[2]: their number.
+ * Writes the first 8 * count bytes of out, and no other byte; a refusal writes none.
+ * Refuses, in this order: 1, 2 (list_length not a multiple of 4), 3, 4, 5 (out_length below 8 * count). */
+void dm_wide_from_narrow(uint64_t n,
+                         const uint8_t *list, size_t list_length,
+                         uint8_t *out, size_t out_length,
+                         uint64_t *answer);
+
+/* A list as an old list: the same cubes at the same places. answer[2]: their number.
+ * Writes the first 4 * count bytes of out, and no other byte; a refusal writes none.
+ * Refuses, in this order: 1, 20, 2, 3, 4, 5 (out_length below 4 * count). */
+void dm_narrow_from_wide(uint64_t n,
+                         const uint8_t *list, size_t list_length,
+                         uint8_t *out, size_t out_length,
+                         uint64_t *answer);
 
 #ifdef __cplusplus
 }

@@ -1,21 +1,21 @@
 -- A cube is its codes: what `put` changes, that good cubes with the same codes are equal, and when a record is good. Over n, for masks of any width.
 -- Assumes nothing.
 use mathlib.Core.Path.{_≡_, refl, sym, ap, ap₂, _∙_, subst}
-use mathlib.Core.Logic.{_≢_}
-use mathlib.Core.Bool.{Bool, true, false, cond, _&&_}
-use Prim.Native.Nat.{ℕ, zero, suc, _-_, _*_, _/_, _^_, _≤_, _<_, zero-le}
-use native.Mathlib.Nat.{one-mul, mul-le-mul-right, le-refl, le-trans, lt-of-lt-of-le, div-eq-of-lt}
+use mathlib.Core.Logic.{_≢_, ⊎-elim}
+use mathlib.Core.Bool.{Bool, true, cond, _&&_}
+use Prim.Native.Nat.{ℕ, zero, suc, _-_, _*_, _%_, _^_, _≤_, _<_, min, zero-le}
+use native.Mathlib.Nat.{one-mul, mul-le-mul-right, le-refl, le-trans, le-of-lt, lt-of-lt-of-le, mod-lt, mod-eq-of-lt, min-le-left, min-eq-left, min-eq-right}
 use native.Mathlib.Decide.{ℕ-discrete, decLt}
 use native.Mathlib.Omega.{arith}
 use borrow.Author.Tests.{eqb-true, eq-eqb, ltb-true, lt-ltb, le-ltb, leb-true, le-leb}
-use lib.Bits.{bitAnd, bitOr, and-le-l}
+use lib.Bits.{bitAnd, bitOr, and-le-l, and-mask}
 use lib.Dec.{eqb, ltb, leb}
-use lib.Pow.{pow-mono}
+use lib.Pow.{pow-mono, pow-pos}
 use Rattle.bits.specs.Bits.{bit, withBit, within}
-use Rattle.bits.proofs.Bools.{both-true, true-both, and-true, same-bool, all-at, all-at₂, one-lt}
-use Rattle.bits.proofs.Bits.{bit-lt, bit-ext, bit-high, below-pow, with-same, with-other, with-with, with-comm, within-bit, bit-within, lt-of-shift, or-none}
+use Rattle.bits.proofs.Bools.{both-true, true-both, same-bool, below-or, all-at, all-at₂, one-lt}
+use Rattle.bits.proofs.Bits.{bit-lt, bit-ext, bit-high, below-pow, with-same, with-other, with-with, with-comm, within-bit, bit-within, or-none}
 use Rattle.cube.specs.declared.Cube.{Cube}
-use Rattle.cube.specs.Cubes.{codeOf, code, seenBit, valueBit, put, withCode, maskBits, one, good, Good}
+use Rattle.cube.specs.Cubes.{codeOf, code, seenBit, valueBit, put, withCode, maskBits, one, good, variablesBelow, Good}
 
 -- ---- a code and its two bits, computed over all of them
 
@@ -131,28 +131,48 @@ module _ (n : ℕ) (c : Cube) (g : Good n c) where
   unfolding good
   parts-good = true-both good-within (lt-ltb (c .seen) (2 ^ n) good-seen)
 
--- a good record by the bits that it must not have
-module _ (n : ℕ) (c : Cube) where
-  outside : eqb (c .value - bitAnd (c .value) (c .seen)) 0 ≡ within (c .value) (c .seen)
-  outside =
-      let m : ℕ = bitAnd (c .value) (c .seen) in
-      same-bool (eqb (c .value - m) 0) (eqb m (c .value))
-      (λ t. eq-eqb m (c .value) (omega (arith, eqb-true (c .value - m) 0 t, and-le-l (c .value) (c .seen))))
-      (λ t. eq-eqb (c .value - m) 0 (omega (arith, eqb-true m (c .value) t)))
+-- ---- a good record by the bits that it must not have
 
-  above : eqb (c .seen / 2 ^ n) 0 ≡ ltb (c .seen) (2 ^ n)
-  above =
-      same-bool (eqb (c .seen / 2 ^ n) 0) (ltb (c .seen) (2 ^ n))
-      (λ t. lt-ltb (c .seen) (2 ^ n) (lt-of-shift n (c .seen) (eqb-true _ 0 t)))
-      (λ t. eq-eqb _ 0 (div-eq-of-lt (ltb-true (c .seen) (2 ^ n) t)))
+-- the set of the variables below n, by how it is made
+pub all-below : (n : ℕ) → maskBits ≤ n → 4294967295 ≡ variablesBelow n
+unfolding variablesBelow
+all-below n l = ap (λ (m : ℕ). 2 ^ m - 1) (sym (min-eq-right l))
 
-  pub good-wide : c .seen < 2 ^ maskBits → maskBits ≤ n → eqb (c .value - bitAnd (c .value) (c .seen)) 0 ≡ good n c
-  unfolding good
-  good-wide h l = outside ∙ sym (ap (λ (t : Bool). within (c .value) (c .seen) && t) (lt-ltb (c .seen) (2 ^ n) (lt-of-lt-of-le h (pow-mono l))) ∙ and-true _)
+pub few-below : (n x : ℕ) → n < maskBits → x ≡ 2 ^ n → x - 1 ≡ variablesBelow n
+unfolding variablesBelow
+few-below n x l e = ap (λ (m : ℕ). m - 1) e ∙ ap (λ (m : ℕ). 2 ^ m - 1) (sym (min-eq-left (le-of-lt l)))
 
-  pub good-none : eqb (bitOr (c .value - bitAnd (c .value) (c .seen)) (c .seen / 2 ^ n)) 0 ≡ good n c
-  unfolding good
-  good-none = or-none (c .value - bitAnd (c .value) (c .seen)) (c .seen / 2 ^ n) ∙ ap₂ _&&_ outside above
+none-outside : (x y : ℕ) → eqb (x - bitAnd x y) 0 ≡ within x y
+none-outside x y =
+    let m : ℕ = bitAnd x y in
+    same-bool (eqb (x - m) 0) (eqb m x) (λ t. eq-eqb m x (omega (arith, eqb-true (x - m) 0 t, and-le-l x y))) (λ t. eq-eqb (x - m) 0 (omega (arith, eqb-true m x t)))
+
+pub both-within : (c : Cube) (b : ℕ) → eqb (bitOr (c .value - bitAnd (c .value) (c .seen)) (c .seen - bitAnd (c .seen) b)) 0 ≡ (within (c .value) (c .seen) && within (c .seen) b)
+both-within c b =
+    or-none (c .value - bitAnd (c .value) (c .seen)) (c .seen - bitAnd (c .seen) b) ∙ ap₂ _&&_ (none-outside (c .value) (c .seen)) (none-outside (c .seen) b)
+
+-- a number that fits a mask is within the variables below n where it is below 2 ^ n
+below-within : (n x : ℕ) → x < 2 ^ maskBits → within x (variablesBelow n) ≡ ltb x (2 ^ n)
+unfolding variablesBelow
+below-within n x h =
+    let m : ℕ = min n maskBits in
+    ap (λ (y : ℕ). eqb y x) (and-mask x m)
+    ∙ same-bool (eqb (x % 2 ^ m) x) (ltb x (2 ^ n))
+    (λ t.
+    let few : x < 2 ^ m = subst (λ (y : ℕ). y < 2 ^ m) (eqb-true (x % 2 ^ m) x t) (mod-lt x (pow-pos m)) in
+    lt-ltb x (2 ^ n) (lt-of-lt-of-le few (pow-mono (min-le-left n maskBits))))
+    (λ t. eq-eqb (x % 2 ^ m) x (mod-eq-of-lt (few (ltb-true x (2 ^ n) t))))
+  where
+    few : x < 2 ^ n → x < 2 ^ min n maskBits
+    few l =
+        ⊎-elim
+        (λ k. subst (λ (m : ℕ). x < 2 ^ m) (sym (min-eq-left (le-of-lt k))) l)
+        (λ k. subst (λ (m : ℕ). x < 2 ^ m) (sym (min-eq-right k)) h)
+        (below-or n maskBits)
+
+pub good-within-below : (n : ℕ) (c : Cube) → c .seen < 2 ^ maskBits → (b : ℕ) → b ≡ variablesBelow n → (within (c .value) (c .seen) && within (c .seen) b) ≡ good n c
+unfolding good
+good-within-below n c h b e = ap (λ (t : Bool). within (c .value) (c .seen) && t) (ap (within (c .seen)) e ∙ below-within n (c .seen) h)
 
 -- more variables keep a cube good
 pub good-more : (m n : ℕ) (c : Cube) → m ≤ n → Good m c → Good n c

@@ -13,14 +13,18 @@ use Rattle.cube.specs.declared.Valued.the-variants as valued-is
 use Rattle.cube.specs.Calls.{valued}
 use Rattle.cube.proofs.Cube.literal.Kinds as literal-kinds
 use Rattle.cube.proofs.Cube.literal.Reads as literal-reads
-use Rattle.cube.proofs.Cube.word.Kinds as word-kinds
-use Rattle.cube.proofs.Cube.word.Reads as word-reads
-use Rattle.cube.proofs.Cube.of_word.Kinds as of-word-kinds
-use Rattle.cube.proofs.Cube.of_word.Reads as of-word-reads
+use Rattle.cube.proofs.Cube.of_record.Kinds as of-record-kinds
+use Rattle.cube.proofs.Cube.of_record.Reads as of-record-reads
+use Rattle.cube.proofs.Cube.put_in.Kinds as put-in-kinds
+use Rattle.cube.proofs.Cube.put_in.Reads as put-in-reads
 use Rattle.cube.proofs.Cube.code_at.Kinds as code-at-kinds
 use Rattle.cube.proofs.Cube.code_at.Reads as code-at-reads
 use Rattle.cube.proofs.Cube.with_code.Kinds as with-code-kinds
 use Rattle.cube.proofs.Cube.with_code.Reads as with-code-reads
+use Rattle.cube.proofs.variables_below.Kinds as variables-below-kinds
+use Rattle.cube.proofs.variables_below.Reads as variables-below-reads
+use Rattle.cube.proofs.Cube.is_within.Kinds as is-within-kinds
+use Rattle.cube.proofs.Cube.is_within.Reads as is-within-reads
 use Rattle.cube.proofs.Cube.is_good.Kinds as is-good-kinds
 use Rattle.cube.proofs.Cube.is_good.Reads as is-good-reads
 use Rattle.cube.proofs.Cube.holds_at.Kinds as holds-at-kinds
@@ -59,17 +63,23 @@ valued-known (valued-is.Refused r) = refl
 pub literal-determined : Determined 0 literal-kinds.ps literal-kinds.r literal-reads.Learnt
 literal-determined κs a z z′ ws ws′ p q = (same p q, refl)
 
-pub word-determined : Determined 0 word-kinds.ps word-kinds.r word-reads.Learnt
-word-determined κs a z z′ ws ws′ p q = (same p q, refl)
+pub of-record-determined : Determined 1 of-record-kinds.ps of-record-kinds.r of-record-reads.Learnt
+of-record-determined κs a z z′ ws ws′ p q = (same p q, refl)
 
-pub of-word-determined : Determined 0 of-word-kinds.ps of-word-kinds.r of-word-reads.Learnt
-of-word-determined κs a z z′ ws ws′ p q = (same p q, refl)
+pub put-in-determined : Determined 1 put-in-kinds.ps put-in-kinds.r put-in-reads.Learnt
+put-in-determined κs a z z′ ws ws′ p q = (refl, ap (λ (b : List ℕ). (tt, (b, tt))) (same p q))
 
 pub code-at-determined : Determined 0 code-at-kinds.ps code-at-kinds.r code-at-reads.Learnt
 code-at-determined κs a z z′ ws ws′ p q = (same p q, refl)
 
 pub with-code-determined : Determined 0 with-code-kinds.ps with-code-kinds.r with-code-reads.Learnt
 with-code-determined κs a z z′ ws ws′ p q = (same p q, refl)
+
+pub variables-below-determined : Determined 0 variables-below-kinds.ps variables-below-kinds.r variables-below-reads.Learnt
+variables-below-determined κs a z z′ ws ws′ p q = (same p q, refl)
+
+pub is-within-determined : Determined 0 is-within-kinds.ps is-within-kinds.r is-within-reads.Learnt
+is-within-determined κs a z z′ ws ws′ p q = (same p q, refl)
 
 pub is-good-determined : Determined 0 is-good-kinds.ps is-good-kinds.r is-good-reads.Learnt
 is-good-determined κs a z z′ ws ws′ p q = (same p q, refl)

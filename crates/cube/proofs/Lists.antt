@@ -11,7 +11,7 @@ use lib.ListN.{length, getD}
 use borrow.Author.Tests.{le-leb, lt-leb, leb-true}
 use Rattle.bits.specs.Sums.{All}
 use Rattle.bits.proofs.Sums.{all-get-or, all-each}
-use Rattle.records.specs.Records.{flat, capacityOf}
+use Rattle.records.specs.Records.{Codec, flat, listOf, capacityOf}
 use Rattle.records.specs.declared.Refusal.{Refusal}
 use Rattle.records.specs.Answers.{accepted, refused, refusal}
 use Rattle.records.proofs.Records.{list-flat}
@@ -20,11 +20,11 @@ use Rattle.records.proofs.Checks.{checked, records-accepted, accepted-records}
 use Rattle.cube.specs.declared.Cube.{Cube}
 use Rattle.cube.specs.Cubes.{one, good, Good, holds}
 use Rattle.cube.specs.Lists.{cubes, cubesOf, recordWidth, mostRecords, cubeCapacity}
-use Rattle.cube.specs.Calls.{checkList}
+use Rattle.cube.specs.Calls.{checkListOf}
 use Rattle.cube.proofs.Codes.{good-parts, parts-good, good-more, one-good}
 use Rattle.cube.proofs.Masks.{holds-mask}
 use Rattle.cube.proofs.CubeRecord.{lawful}
-pub use Rattle.cube.proofs.CubeRecord.{lawful, good-narrow, cubes-bytes}
+pub use Rattle.cube.proofs.CubeRecord.{lawful, cubes-bytes}
 
 -- ---- capacity
 
@@ -36,41 +36,42 @@ pub capacity-high : (n : ℕ) → mostRecords ≤ n / recordWidth → mostRecord
 unfolding capacityOf
 capacity-high n h = sym (min-eq-right h)
 
--- ---- the check of a list: the limit of its variables, and then its records
-
-pub check-few : (limit n : ℕ) (b : List ℕ) (r : Refusal) → r ≡ refusal 1 0 → limit < n → refused r ≡ checkList limit n b
-unfolding checkList
-check-few limit n b r e h = ap refused e ∙ sym (unless-fails _ 1 0 _ (lt-leb _ _ h))
-
-pub check-records : (limit n : ℕ) (b : List ℕ) → n ≤ limit → checked cubes (good n) 2 3 4 mostRecords b ≡ checkList limit n b
-unfolding checkList
-check-records limit n b h = sym (unless-passes _ 1 0 _ (le-leb n limit h))
+-- ---- the check of a list of any kind of record: the limit of its variables, and then its records
 
 -- what an accepted list is
-pub record AcceptedList (limit n : ℕ) (b : List ℕ) : Type 0 where
+pub record AcceptedList (C : Codec Cube) (limit n : ℕ) (b : List ℕ) : Type 0 where
   pub few : n ≤ limit
-  pub whole : length b % recordWidth ≡ 0
-  pub short : length b / recordWidth ≤ mostRecords
-  pub good : All (Good n) (cubesOf b)
+  pub whole : length b % C .width ≡ 0
+  pub short : length b / C .width ≤ mostRecords
+  pub good : All (Good n) (listOf C b)
 
-pub check-accepts : (limit n : ℕ) (b v : List ℕ) → checkList limit n b ≡ accepted v → AcceptedList limit n b
-unfolding checkList
-check-accepts limit n b v e =
-    let p = unless-accepted (leb n limit) 1 0 _ v e in
-    let a = records-accepted cubes (good n) 2 3 4 mostRecords b v (p .1) in
-    record {
-      few = leb-true n limit (p .0);
-      whole = a .whole;
-      short = a .short;
-      good = all-each (λ c. good n c ≡ true) (Good n) (good-parts n) (cubesOf b) (a .each);
-    }
+module _ (C : Codec Cube) (limit n : ℕ) (b : List ℕ) where
+  pub check-few : (r : Refusal) → r ≡ refusal 1 0 → limit < n → refused r ≡ checkListOf C limit n b
+  unfolding checkListOf
+  check-few r e h = ap refused e ∙ sym (unless-fails _ 1 0 _ (lt-leb _ _ h))
 
--- and a list that is so is accepted
-pub accepts-check : (limit n : ℕ) (b : List ℕ) → AcceptedList limit n b → checkList limit n b ≡ accepted (length b / recordWidth ∷ [])
-accepts-check limit n b a =
-    sym (check-records limit n b (a .few))
-    ∙ accepted-records cubes (good n) 2 3 4 mostRecords b
-    (record { whole = a .whole; short = a .short; each = all-each (Good n) (λ c. good n c ≡ true) (parts-good n) (cubesOf b) (a .good) })
+  pub check-records : n ≤ limit → checked C (good n) 2 3 4 mostRecords b ≡ checkListOf C limit n b
+  unfolding checkListOf
+  check-records h = sym (unless-passes _ 1 0 _ (le-leb n limit h))
+
+  pub check-accepts : (v : List ℕ) → checkListOf C limit n b ≡ accepted v → AcceptedList C limit n b
+  unfolding checkListOf
+  check-accepts v e =
+      let p = unless-accepted (leb n limit) 1 0 _ v e in
+      let a = records-accepted C (good n) 2 3 4 mostRecords b v (p .1) in
+      record {
+        few = leb-true n limit (p .0);
+        whole = a .whole;
+        short = a .short;
+        good = all-each (λ c. good n c ≡ true) (Good n) (good-parts n) (listOf C b) (a .each);
+      }
+
+  -- and a list that is so is accepted
+  pub accepts-check : AcceptedList C limit n b → checkListOf C limit n b ≡ accepted (length b / C .width ∷ [])
+  accepts-check a =
+      sym (check-records (a .few))
+      ∙ accepted-records C (good n) 2 3 4 mostRecords b
+      (record { whole = a .whole; short = a .short; each = all-each (Good n) (λ c. good n c ≡ true) (parts-good n) (listOf C b) (a .good) })
 
 -- the cubes of the bytes of a list are the list
 pub cubes-flat : (l : List Cube) → cubesOf (flat (cubes .enc) l) ≡ l

@@ -5,19 +5,28 @@ use Prim.Native.Nat.{ℕ, _/_, _%_, _^_}
 use lib.Dec.{leb, ltb, eqb}
 use lib.ListN.{length, drop}
 use Rattle.records.specs.Answers.{Outcome, accepted, refused, unless, unlessAt, andThen, afterCall}
+use Rattle.records.specs.Records.{Codec, listOf}
+use Rattle.cube.specs.declared.Cube.{Cube}
 use Rattle.cube.specs.declared.Valued.{Valued}
 use Rattle.cube.specs.declared.Valued.the-variants as valued-is
 use Rattle.cube.specs.Cubes.{good}
-use Rattle.cube.specs.Lists.{mostVariables, vectorVariables, mostRecords, recordWidth, cubesOf, listValue, truthVector}
+use Rattle.cube.specs.Lists.{mostVariables, vectorVariables, mostRecords, cubes, cubesOf, listValue, truthVector}
 
--- "Checking a list: 1 to 4", for a call that takes up to `limit` variables; 4 is "a bad record", at "the lowest record that breaks the rule"
-unfoldable pub checkList : ℕ → ℕ → List ℕ → Outcome
-checkList limit n b =
-    unless (leb n limit) 1 0
-    (unless (eqb (length b % recordWidth) 0) 2 0
-    (unless (leb (length b / recordWidth) mostRecords) 3 0
-    (unlessAt (good n) 4 (cubesOf b)
-    (accepted (length (cubesOf b) ∷ [])))))
+-- 2 to 4, of a list of this kind of record; 4 is "a bad record", at "the lowest record that breaks the rule"
+abbrev pub checkRecords : Codec Cube → ℕ → List ℕ → Outcome
+checkRecords C n b =
+    unless (eqb (length b % C .width) 0) 2 0
+    (unless (leb (length b / C .width) mostRecords) 3 0
+    (unlessAt (good n) 4 (listOf C b)
+    (accepted (length (listOf C b) ∷ []))))
+
+-- "Checking a list: 1 to 4", for a call that takes lists of this kind of record and up to `limit` variables
+unfoldable pub checkListOf : Codec Cube → ℕ → ℕ → List ℕ → Outcome
+checkListOf C limit n b = unless (leb n limit) 1 0 (checkRecords C n b)
+
+-- "Capacity and refusal 2 go by 8 bytes" (document 02, Seven)
+abbrev pub checkList : ℕ → ℕ → List ℕ → Outcome
+checkList limit n b = checkListOf cubes limit n b
 
 -- "Value: 1 to 4, 6"
 unfoldable pub valueOutcome : ℕ → List ℕ → ℕ → Outcome

@@ -1,36 +1,34 @@
--- The record of a cube. Document 01, "Cubes and lists".
+-- The record of a cube. Document 01, "Cubes and lists", with the widths of document 02, Seven.
 -- Assumes nothing.
 use mathlib.Core.List.{List, [], _∷_}
-use Prim.Native.Nat.{ℕ, _+_, _*_, _/_, _%_}
+use Prim.Native.Nat.{ℕ}
 use lib.ListN.{getD}
 use Rattle.records.specs.Records.{Codec, listOf}
 use Rattle.records.specs.Fields.{byFields}
 use Rattle.cube.specs.declared.Cube.{Cube}
 
--- "A cube record is 4 bytes"
+-- "a cube record becomes 8 bytes" (document 02, Seven)
 abbrev pub recordWidth : ℕ
-recordWidth = 4
+recordWidth = 8
 
--- "two bytes seen, two bytes value, each little-endian"
+-- the two numbers of a cube's record, and the cube of two numbers: "seen", then "value"
+abbrev pub cubeFields : Cube → List ℕ
+cubeFields c = c .seen ∷ c .value ∷ []
+
+abbrev pub cubeOf : List ℕ → Cube
+cubeOf xs = record { seen = getD xs 0 0; value = getD xs 1 0 }
+
+-- the kind of record that has so many bytes for seen and as many for value, "each little-endian, bit k for variable k"
+abbrev pub cubeRecord : ℕ → Codec Cube
+cubeRecord w = byFields (w ∷ w ∷ []) cubeFields cubeOf
+
+-- "four for seen and four for value" (document 02, Seven)
+abbrev pub maskWidth : ℕ
+maskWidth = 4
+
 abbrev pub cubes : Codec Cube
-cubes = byFields (2 ∷ 2 ∷ []) (λ c. c .seen ∷ c .value ∷ []) (λ xs. record { seen = getD xs 0 0; value = getD xs 1 0 })
+cubes = cubeRecord maskWidth
 
 -- the list of cubes that a buffer's bytes are
 abbrev pub cubesOf : List ℕ → List Cube
 cubesOf b = listOf cubes b
-
--- how many numbers half of a record holds
-abbrev pub halfSize : ℕ
-halfSize = 65536
-
--- what of a cube fits a record
-abbrev pub narrow : Cube → Cube
-narrow c = record { seen = c .seen % halfSize; value = c .value % halfSize }
-
--- a record as one number of four bytes: seen is its low half, value its high half
-abbrev pub recordNumber : Cube → ℕ
-recordNumber c = c .seen % halfSize + halfSize * (c .value % halfSize)
-
--- the cube of such a number
-abbrev pub halves : ℕ → Cube
-halves x = record { seen = x % halfSize; value = x / halfSize }

@@ -3,7 +3,7 @@
 use mathlib.Core.Path.{_≡_}
 use mathlib.Core.Bool.{Bool, not, cond, _&&_, _||_}
 use mathlib.Core.List.{List}
-use Prim.Native.Nat.{ℕ, zero, suc, _^_, _≤_, _<_}
+use Prim.Native.Nat.{ℕ, zero, suc, _-_, _^_, _≤_, _<_, min}
 use lib.Dec.{eqb, ltb}
 use lib.Bits.{bitAnd, bitOr, bitXor}
 use Rattle.bits.specs.Bits.{bit, withBit, within}
@@ -47,7 +47,11 @@ one = record { seen = 0; value = 0 }
 unfoldable pub good : ℕ → Cube → Bool
 good n c = within (c .value) (c .seen) && ltb (c .seen) (2 ^ n)
 
--- the same, bit by bit
+-- the set of the variables below n, as far as the masks have room
+unfoldable pub variablesBelow : ℕ → ℕ
+variablesBelow n = 2 ^ min n maskBits - 1
+
+-- a good cube, bit by bit
 pub record Good (n : ℕ) (c : Cube) : Type 0 where
   pub inside : (k : ℕ) → bit (c .value) k ≤ bit (c .seen) k
   pub below : (k : ℕ) → n ≤ k → bit (c .seen) k ≡ 0

@@ -1,4 +1,4 @@
--- Lists of cubes: their limits, and their value. Document 01, "Cubes and lists" and "Limits".
+-- Lists of cubes: their limits, and their value. Document 01, "Cubes and lists" and "Limits", with the limit of document 02, Seven.
 -- Assumes nothing.
 use mathlib.Core.List.{List}
 use Prim.Native.Nat.{ℕ, _%_, _^_}
@@ -7,14 +7,15 @@ use Rattle.bits.specs.Sums.{tally}
 use Rattle.records.specs.Records.{capacityOf}
 use Rattle.cube.specs.declared.Cube.{Cube}
 use Rattle.cube.specs.Cubes.{holds}
-pub use Rattle.cube.specs.CubeRecord.{recordWidth, cubes, cubesOf, narrow}
+pub use Rattle.cube.specs.CubeRecord.{recordWidth, cubes, cubesOf}
 
 -- ---- limits
 
--- "n: 0 to 16; for truth vectors and polarities 0 to 8"
+-- "Lists hold n up to 32" (document 02, Seven)
 abbrev pub mostVariables : ℕ
-mostVariables = 16
+mostVariables = 32
 
+-- "for truth vectors and polarities 0 to 8"
 abbrev pub vectorVariables : ℕ
 vectorVariables = 8
 

@@ -5,10 +5,11 @@ pub mod value;
 
 use records::Refusal;
 ghost use mathlib.Core.Path.{_≡_};
-ghost use Rattle.bits.specs.Bits.{withBit};
+ghost use Rattle.bits.specs.Bits.{withBit, within};
 ghost use Rattle.bits.specs.Sums.{oneIf};
+ghost use mathlib.Core.Bool.{_&&_};
 ghost use Prim.Native.Nat.{_<_};
-ghost use Rattle.cube.specs.Cubes.{maskBits, code, withCode, one, good, HoldsAt, DiffersIn};
+ghost use Rattle.cube.specs.Cubes.{maskBits, code, withCode, one, good, variablesBelow, HoldsAt, DiffersIn};
 
 // Bit k of seen is set where variable k has a literal, and bit k of value holds that literal's code.
 pub struct Cube {
@@ -35,6 +36,17 @@ fn with_bit(x: u32, k: u32, t: bool) -> u32
         return x | m;
     }
     x ^ (x & m)
+}
+
+// The set of the variables below n, as far as the masks have room.
+pub fn variables_below(n: usize) -> u32
+    ensures { λ r. ⌜ r ≡ variablesBelow n ⌝ }
+{
+    if MASK_BITS as usize <= n {
+        return u32::MAX;
+    }
+    let next: u32 = 1 << n;
+    next - 1
 }
 
 impl Cube {
@@ -70,16 +82,21 @@ impl Cube {
         }
     }
 
-    // No value bit outside seen, and no seen bit at or above n: all such bits at once, compared with 0.
-    pub fn is_good(self, n: usize) -> bool
-        ensures { λ r. ⌜ r ≡ good n self ⌝ }
+    // No value bit outside seen, and no seen bit outside the set: all such bits at once, compared with 0.
+    pub fn is_within(self, set: u32) -> bool
+        ensures { λ r. ⌜ r ≡ (within (self .value) (self .seen) && within (self .seen) set) ⌝ }
     {
         let seen = self.seen;
         let outside = self.value - (self.value & seen);
-        if MASK_BITS as usize <= n {
-            return outside == 0;
-        }
-        outside | (seen >> n) == 0
+        let above = seen - (seen & set);
+        outside | above == 0
+    }
+
+    // No value bit outside seen, and no seen bit at or above n.
+    pub fn is_good(self, n: usize) -> bool
+        ensures { λ r. ⌜ r ≡ good n self ⌝ }
+    {
+        self.is_within(variables_below(n))
     }
 
     // One masked comparison: the product of a good cube is true at the assignment a.

@@ -1,36 +1,48 @@
-// The record of a cube: two bytes of seen and two of value, read and stored as one number of four.
+// The record of a cube: four bytes of seen and four of value.
 use crate::Cube;
 use records::numbers;
 ghost use mathlib.Core.Path.{_≡_};
-ghost use Prim.Native.Nat.{_/_, _<_};
+ghost use Prim.Native.Nat.{_+_, _/_, _≤_, _<_};
 ghost use lib.ListN.{length, getD};
+ghost use lib.Seq.{sets};
+ghost use Rattle.records.specs.Numbers.{numberAt};
 ghost use Rattle.records.specs.Records.{stored};
 ghost use Rattle.cube.specs.Cubes.{one};
-ghost use Rattle.cube.specs.CubeRecord.{recordWidth, cubes, cubesOf, narrow, recordNumber, halves};
+ghost use Rattle.cube.specs.CubeRecord.{maskWidth, recordWidth, cubes, cubesOf};
 
-// Bytes of a record.
-pub const RECORD_WIDTH: usize = 4;
+// Bytes of a mask, and of a record.
+pub(crate) const MASK_WIDTH: usize = 4;
 
-// How many numbers half of a record holds: seen is the low half, value the high one.
-const HALF: u32 = 65536;
+pub const RECORD_WIDTH: usize = 2 * MASK_WIDTH;
 
 impl Cube {
-    // A cube's record as one number; what of a mask is above 16 bits is cut off.
-    pub fn word(self) -> u32
-        ensures { λ r. ⌜ r ≡ recordNumber self ⌝ }
-    {
-        self.seen % HALF + HALF * (self.value % HALF)
-    }
-
-    // The cube of such a number: a decoded record.
-    pub fn of_word(x: u32) -> Cube
-        ensures { λ r. ⌜ r ≡ halves x ⌝ }
+    // The cube of a decoded record, the first of these bytes; what is past their end counts as 0.
+    pub fn of_record(part: &[u8]) -> Cube
+        ensures { λ r. ⌜ r ≡ cubes .read (now (part .entry)) 0 ⌝ }
     {
         Cube {
-            seen: x % HALF,
-            value: x / HALF,
+            seen: numbers::number4_at(part, 0),
+            value: numbers::number4_at(part, MASK_WIDTH),
         }
     }
+
+    // The cube's record stored as the first of these bytes, as far as they go.
+    pub fn put_in(self, part: &mut [u8])
+        ensures { λ _. ⌜ now (part .exit) ≡ sets (now (part .entry)) 0 (cubes .enc self) ⌝ }
+    {
+        numbers::put_number4(part, 0, self.seen);
+        numbers::put_number4(part, MASK_WIDTH, self.value);
+    }
+}
+
+// The mask in the four bytes from byte `at` on of a list that has them. What goes over many records reads their masks so, one by one: a
+// cube that a function returns is read as one number of eight bytes, and then the compiler compares fewer of them at once.
+pub(crate) fn mask_at(list: &[u8], at: usize) -> u32
+    requires { ⌜ at + maskWidth ≤ length (now list) ⌝ }
+    ensures { λ r. ⌜ r ≡ numberAt maskWidth (now (list .entry)) at ⌝ }
+{
+    let end = at + MASK_WIDTH;
+    numbers::number4_at(&list[at..end], 0)
 }
 
 // The cube at a place that the list has.
@@ -40,7 +52,7 @@ pub fn record_at(list: &[u8], i: usize) -> Cube
 {
     let at = RECORD_WIDTH * i;
     let end = at + RECORD_WIDTH;
-    Cube::of_word(numbers::number4_at(&list[at..end], 0))
+    Cube::of_record(&list[at..end])
 }
 
 // The cube at place i of a list, or the product with no literal past its end.
@@ -56,16 +68,16 @@ pub fn cube_at(list: &[u8], i: usize) -> Cube
 // The cube stored at a place that the list has.
 pub fn put_record(list: &mut [u8], i: usize, c: Cube)
     requires { ⌜ i < length (now list) / recordWidth ⌝ }
-    ensures { λ _. ⌜ now (list .exit) ≡ stored cubes (now (list .entry)) i (narrow c) ⌝ }
+    ensures { λ _. ⌜ now (list .exit) ≡ stored cubes (now (list .entry)) i c ⌝ }
 {
     let from = RECORD_WIDTH * i;
     let to = from + RECORD_WIDTH;
-    numbers::put_number4(&mut list[from..to], 0, c.word());
+    c.put_in(&mut list[from..to]);
 }
 
 // The cube stored at place i of a list; nothing where it has no such place.
 pub fn put_cube(list: &mut [u8], i: usize, c: Cube)
-    ensures { λ _. ⌜ now (list .exit) ≡ stored cubes (now (list .entry)) i (narrow c) ⌝ }
+    ensures { λ _. ⌜ now (list .exit) ≡ stored cubes (now (list .entry)) i c ⌝ }
 {
     if list.len() / RECORD_WIDTH <= i {
         return;

@@ -2,22 +2,35 @@
 use crate::Cube;
 use crate::Valued;
 use crate::list;
+use crate::record::MASK_WIDTH;
+use crate::record::mask_at;
 use bits::packed::Packed;
 use records::Counted;
 use records::Refusal;
 ghost use mathlib.Core.Path.{_≡_};
-ghost use Prim.Native.Nat.{ℕ, _<_, _≤_, _^_};
+ghost use Prim.Native.Nat.{ℕ, _/_, _<_, _≤_, _^_};
 ghost use mathlib.Core.List.{_++_};
-ghost use lib.ListN.{length, drop};
+ghost use lib.ListN.{length, drop, getD};
 ghost use Rattle.bits.specs.Sums.{All, oneIf};
 ghost use Rattle.bits.specs.Packed.{bitAt, both, literalBits};
 ghost use Rattle.records.specs.Answers.{counted};
-ghost use Rattle.cube.specs.Cubes.{code, Good, holds};
-ghost use Rattle.cube.specs.Lists.{cubesOf, trues, listValue, truthVector};
+ghost use Rattle.cube.specs.Cubes.{one, code, Good, holds, HoldsAt};
+ghost use Rattle.cube.specs.Lists.{recordWidth, cubesOf, trues, listValue, truthVector};
 ghost use Rattle.cube.specs.Calls.{valued, valueOutcome, vectorOutcome, vectorAfter};
 
 // Variables of a truth vector, at most.
 pub const VECTOR_VARIABLES: usize = 8;
+
+// Whether the product at a place that the list has is true at a.
+fn true_at(list: &[u8], i: usize, a: u32) -> bool
+    requires { ⌜ i < length (now list) / recordWidth ⌝ }
+    ensures { λ r. ⌜ HoldsAt (getD (cubesOf (now (list .entry))) i one) a r ⌝ }
+{
+    let at = list::RECORD_WIDTH * i;
+    let seen = mask_at(list, at);
+    let value = mask_at(list, at + MASK_WIDTH);
+    Cube { seen, value }.holds_at(a)
+}
 
 // How many products of a list of good cubes are true at a.
 fn trues_at(n: usize, list: &[u8], a: u32) -> usize
@@ -29,7 +42,7 @@ fn trues_at(n: usize, list: &[u8], a: u32) -> usize
     let mut t: usize = 0;
     let mut i: usize = 0;
     while i < count {
-        t += list::cube_at(list, i).holds_at(a) as usize;
+        t += true_at(list, i, a) as usize;
         i += 1;
     }
     t
@@ -79,7 +92,10 @@ fn value_bits(list: &[u8]) -> Packed
     let mut w = Packed::NONE;
     let mut i: usize = 0;
     while i < count {
-        let next = w.sum(product_bits(list::cube_at(list, i)));
+        let at = list::RECORD_WIDTH * i;
+        let seen = mask_at(list, at);
+        let value = mask_at(list, at + MASK_WIDTH);
+        let next = w.sum(product_bits(Cube { seen, value }));
         w = next;
         i += 1;
     }

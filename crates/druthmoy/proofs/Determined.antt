@@ -23,6 +23,10 @@ use Rattle.druthmoy.proofs.dm_run.Kinds as dm-run-kinds
 use Rattle.druthmoy.proofs.dm_run.Reads as dm-run-reads
 use Rattle.druthmoy.proofs.dm_settle.Kinds as dm-settle-kinds
 use Rattle.druthmoy.proofs.dm_settle.Reads as dm-settle-reads
+use Rattle.druthmoy.proofs.dm_wide_from_narrow.Kinds as dm-wide-from-narrow-kinds
+use Rattle.druthmoy.proofs.dm_wide_from_narrow.Reads as dm-wide-from-narrow-reads
+use Rattle.druthmoy.proofs.dm_narrow_from_wide.Kinds as dm-narrow-from-wide-kinds
+use Rattle.druthmoy.proofs.dm_narrow_from_wide.Reads as dm-narrow-from-wide-reads
 
 pub dm-check-determined : Determined 2 dm-check-kinds.ps dm-check-kinds.r dm-check-reads.Learnt
 dm-check-determined κs a z z′ ws ws′ p q = (refl, ap (λ (w : List ℕ). (tt, (tt, (w, tt)))) (same p q))
@@ -55,3 +59,9 @@ dm-settle-determined κs a z z′ ws ws′ p q = (
       (same (p .0) (q .0))
       (ap₂ (λ (b d : List ℕ). (b, d)) (same (p .1 .0) (q .1 .0)) (same (p .1 .1) (q .1 .1))),
 )
+
+pub dm-wide-from-narrow-determined : Determined 3 dm-wide-from-narrow-kinds.ps dm-wide-from-narrow-kinds.r dm-wide-from-narrow-reads.Learnt
+dm-wide-from-narrow-determined κs a z z′ ws ws′ p q = (refl, ap₂ (λ (w b : List ℕ). (tt, (tt, (b, (w, tt))))) (same (p .0) (q .0)) (same (p .1) (q .1)))
+
+pub dm-narrow-from-wide-determined : Determined 3 dm-narrow-from-wide-kinds.ps dm-narrow-from-wide-kinds.r dm-narrow-from-wide-reads.Learnt
+dm-narrow-from-wide-determined κs a z z′ ws ws′ p q = (refl, ap₂ (λ (w b : List ℕ). (tt, (tt, (b, (w, tt))))) (same (p .0) (q .0)) (same (p .1) (q .1)))

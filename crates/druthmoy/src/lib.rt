@@ -5,6 +5,7 @@ ghost use mathlib.Core.Path.{_≡_};
 ghost use lib.ListN.{length};
 ghost use Rattle.cube.specs.Lists.{mostVariables};
 ghost use Rattle.cube.specs.Calls.{checkList, valueOutcome, vectorOutcome, vectorAfter};
+ghost use Rattle.converters.specs.Calls.{wideOutcome, wideAfter, narrowOutcome, narrowAfter};
 ghost use Rattle.polarity.specs.Calls.{coefficientsOutcome, coefficientsAfter, backAfter, formOutcome, formAfter, bestOutcome};
 ghost use Rattle.script.specs.Calls.{runOutcome, runAfter};
 ghost use Rattle.settling.specs.Calls.{settleOutcome, settleWork, settleOut};
@@ -121,4 +122,24 @@ pub extern "C" fn dm_settle(
 {
     let settled = settling::settle::settle(n as usize, list, script, work, out);
     answers::put_settled(answer, settled);
+}
+
+// Wide from narrow: an old list of 4-byte records as a list of 8-byte records. Values: its count.
+#[no_mangle]
+pub extern "C" fn dm_wide_from_narrow(n: u64, list: &[u8], out: &mut [u8], answer: &mut [u64; 8])
+    ensures { λ _. ⌜ now (answer .exit) ≡ words (wideOutcome n (now (list .entry)) (length (now (out .entry)))) ⌝ }
+    ensures { λ _. ⌜ now (out .exit) ≡ wideAfter n (now (list .entry)) (now (out .entry)) ⌝ }
+{
+    let counted = converters::wide_from_narrow::wide_from_narrow(n as usize, list, out);
+    answers::put_counted(answer, counted);
+}
+
+// Narrow from wide: a list of at most 16 variables as a list of 4-byte records. Values: its count.
+#[no_mangle]
+pub extern "C" fn dm_narrow_from_wide(n: u64, list: &[u8], out: &mut [u8], answer: &mut [u64; 8])
+    ensures { λ _. ⌜ now (answer .exit) ≡ words (narrowOutcome n (now (list .entry)) (length (now (out .entry)))) ⌝ }
+    ensures { λ _. ⌜ now (out .exit) ≡ narrowAfter n (now (list .entry)) (now (out .entry)) ⌝ }
+{
+    let counted = converters::narrow_from_wide::narrow_from_wide(n as usize, list, out);
+    answers::put_counted(answer, counted);
 }

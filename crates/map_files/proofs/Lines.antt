@@ -1,4 +1,4 @@
--- The line of two bytes by its tests; a line of one byte is that of `0` and the byte; a line by its length; and every line has at most 16 variables.
+-- The line of two bytes by its tests; a line of one byte is that of `0` and the byte; a line by its length; and no line gives more variables than a list can have.
 -- Assumes nothing.
 use mathlib.Core.Path.{_≡_, refl, sym, subst, _∙_}
 use mathlib.Core.Bool.{Bool, true, false, not, _&&_}
@@ -37,7 +37,7 @@ abbrev Few : Line → Type 0
 Few (Variables n) = n ≤ mostVariables
 Few Bad = Unit {0}
 
--- at most 16 variables, whatever the test
+-- no more of them, whatever the test
 numbered-few : (t : Bool) (n : ℕ) (u : Bool) → leb n mostVariables ≡ u → Few (numbered t n)
 numbered-few true n true e = rw e (leb-true n mostVariables e)
 numbered-few true n false e = rw e tt
@@ -56,7 +56,7 @@ one-digit a e =
     let z : 0 + (a - 48) ≡ a - 48 = omega arith
     in rw z at e
 
--- a line that gives a number gives at most 16
+-- a line that gives a number gives one of them
 pub variables-few : {r : Line} {n : ℕ} (l : List ℕ) → r ≡ lineOf l → r ≡ Variables n → n ≤ mostVariables
 variables-few l e h = subst Few (sym e ∙ h) (line-few l)
 

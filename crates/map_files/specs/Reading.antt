@@ -1,4 +1,4 @@
--- The line that gives the number of variables. Document 01, "The program".
+-- The line that gives the number of variables. Document 01, "The program", with the limit of document 02, Seven.
 -- Assumes nothing.
 use mathlib.Core.Bool.{Bool, cond, _&&_}
 use mathlib.Core.List.{List, [], _∷_}
@@ -9,7 +9,7 @@ use Rattle.text.specs.Numbers.{isDigit}
 use Rattle.map_files.specs.declared.line.Line.{Line}
 use Rattle.map_files.specs.declared.line.Line.the-variants.{Variables, Bad}
 
--- "digits for a number from 0 to 16": that number, or a bad line
+-- "Demand 3 and the program's line read 32 for 16" (document 02, Seven), "digits for a number from 0 to 32": that number, or a bad line
 abbrev pub numbered : Bool → ℕ → Line
 numbered t n = cond (t && leb n mostVariables) (Variables n) Bad
 

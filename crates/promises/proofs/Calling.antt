@@ -1,4 +1,4 @@
--- An accepted call of settle answers a settlement; and what it says of its input, its counts and its buffers.
+-- The buffers of a call by themselves. An accepted call of settle answers a settlement; and what it says of its input, its counts and its buffers.
 -- Assumes nothing.
 use mathlib.Core.Path.{_≡_, sym, _∙_}
 use mathlib.Core.List.{List, [], _∷_}
@@ -19,7 +19,10 @@ pub record Accepting (n : ℕ) (list script work out : List ℕ) (s : Settlement
   pub work-is : work′ ≡ zeros (length work)
   pub out-is : out′ ≡ settleOut n list script (length work) out
 
--- the two buffers
+-- the one buffer of a call, and the two of settle
+pub only : {x y : List ℕ} → _≡_ {A = List (List ℕ)} (x ∷ []) (y ∷ []) → x ≡ y
+only e = cc
+
 work-of : {a b x y : List ℕ} → _≡_ {A = List (List ℕ)} (a ∷ b ∷ []) (x ∷ y ∷ []) → a ≡ x
 work-of e = cc
 

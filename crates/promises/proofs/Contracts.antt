@@ -14,6 +14,10 @@ use Rattle.cube.proofs.value.value.Kinds as value-kinds
 use Rattle.cube.proofs.value.value.Reads as value-reads
 use Rattle.cube.proofs.value.truth_vector.Kinds as truth-vector-kinds
 use Rattle.cube.proofs.value.truth_vector.Reads as truth-vector-reads
+use Rattle.converters.proofs.wide_from_narrow.wide_from_narrow.Kinds as wide-from-narrow-kinds
+use Rattle.converters.proofs.wide_from_narrow.wide_from_narrow.Reads as wide-from-narrow-reads
+use Rattle.converters.proofs.narrow_from_wide.narrow_from_wide.Kinds as narrow-from-wide-kinds
+use Rattle.converters.proofs.narrow_from_wide.narrow_from_wide.Reads as narrow-from-wide-reads
 use Rattle.polarity.proofs.transform.coefficients.Kinds as coefficients-kinds
 use Rattle.polarity.proofs.transform.coefficients.Reads as coefficients-reads
 use Rattle.polarity.proofs.transform.vector_back.Kinds as vector-back-kinds
@@ -44,7 +48,11 @@ use Rattle.druthmoy.proofs.dm_run.Kinds as dm-run-kinds
 use Rattle.druthmoy.proofs.dm_run.Reads as dm-run-reads
 use Rattle.druthmoy.proofs.dm_settle.Kinds as dm-settle-kinds
 use Rattle.druthmoy.proofs.dm_settle.Reads as dm-settle-reads
-use Rattle.promises.specs.Calls.{Call, check, value, truthVector, coefficients, vectorBack, writeForm, bestPolarity, run, settle, answers, leaves, wordsOf, Faced}
+use Rattle.druthmoy.proofs.dm_wide_from_narrow.Kinds as dm-wide-from-narrow-kinds
+use Rattle.druthmoy.proofs.dm_wide_from_narrow.Reads as dm-wide-from-narrow-reads
+use Rattle.druthmoy.proofs.dm_narrow_from_wide.Kinds as dm-narrow-from-wide-kinds
+use Rattle.druthmoy.proofs.dm_narrow_from_wide.Reads as dm-narrow-from-wide-reads
+use Rattle.promises.specs.Calls.{Call, check, value, truthVector, coefficients, vectorBack, writeForm, bestPolarity, run, settle, wideFromNarrow, narrowFromWide, answers, leaves, wordsOf, Faced}
 use Rattle.promises.specs.Contracts.{IsCalled, IsFaced}
 
 -- ---- from Rattle
@@ -102,6 +110,18 @@ pub settle-called : IsCalled 4 settle-kinds.ps settle-kinds.r settle-reads.Learn
     (λ κs a ws. ws .1 .1 .1 .0 ∷ ws .1 .1 .1 .1 .0 ∷ []) (λ κs z. settled z)
 unfolding answers leaves
 settle-called κs a z ws p = record { answer = p .0; left = ap₂ (λ (b d : List ℕ). b ∷ d ∷ []) (p .1 .0) (p .1 .1) }
+
+pub wide-from-narrow-called : IsCalled 2 wide-from-narrow-kinds.ps wide-from-narrow-kinds.r wide-from-narrow-reads.Learnt
+    (λ κs a. wideFromNarrow (a .0) (a .1 .0 .now) (a .1 .1 .0 .now))
+    (λ κs a ws. ws .1 .1 .0 ∷ []) (λ κs z. counted z)
+unfolding answers leaves
+wide-from-narrow-called κs a z ws p = record { answer = p .0; left = ap (λ (b : List ℕ). b ∷ []) (p .1) }
+
+pub narrow-from-wide-called : IsCalled 2 narrow-from-wide-kinds.ps narrow-from-wide-kinds.r narrow-from-wide-reads.Learnt
+    (λ κs a. narrowFromWide (a .0) (a .1 .0 .now) (a .1 .1 .0 .now))
+    (λ κs a ws. ws .1 .1 .0 ∷ []) (λ κs z. counted z)
+unfolding answers leaves
+narrow-from-wide-called κs a z ws p = record { answer = p .0; left = ap (λ (b : List ℕ). b ∷ []) (p .1) }
 
 -- ---- from C and Rust
 
@@ -162,3 +182,15 @@ pub dm-settle-faced : IsFaced 5 dm-settle-kinds.ps dm-settle-kinds.r dm-settle-r
     (λ κs a ws. ws .1 .1 .1 .0 ∷ ws .1 .1 .1 .1 .0 ∷ []) (λ κs a ws. ws .1 .1 .1 .1 .1 .0)
 unfolding answers leaves wordsOf
 dm-settle-faced κs a z ws p = faced _ _ _ (p .0) (ap₂ (λ (b d : List ℕ). b ∷ d ∷ []) (p .1 .0) (p .1 .1))
+
+pub dm-wide-from-narrow-faced : IsFaced 3 dm-wide-from-narrow-kinds.ps dm-wide-from-narrow-kinds.r dm-wide-from-narrow-reads.Learnt
+    (λ κs a. wideFromNarrow (a .0) (a .1 .0 .now) (a .1 .1 .0 .now))
+    (λ κs a ws. ws .1 .1 .0 ∷ []) (λ κs a ws. ws .1 .1 .1 .0)
+unfolding answers leaves wordsOf
+dm-wide-from-narrow-faced κs a z ws p = faced _ _ _ (p .0) (ap (λ (b : List ℕ). b ∷ []) (p .1))
+
+pub dm-narrow-from-wide-faced : IsFaced 3 dm-narrow-from-wide-kinds.ps dm-narrow-from-wide-kinds.r dm-narrow-from-wide-reads.Learnt
+    (λ κs a. narrowFromWide (a .0) (a .1 .0 .now) (a .1 .1 .0 .now))
+    (λ κs a ws. ws .1 .1 .0 ∷ []) (λ κs a ws. ws .1 .1 .1 .0)
+unfolding answers leaves wordsOf
+dm-narrow-from-wide-faced κs a z ws p = faced _ _ _ (p .0) (ap (λ (b : List ℕ). b ∷ []) (p .1))

@@ -18,7 +18,7 @@ use Rattle.script.specs.Scripts.{stepsOf}
 use Rattle.script.specs.Calls.{runOf, ranOutcome, ranWork}
 use Rattle.script.proofs.Refusals.{stopped-steps, stopped-place, stopped-number}
 use Rattle.settling.specs.Calls.{ranSettled, ranBurned}
-use Rattle.promises.specs.Calls.{Call, check, value, truthVector, coefficients, vectorBack, writeForm, bestPolarity, run, settle, answers, lent, leaves, Called}
+use Rattle.promises.specs.Calls.{Call, check, value, truthVector, coefficients, vectorBack, writeForm, bestPolarity, run, settle, wideFromNarrow, narrowFromWide, answers, lent, leaves, Called}
 use Rattle.promises.specs.Refusals.{NoneWrong, FirstWrong, reasons, RefusedBefore, Stopped, RefusedAtStep, in-run, in-settle}
 use Rattle.promises.specs.Accepted.{goesOn, goesOnLeaving, ScriptEnds}
 use Rattle.promises.proofs.Chains.{first-only, not-none}
@@ -46,6 +46,8 @@ at-step (coefficients n vector p out) r buffers none e f = absurd (not-both e)
 at-step (vectorBack n vector p out) r buffers none e f = absurd (not-both e)
 at-step (writeForm n vector p out) r buffers none e f = absurd (not-both e)
 at-step (bestPolarity n vector) r buffers none e f = absurd (not-both e)
+at-step (wideFromNarrow n list out) r buffers none e f = absurd (not-both e)
+at-step (narrowFromWide n list out) r buffers none e f = absurd (not-both e)
 at-step (run n list script work) r buffers none e f = go (runOf n list script (length work)) refl e f
   where
     go : (ran : Ran Cube) → runOf n list script (length work) ≡ ran → ranOutcome ran ≡ refused r → buffers ≡ ranWork (length work) ran ∷ []
@@ -74,6 +76,8 @@ accepts (writeForm n vector p out) s = (_, refl)
 accepts (bestPolarity n vector) s = (_, refl)
 accepts (run n list script work) s = (_, ap ranOutcome (s .is))
 accepts (settle n list script work out) s = (_, ap (ranSettled n (cubesOf list)) (s .is))
+accepts (wideFromNarrow n list out) s = (_, refl)
+accepts (narrowFromWide n list out) s = (_, refl)
 
 -- ---- the demand
 

@@ -1,4 +1,4 @@
--- Demand 3. For every accepted list of up to 4,096 products over up to 16 variables and every script of up to 1,024 steps that is not refused, the list
+-- Demand 3. For every accepted list of up to 4,096 products over up to 32 variables and every script of up to 1,024 steps that is not refused, the list
 -- we burn has the same value as the given one at every assignment, and no more products than the given one or than the list the script ends in; for at
 -- most 8 variables no polarity's form has fewer. Stated of the bytes that `settle` leaves in the output buffer.
 -- Assumes nothing.

@@ -32,11 +32,12 @@ use Rattle.script.specs.Calls.{runOf, ranOutcome, ranWork}
 use Rattle.script.proofs.Value.{run-value}
 use Rattle.promises.specs.Calls.{Call, Called}
 use Rattle.promises.specs.Calls as call
-use Rattle.promises.specs.Refusals.{NoneWrong, listReasons, vectorReasons, reasons}
+use Rattle.promises.specs.Refusals.{NoneWrong, recordReasons, listReasons, vectorReasons, reasons}
 use Rattle.promises.specs.Accepted.{goesOn, goesOnLeaving}
 use Rattle.promises.proofs.Chains.{none-left, none-right}
 use Rattle.promises.proofs.NotWrong.{not-at-most, not-below, is-vector, good-list, fit-script, second-fine, flat-back, list-fine}
 use Rattle.promises.proofs.DemandOne.{accepted-not-wrong, not-wrong-goes-on}
+use Rattle.promises.proofs.Calling.{only}
 
 -- ---- one call
 
@@ -46,9 +47,6 @@ module _ (c : Call) (v : List ℕ) (buffers : List (List ℕ)) (called : Called 
 
   went-on : (accepted v ≡ goesOn c) × (buffers ≡ goesOnLeaving c)
   went-on = not-wrong-goes-on c (accepted v) buffers called fine
-
-only : {x y : List ℕ} → _≡_ {A = List (List ℕ)} (x ∷ []) (y ∷ []) → x ≡ y
-only e = cc
 
 one-value : {x y : ℕ} → accepted (x ∷ []) ≡ accepted (y ∷ []) → x ≡ y
 one-value e = cc
@@ -194,7 +192,7 @@ module _ (n p k a : ℕ) (list v v′ c c′ f f′ : List ℕ) (o₁ o₂ q : O
       → Called (call.writeForm n (take (2 ^ n) c′) p f) (accepted (k ∷ [])) (f′ ∷ [])
       → Called (call.value n (take (recordWidth * k) f′) a) q []
       → (o₁ ≡ accepted (2 ^ n ∷ [])) × (o₂ ≡ accepted (2 ^ n ∷ [])) × (q ≡ accepted (listValue n (cubesOf list) a ∷ []))
-  unfolding goesOn goesOnLeaving reasons listReasons listValue
+  unfolding goesOn goesOnLeaving reasons listReasons recordReasons listValue
   four-calls first second third fourth =
       let g = not-wrong-goes-on (call.truthVector n list v) o₁ (v′ ∷ []) first few in
       let w : take (2 ^ n) v′ ≡ truthVector n (cubesOf list) = front n (listValue n (cubesOf list)) v v′ (g .1) in
@@ -228,5 +226,5 @@ module _ (n : ℕ) (list script work work′ : List ℕ) (count peak : ℕ)
   unfolding reasons
   run-keeps-value m ran =
       let none = fine (call.run n list script work) (count ∷ peak ∷ []) (work′ ∷ []) c in
-      run-value n (cubeCapacity (length work)) (stepsOf script) (fit-script n script (none-right (listReasons mostVariables n list) _ none .1))
-      (cubesOf list) (good-list mostVariables n list (none-left (listReasons mostVariables n list) _ none)) m peak ran
+      run-value n (cubeCapacity (length work)) (stepsOf script) (fit-script n script (none-right (listReasons cubes mostVariables n list) _ none .1))
+      (cubesOf list) (good-list mostVariables n list (none-left (listReasons cubes mostVariables n list) _ none)) m peak ran

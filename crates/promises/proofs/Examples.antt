@@ -13,7 +13,7 @@ use Rattle.records.specs.Records.{listOf, records, capacityOf, image, filled, z
 use Rattle.records.specs.Answers.{accepted}
 use Rattle.cube.specs.Cubes.{code, put, holds, apart, good}
 use Rattle.cube.specs.Lists.{trues, listValue}
-use Rattle.cube.specs.Calls.{checkList}
+use Rattle.cube.specs.Calls.{checkListOf}
 use Rattle.orders.specs.Codes.{third}
 use Rattle.steps.specs.Moves.{joinAt, turnAt, applied}
 use Rattle.steps.specs.Steps.{joinMove, turnMove, exchanged, step, meaning}
@@ -30,8 +30,8 @@ pub marked : allRight table ≡ true
 unfolding allRight right table cubeFrom sameNumbers sameCubes withBit those sumBelow listBelow leastBelow tally bytesOf numberAt removeAt code put holds apart trues listValue third joinAt turnAt applied joinMove turnMove exchanged step stepsFrom undoBy run parityWithin formFrom countsOf bestPolarity bestForm burnedList
 marked = refl
 
--- The printed example is a call of settle: the list's and the script's bytes, and buffers of 16 bytes that held anything; the counts that the program
+-- The printed example is a call of settle: the list's and the script's bytes, and buffers of 32 bytes that held anything; the counts that the program
 -- prints, work all zero, and the two cubes that it prints at the front of the output.
-pub printed : Called (settle 2 printedList printedScript (replicate 16 7) (replicate 16 9)) (accepted printedCounts) (zeros 16 ∷ printedBurned ∷ [])
-unfolding answers leaves settleOutcome settleWork settleOut checkSettle checkList checkScript firstBad listOf records good fits stepsOf meaning runOf withBit those sumBelow listBelow leastBelow tally bytesOf numberAt removeAt code put holds apart trues listValue third joinAt turnAt applied joinMove turnMove exchanged step stepsFrom undoBy run parityWithin formFrom countsOf bestPolarity bestForm burnedList fixedOf capacityOf image filled
+pub printed : Called (settle 2 printedList printedScript (replicate 32 7) (replicate 32 9)) (accepted printedCounts) (zeros 32 ∷ printedBurned ∷ [])
+unfolding answers leaves settleOutcome settleWork settleOut checkSettle checkListOf checkScript firstBad listOf records good fits stepsOf meaning runOf withBit those sumBelow listBelow leastBelow tally bytesOf numberAt removeAt code put holds apart trues listValue third joinAt turnAt applied joinMove turnMove exchanged step stepsFrom undoBy run parityWithin formFrom countsOf bestPolarity bestForm burnedList fixedOf capacityOf image filled
 printed = record { answer = refl; left = refl }

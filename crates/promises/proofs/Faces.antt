@@ -8,15 +8,17 @@ use Prim.Native.Nat.{ℕ, _≤_}
 use native.Mathlib.Omega.{arith}
 use lib.ListN.{getD}
 use Rattle.records.specs.declared.Refusal.{Refusal}
+use Rattle.records.specs.Records.{Codec}
 use Rattle.records.specs.Answers.{Outcome, accepted, refused}
+use Rattle.cube.specs.declared.Cube.{Cube}
 use Rattle.settling.specs.declared.Fixed.{Fixed}
 use Rattle.settling.specs.declared.Fixed.the-variants as fixed-is
 use Rattle.settling.specs.declared.Settled.the-variants as settled-is
 use Rattle.settling.specs.declared.Settlement.{Settlement}
 use Rattle.settling.specs.Calls.{settled}
 use Rattle.druthmoy.specs.Faces.{eight, words, settledWords}
-use Rattle.promises.specs.Calls.{Call, check, value, truthVector, coefficients, vectorBack, writeForm, bestPolarity, run, settle, wordsOf, Faced}
-use Rattle.promises.specs.Refusals.{listReasons, scriptReasons, vectorReasons, reasons, RefusedBefore, RefusedAtStep, in-run, in-settle}
+use Rattle.promises.specs.Calls.{Call, check, value, truthVector, coefficients, vectorBack, writeForm, bestPolarity, run, settle, wideFromNarrow, narrowFromWide, wordsOf, Faced}
+use Rattle.promises.specs.Refusals.{recordReasons, listReasons, scriptReasons, vectorReasons, reasons, RefusedBefore, RefusedAtStep, in-run, in-settle}
 use Rattle.promises.specs.Faced.{polarityWord, sizeWord, SettledFace}
 use Rattle.promises.proofs.Chains.{Numbered, numbered-both, first-number}
 use Rattle.promises.proofs.DemandOne.{refused-call}
@@ -24,9 +26,13 @@ use Rattle.promises.proofs.Calling.{accepted-settled}
 
 -- ---- refused by a number above 0
 
-list-numbered : (limit n : ℕ) (list : List ℕ) → Numbered (listReasons limit n list)
+records-numbered : (C : Codec Cube) (n : ℕ) (list : List ℕ) → Numbered (recordReasons C n list)
+unfolding recordReasons
+records-numbered C n list = (omega arith, (omega arith, (omega arith, tt)))
+
+list-numbered : (C : Codec Cube) (limit n : ℕ) (list : List ℕ) → Numbered (listReasons C limit n list)
 unfolding listReasons
-list-numbered limit n list = (omega arith, (omega arith, (omega arith, (omega arith, tt))))
+list-numbered C limit n list = (omega arith, records-numbered C n list)
 
 script-numbered : (n : ℕ) (script : List ℕ) → Numbered (scriptReasons n script)
 unfolding scriptReasons
@@ -38,16 +44,19 @@ vector-numbered n vector = (omega arith, (omega arith, (omega arith, tt)))
 
 numbered : (c : Call) → Numbered (reasons c)
 unfolding reasons
-numbered (check n list) = list-numbered _ n list
-numbered (value n list a) = numbered-both (listReasons _ n list) _ (list-numbered _ n list) (omega arith, tt)
-numbered (truthVector n list out) = numbered-both (listReasons _ n list) _ (list-numbered _ n list) (omega arith, tt)
+numbered (check n list) = list-numbered _ _ n list
+numbered (value n list a) = numbered-both (listReasons _ _ n list) _ (list-numbered _ _ n list) (omega arith, tt)
+numbered (truthVector n list out) = numbered-both (listReasons _ _ n list) _ (list-numbered _ _ n list) (omega arith, tt)
 numbered (coefficients n vector p out) = numbered-both (vectorReasons n vector) _ (vector-numbered n vector) (omega arith, (omega arith, tt))
 numbered (vectorBack n vector p out) = numbered-both (vectorReasons n vector) _ (vector-numbered n vector) (omega arith, (omega arith, tt))
 numbered (writeForm n vector p out) = numbered-both (vectorReasons n vector) _ (vector-numbered n vector) (omega arith, (omega arith, tt))
 numbered (bestPolarity n vector) = vector-numbered n vector
-numbered (run n list script work) = numbered-both (listReasons _ n list) _ (list-numbered _ n list) (omega arith, script-numbered n script)
+numbered (run n list script work) = numbered-both (listReasons _ _ n list) _ (list-numbered _ _ n list) (omega arith, script-numbered n script)
 numbered (settle n list script work out) =
-    numbered-both (listReasons _ n list) _ (list-numbered _ n list) (omega arith, (omega arith, script-numbered n script))
+    numbered-both (listReasons _ _ n list) _ (list-numbered _ _ n list) (omega arith, (omega arith, script-numbered n script))
+numbered (wideFromNarrow n list out) = numbered-both (listReasons _ _ n list) _ (list-numbered _ _ n list) (omega arith, tt)
+numbered (narrowFromWide n list out) =
+    (omega arith, (omega arith, numbered-both (recordReasons _ n list) _ (records-numbered _ n list) (omega arith, tt)))
 
 step-number : {r : Refusal} {buffers : List (List ℕ)} {c : Call} → RefusedAtStep r buffers c → 1 ≤ r .number
 step-number (in-run n list script work none s e) = omega (arith, s .least)
@@ -66,6 +75,8 @@ words-refused (writeForm n vector p out) r = refl
 words-refused (bestPolarity n vector) r = refl
 words-refused (run n list script work) r = refl
 words-refused (settle n list script work out) r = refl
+words-refused (wideFromNarrow n list out) r = refl
+words-refused (narrowFromWide n list out) r = refl
 
 words-accepted : (c : Call) (v : List ℕ) → getD (wordsOf c (accepted v)) 0 0 ≡ 0
 unfolding wordsOf words settledWords
@@ -78,6 +89,8 @@ words-accepted (writeForm n vector p out) v = refl
 words-accepted (bestPolarity n vector) v = refl
 words-accepted (run n list script work) v = refl
 words-accepted (settle n list script work out) v = refl
+words-accepted (wideFromNarrow n list out) v = refl
+words-accepted (narrowFromWide n list out) v = refl
 
 module _ (c : Call) (answer : List ℕ) (buffers : List (List ℕ)) (F : Faced c answer buffers) where
   -- Refused: word 0 is the number, which is not 0, word 1 the place, and the others are 0.

@@ -2,26 +2,29 @@
 -- Assumes nothing.
 use mathlib.Core.Path.{_≡_, refl, ap}
 use mathlib.Core.List.{List, [], _∷_, _++_}
-use Prim.Native.Nat.{ℕ, _/_, _%_, _^_, _≤_, _<_}
+use Prim.Native.Nat.{ℕ, _*_, _/_, _%_, _^_, _≤_, _<_}
 use native.Mathlib.Omega.{arith}
 use borrow.Author.Tests.{leb-false, leb-true, ltb-true, ltb-false, eqb-false, eqb-true}
 use lib.Dec.{leb, ltb, eqb}
 use lib.ListN.{length}
 use Rattle.records.specs.declared.Refusal.{Refusal}
-use Rattle.records.specs.Records.{listOf}
+use Rattle.records.specs.Records.{Codec, listOf}
 use Rattle.records.specs.Answers.{Outcome, accepted, refused, refusal, unless, andThen}
 use Rattle.records.proofs.Answers.{and-then, and-not, after-refused, after-accepted}
+use Rattle.cube.specs.declared.Cube.{Cube}
 use Rattle.cube.specs.Cubes.{good, one}
-use Rattle.cube.specs.Lists.{mostVariables, vectorVariables, mostRecords, recordWidth, cubesOf, cubeCapacity}
-use Rattle.cube.specs.Calls.{checkList, valueOutcome, vectorOutcome, vectorAfter}
+use Rattle.cube.specs.Lists.{mostVariables, vectorVariables, mostRecords, recordWidth, cubes, cubesOf, cubeCapacity}
+use Rattle.cube.specs.Calls.{checkRecords, checkListOf, checkList, valueOutcome, vectorOutcome, vectorAfter}
+use Rattle.converters.specs.NarrowRecord.{narrowWidth, narrowCubes, narrowCubesOf, narrowVariables}
+use Rattle.converters.specs.Calls.{wideOutcome, wideAfter, narrowOutcome, narrowAfter}
 use Rattle.polarity.specs.Forms.{formFrom}
 use Rattle.polarity.specs.Vectors.{byteAt, isBit, checkVector}
 use Rattle.polarity.specs.Calls.{coefficientsOutcome, coefficientsAfter, backAfter, formOutcome, formAfter, bestOutcome}
 use Rattle.script.specs.Scripts.{stepRecords, stepWidth, mostSteps, fits}
 use Rattle.script.specs.Calls.{checkScript, checkRun, runOf, runOutcome, workAfter, runAfter}
 use Rattle.settling.specs.Calls.{checkSettle, settleOutcome, settleWorkBy, settleWork, settleOutBy, settleOut}
-use Rattle.promises.specs.Calls.{Call, check, value, truthVector, coefficients, vectorBack, writeForm, bestPolarity, run, settle, answers, lent, leaves}
-use Rattle.promises.specs.Refusals.{Reason, at, NoneWrong, FirstWrong, listReasons, scriptReasons, vectorReasons, reasons}
+use Rattle.promises.specs.Calls.{Call, check, value, truthVector, coefficients, vectorBack, writeForm, bestPolarity, run, settle, wideFromNarrow, narrowFromWide, answers, lent, leaves}
+use Rattle.promises.specs.Refusals.{Reason, at, NoneWrong, FirstWrong, recordReasons, listReasons, scriptReasons, vectorReasons, reasons}
 use Rattle.promises.specs.Accepted.{goesOn, goesOnLeaving}
 use Rattle.promises.proofs.Chains.{Judged, judge-end, judge-unless, judge-lowest, judge-and}
 use Rattle.promises.proofs.Chains as chains
@@ -40,16 +43,19 @@ module _ {xs : List Reason} {o rest : Outcome} (j : Judged xs o rest) where
 
 -- ---- the chains
 
-pub by-list : (limit n : ℕ) (list : List ℕ) → Judged (listReasons limit n list) (checkList limit n list) (accepted (length (cubesOf list) ∷ []))
-unfolding checkList listReasons
-by-list limit n list =
-    unless-le
-    (unless-eq
+-- 2 to 4, and 1 to 4, of a list of any kind of record
+by-records : (C : Codec Cube) (n : ℕ) (list : List ℕ) → Judged (recordReasons C n list) (checkRecords C n list) (accepted (length (listOf C list) ∷ []))
+unfolding recordReasons
+by-records C n list =
+    unless-eq
     (unless-le
-    (judge-lowest (good n) one 4 (cubesOf list) (judge-end (accepted (length (cubesOf list) ∷ []))))
-    (length list / recordWidth) mostRecords 3 0)
-    (length list % recordWidth) 0 2 0)
-    n limit 1 0
+    (judge-lowest (good n) one 4 (listOf C list) (judge-end (accepted (length (listOf C list) ∷ []))))
+    (length list / C .width) mostRecords 3 0)
+    (length list % C .width) 0 2 0
+
+pub by-list : (C : Codec Cube) (limit n : ℕ) (list : List ℕ) → Judged (listReasons C limit n list) (checkListOf C limit n list) (accepted (length (listOf C list) ∷ []))
+unfolding checkListOf listReasons
+by-list C limit n list = unless-le (by-records C n list) n limit 1 0
 
 pub by-script : (n : ℕ) (script : List ℕ) → Judged (scriptReasons n script) (checkScript n script) (accepted (length (listOf stepRecords script) ∷ []))
 unfolding checkScript scriptReasons
@@ -70,9 +76,9 @@ by-vector n l =
     n vectorVariables 1 0
 
 -- what is tested of a list, and then `ys`
-after-list : (limit n : ℕ) (list : List ℕ) (ys : List Reason) (o rest : Outcome)
-    → Judged ys o rest → Judged (listReasons limit n list ++ ys) (andThen (checkList limit n list) o) rest
-after-list limit n list ys o rest j = judge-and (listReasons limit n list) ys (checkList limit n list) o rest _ (by-list limit n list) j
+after-list : (C : Codec Cube) (limit n : ℕ) (list : List ℕ) (ys : List Reason) (o rest : Outcome)
+    → Judged ys o rest → Judged (listReasons C limit n list ++ ys) (andThen (checkListOf C limit n list) o) rest
+after-list C limit n list ys o rest j = judge-and (listReasons C limit n list) ys (checkListOf C limit n list) o rest _ (by-list C limit n list) j
 
 after-vector : (n : ℕ) (l : List ℕ) (ys : List Reason) (o rest : Outcome)
     → Judged ys o rest → Judged (vectorReasons n l ++ ys) (andThen (checkVector n l) o) rest
@@ -97,15 +103,15 @@ one-buffer : {b d : List ℕ} → b ≡ d → b ∷ [] ≡ d ∷ []
 one-buffer e = ap (λ (x : List ℕ). x ∷ []) e
 
 pub judged : (c : Call) → Outcomes c
-unfolding answers lent leaves reasons goesOn goesOnLeaving valueOutcome vectorOutcome vectorAfter coefficientsOutcome coefficientsAfter backAfter formOutcome formAfter bestOutcome runOutcome runAfter checkRun checkSettle settleOutcome settleWork settleOut
-judged (check n list) = by-tests (check n list) (checkList mostVariables n list) _ (by-list mostVariables n list) (λ r e. (e, refl)) (λ e. (e, refl))
+unfolding answers lent leaves reasons goesOn goesOnLeaving valueOutcome vectorOutcome vectorAfter coefficientsOutcome coefficientsAfter backAfter formOutcome formAfter bestOutcome runOutcome runAfter checkRun checkSettle settleOutcome settleWork settleOut wideOutcome wideAfter narrowOutcome narrowAfter
+judged (check n list) = by-tests (check n list) (checkList mostVariables n list) _ (by-list cubes mostVariables n list) (λ r e. (e, refl)) (λ e. (e, refl))
 judged (value n list a) =
     by-tests (value n list a) (valueOutcome n list a) _
-    (after-list mostVariables n list _ _ _ (unless-lt (judge-end _) a (2 ^ n) 6 0))
+    (after-list cubes mostVariables n list _ _ _ (unless-lt (judge-end _) a (2 ^ n) 6 0))
     (λ r e. (e, refl)) (λ e. (e, refl))
 judged (truthVector n list out) =
     by-tests (truthVector n list out) (vectorOutcome n list (length out)) _
-    (after-list vectorVariables n list _ _ _ (unless-le (judge-end _) (2 ^ n) (length out) 5 0))
+    (after-list cubes vectorVariables n list _ _ _ (unless-le (judge-end _) (2 ^ n) (length out) 5 0))
     (λ r e. (e, one-buffer (after-refused _ _ out r e))) (λ e. (e, one-buffer (after-accepted _ _ out _ e)))
 judged (coefficients n l p out) =
     by-tests (coefficients n l p out) (coefficientsOutcome n l p (length out)) _
@@ -123,12 +129,12 @@ judged (bestPolarity n l) =
     by-tests (bestPolarity n l) (checkVector n l) _ (by-vector n l) (λ r e. (and-not _ _ r e, refl)) (λ e. (and-then _ _ _ e, refl))
 judged (run n list script work) =
     by-tests (run n list script work) (checkRun n list script (length work)) _
-    (after-list mostVariables n list _ _ _ (unless-le (by-script n script) (length (cubesOf list)) (cubeCapacity (length work)) 5 0))
+    (after-list cubes mostVariables n list _ _ _ (unless-le (by-script n script) (length (cubesOf list)) (cubeCapacity (length work)) 5 0))
     (λ r e. (and-not _ _ r e, one-buffer (ap (λ (o : Outcome). workAfter o work (runOf n list script (length work))) e)))
     (λ e. (and-then _ _ _ e, one-buffer (ap (λ (o : Outcome). workAfter o work (runOf n list script (length work))) e)))
 judged (settle n list script work out) =
     by-tests (settle n list script work out) (checkSettle n list script (length work) (length out)) _
-    (after-list mostVariables n list _ _ _
+    (after-list cubes mostVariables n list _ _ _
     (unless-le (unless-le (by-script n script) (length (cubesOf list)) (cubeCapacity (length out)) 5 0) (length (cubesOf list)) (cubeCapacity (length work)) 5 0))
     (λ r e. (and-not _ _ r e, two-buffers e)) (λ e. (and-then _ _ _ e, two-buffers e))
   where
@@ -136,3 +142,16 @@ judged (settle n list script work out) =
         → leaves (settle n list script work out) ≡ settleWorkBy o work ∷ settleOutBy o n (cubesOf list) (runOf n list script (length work)) out ∷ []
     two-buffers e =
         ap (λ (o : Outcome). settleWorkBy o work ∷ settleOutBy o n (cubesOf list) (runOf n list script (length work)) out ∷ []) e
+judged (wideFromNarrow n list out) =
+    by-tests (wideFromNarrow n list out) (wideOutcome n list (length out)) _
+    (after-list narrowCubes narrowVariables n list _ _ _ (unless-le (judge-end _) (recordWidth * length (narrowCubesOf list)) (length out) 5 0))
+    (λ r e. (e, one-buffer (after-refused _ _ out r e))) (λ e. (e, one-buffer (after-accepted _ _ out _ e)))
+judged (narrowFromWide n list out) =
+    by-tests (narrowFromWide n list out) (narrowOutcome n list (length out)) _
+    (unless-le
+    (unless-le
+    (judge-and (recordReasons cubes n list) _ (checkRecords cubes n list) _ _ _ (by-records cubes n list)
+    (unless-le (judge-end _) (narrowWidth * length (cubesOf list)) (length out) 5 0))
+    n narrowVariables 20 0)
+    n mostVariables 1 0)
+    (λ r e. (e, one-buffer (after-refused _ _ out r e))) (λ e. (e, one-buffer (after-accepted _ _ out _ e)))

@@ -6,6 +6,7 @@ pub mod Calling
 pub mod DemandTwo
 pub mod AnyForm
 pub mod DemandThree
+pub mod Converters
 pub mod NotWrong
 pub mod DemandTwoCalls
 pub mod Faces

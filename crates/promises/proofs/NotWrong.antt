@@ -2,7 +2,7 @@
 -- Assumes nothing.
 use mathlib.Core.Path.{_≡_, refl, sym, ap, _∙_, subst}
 use mathlib.Core.Bool.{true, true≢false}
-use mathlib.Core.List.{List, [], _∷_, _++_, append-nil}
+use mathlib.Core.List.{List, _++_, append-nil}
 use Prim.Native.Nat.{ℕ, suc, _-_, _*_, _/_, _^_, _≤_, _<_}
 use native.Mathlib.Nat.{lt-of-not-le}
 use native.Mathlib.Omega.{arith}
@@ -30,7 +30,7 @@ use Rattle.script.specs.Calls.{checkScript}
 use Rattle.script.proofs.Scripts.{meaning-fits}
 use Rattle.script.proofs.Scripts.{script-accepts}
 use Rattle.promises.specs.Calls as call
-use Rattle.promises.specs.Refusals.{NoneWrong, listReasons, scriptReasons, vectorReasons, reasons}
+use Rattle.promises.specs.Refusals.{NoneWrong, recordReasons, listReasons, scriptReasons, vectorReasons, reasons}
 use Rattle.promises.proofs.Chains.{none-both, judged-right}
 use Rattle.promises.proofs.Judging.{by-list, by-script, by-vector}
 
@@ -45,8 +45,8 @@ not-below a b none = let l : a < suc b = lt-of-not-le (λ h. none 0 (refl, h)) i
 -- ---- what is known where nothing is wrong
 
 -- a list's cubes are good, a script's steps fit, a vector is one
-pub good-list : (limit n : ℕ) (list : List ℕ) → NoneWrong (listReasons limit n list) → All (Good n) (cubesOf list)
-good-list limit n list none = list-laws.check-accepts limit n list _ (judged-right (listReasons limit n list) (checkList limit n list) _ (by-list limit n list) none) .good
+pub good-list : (limit n : ℕ) (list : List ℕ) → NoneWrong (listReasons cubes limit n list) → All (Good n) (cubesOf list)
+good-list limit n list none = list-laws.check-accepts cubes limit n list _ (judged-right (listReasons cubes limit n list) (checkList limit n list) _ (by-list cubes limit n list) none) .good
 
 pub fit-script : (n : ℕ) (script : List ℕ) → NoneWrong (scriptReasons n script) → All (Allowed n) (stepsOf script)
 unfolding stepsOf
@@ -102,7 +102,7 @@ flat-back l =
 -- nothing is wrong of the value of a list of good cubes
 pub list-fine : (n a : ℕ) (l : List Cube) → n ≤ vectorVariables → a < 2 ^ n → length l ≤ mostRecords → All (Good n) l
     → NoneWrong (reasons (call.value n (flat (cubes .enc) l) a))
-unfolding reasons listReasons
+unfolding reasons listReasons recordReasons
 list-fine n a l few h short g =
     let long : length (flat (cubes .enc) l) ≡ recordWidth * length l = length-flat (cubes .enc) recordWidth (lawful .len) l in (
       (λ q w. omega (arith, w .1)),

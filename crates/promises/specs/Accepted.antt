@@ -1,6 +1,6 @@
 -- What each call answers and leaves where nothing before the first step is wrong. Document 01, "Refusal numbers and places": "Accepted, a check answers
 -- the record count; value, the bit; truth vector and coefficients, either way, 2^n; writing a form, its count; best polarity, p and the size; run, count
--- and peak; settle, the counts that the program prints."
+-- and peak; settle, the counts that the program prints." The converters answer the count.
 -- Assumes nothing.
 use mathlib.Core.Path.{_≡_}
 use mathlib.Core.List.{List, [], _∷_, _++_}
@@ -10,6 +10,7 @@ use Rattle.records.specs.Records.{written, zeros}
 use Rattle.records.specs.Answers.{Outcome, accepted}
 use Rattle.cube.specs.declared.Cube.{Cube}
 use Rattle.cube.specs.Lists.{cubes, cubesOf, listValue, truthVector}
+use Rattle.converters.specs.NarrowRecord.{narrowCubes, narrowCubesOf}
 use Rattle.polarity.specs.Forms.{formFrom, size, bestPolarity}
 use Rattle.polarity.specs.Vectors.{byteAt, coefficientVector, vectorBack}
 use Rattle.script.specs.Run.{ended}
@@ -28,6 +29,8 @@ goesOn (call.writeForm n vector p out) = accepted (length (formFrom n p (byteAt 
 goesOn (call.bestPolarity n vector) = accepted (bestPolarity n (byteAt vector) ∷ size n (bestPolarity n (byteAt vector)) (byteAt vector) ∷ [])
 goesOn (call.run n list script work) = ranOutcome (runOf n list script (length work))
 goesOn (call.settle n list script work out) = ranSettled n (cubesOf list) (runOf n list script (length work))
+goesOn (call.wideFromNarrow n list out) = accepted (length (narrowCubesOf list) ∷ [])
+goesOn (call.narrowFromWide n list out) = accepted (length (cubesOf list) ∷ [])
 
 -- "Other calls write the bytes they name and no more"
 unfoldable pub goesOnLeaving : Call → List (List ℕ)
@@ -40,6 +43,8 @@ goesOnLeaving (call.writeForm n vector p out) = written cubes 0 (formFrom n p (b
 goesOnLeaving (call.bestPolarity n vector) = []
 goesOnLeaving (call.run n list script work) = ranWork (length work) (runOf n list script (length work)) ∷ []
 goesOnLeaving (call.settle n list script work out) = zeros (length work) ∷ ranBurned n (cubesOf list) (runOf n list script (length work)) out ∷ []
+goesOnLeaving (call.wideFromNarrow n list out) = written cubes 0 (narrowCubesOf list) out ∷ []
+goesOnLeaving (call.narrowFromWide n list out) = written narrowCubes 0 (cubesOf list) out ∷ []
 
 -- the script, of a call that has one, ends: no step of it is refused
 pub record EndOfScript (n : ℕ) (list script work : List ℕ) : Type 0 where
@@ -57,3 +62,5 @@ ScriptEnds (call.writeForm n vector p out) = Unit {0}
 ScriptEnds (call.bestPolarity n vector) = Unit {0}
 ScriptEnds (call.run n list script work) = EndOfScript n list script work
 ScriptEnds (call.settle n list script work out) = EndOfScript n list script work
+ScriptEnds (call.wideFromNarrow n list out) = Unit {0}
+ScriptEnds (call.narrowFromWide n list out) = Unit {0}

@@ -1,4 +1,4 @@
--- The calls of document 01, each with what its contract says: what it answers, and what it leaves in the buffers that it was lent.
+-- The calls of documents 01 and 02, each with what its contract says: what it answers, and what it leaves in the buffers that it was lent.
 -- Assumes nothing.
 use mathlib.Core.Path.{_≡_}
 use mathlib.Core.List.{List, [], _∷_}
@@ -7,6 +7,7 @@ use lib.ListN.{length}
 use Rattle.records.specs.Answers.{Outcome}
 use Rattle.cube.specs.Lists.{mostVariables}
 use Rattle.cube.specs.Calls.{checkList, valueOutcome, vectorOutcome, vectorAfter}
+use Rattle.converters.specs.Calls.{wideOutcome, wideAfter, narrowOutcome, narrowAfter}
 use Rattle.polarity.specs.Calls.{coefficientsOutcome, coefficientsAfter, backAfter, formOutcome, formAfter, bestOutcome}
 use Rattle.script.specs.Calls.{runOutcome, runAfter}
 use Rattle.settling.specs.Calls.{settleOutcome, settleWork, settleOut}
@@ -31,6 +32,9 @@ pub data Call : Type 0 where
   run : ℕ → List ℕ → List ℕ → List ℕ → Call
   -- "Settle": n, the list, the script, work, out
   settle : ℕ → List ℕ → List ℕ → List ℕ → List ℕ → Call
+  -- "wide from narrow" and "narrow from wide" (document 02, Seven): n, the list, out
+  wideFromNarrow : ℕ → List ℕ → List ℕ → Call
+  narrowFromWide : ℕ → List ℕ → List ℕ → Call
 
 -- what its contract says that it answers
 unfoldable pub answers : Call → Outcome
@@ -43,6 +47,8 @@ answers (writeForm n vector p out) = formOutcome n vector p (length out)
 answers (bestPolarity n vector) = bestOutcome n vector
 answers (run n list script work) = runOutcome n list script (length work)
 answers (settle n list script work out) = settleOutcome n list script (length work) (length out)
+answers (wideFromNarrow n list out) = wideOutcome n list (length out)
+answers (narrowFromWide n list out) = narrowOutcome n list (length out)
 
 -- the buffers that it was lent, as they were
 unfoldable pub lent : Call → List (List ℕ)
@@ -55,6 +61,8 @@ lent (writeForm n vector p out) = out ∷ []
 lent (bestPolarity n vector) = []
 lent (run n list script work) = work ∷ []
 lent (settle n list script work out) = work ∷ out ∷ []
+lent (wideFromNarrow n list out) = out ∷ []
+lent (narrowFromWide n list out) = out ∷ []
 
 -- what its contract says that it leaves in them
 unfoldable pub leaves : Call → List (List ℕ)
@@ -67,6 +75,8 @@ leaves (writeForm n vector p out) = formAfter n vector p out ∷ []
 leaves (bestPolarity n vector) = []
 leaves (run n list script work) = runAfter n list script work ∷ []
 leaves (settle n list script work out) = settleWork n list script work (length out) ∷ settleOut n list script (length work) out ∷ []
+leaves (wideFromNarrow n list out) = wideAfter n list out ∷ []
+leaves (narrowFromWide n list out) = narrowAfter n list out ∷ []
 
 -- the call was made: it answered o, and left these buffers
 pub record Called (c : Call) (o : Outcome) (buffers : List (List ℕ)) : Type 0 where
@@ -84,6 +94,8 @@ wordsOf (writeForm n vector p out) o = words o
 wordsOf (bestPolarity n vector) o = words o
 wordsOf (run n list script work) o = words o
 wordsOf (settle n list script work out) o = settledWords o
+wordsOf (wideFromNarrow n list out) o = words o
+wordsOf (narrowFromWide n list out) o = words o
 
 -- the call was made from C or Rust: it answered these words, and left these buffers
 pub record Faced (c : Call) (answer : List ℕ) (buffers : List (List ℕ)) : Type 0 where

@@ -45,8 +45,9 @@ table =
     -- "n=2, vector 0 1 1 1: polarity 3, size 2; polarity 0 has 3"
     ∷ bestIs 2 (0 ∷ 1 ∷ 1 ∷ 1 ∷ []) 3 2
     ∷ sizeIs 2 (0 ∷ 1 ∷ 1 ∷ 1 ∷ []) 0 3
-    -- "The form of the last: -- then 00, bytes 00 00 00 00 03 00 00 00"
-    ∷ formIs 2 (0 ∷ 1 ∷ 1 ∷ 1 ∷ []) 3 ((2 ∷ 2 ∷ []) ∷ (0 ∷ 0 ∷ []) ∷ []) (0 ∷ 0 ∷ 0 ∷ 0 ∷ 3 ∷ 0 ∷ 0 ∷ 0 ∷ [])
+    -- "The form of the last: -- then 00", whose bytes are two records of 8 (document 02, Seven): 00 00 00 00 00 00 00 00 03 00 00 00 00 00 00 00
+    ∷ formIs 2 (0 ∷ 1 ∷ 1 ∷ 1 ∷ []) 3 ((2 ∷ 2 ∷ []) ∷ (0 ∷ 0 ∷ []) ∷ [])
+    (0 ∷ 0 ∷ 0 ∷ 0 ∷ 0 ∷ 0 ∷ 0 ∷ 0 ∷ 3 ∷ 0 ∷ 0 ∷ 0 ∷ 0 ∷ 0 ∷ 0 ∷ 0 ∷ [])
     -- "Join of -1 and 11: 01"
     ∷ stepIs 2 (join 0 1) ((2 ∷ 1 ∷ []) ∷ (1 ∷ 1 ∷ []) ∷ []) ((0 ∷ 1 ∷ []) ∷ [])
     -- "Turn at 0 of 1-, 01: --, 00. Turn at 1: 10, -1"
@@ -113,7 +114,7 @@ allRight (r ∷ rs) = right r && allRight rs
 -- ---- the printed example: "For n = 2, list 1- -1 11, script join 1 2, turn v=0 0 1, this is all of it"
 
 abbrev pub printedList : List ℕ
-printedList = 1 ∷ 0 ∷ 1 ∷ 0 ∷ 2 ∷ 0 ∷ 2 ∷ 0 ∷ 3 ∷ 0 ∷ 3 ∷ 0 ∷ []
+printedList = 1 ∷ 0 ∷ 0 ∷ 0 ∷ 1 ∷ 0 ∷ 0 ∷ 0 ∷ 2 ∷ 0 ∷ 0 ∷ 0 ∷ 2 ∷ 0 ∷ 0 ∷ 0 ∷ 3 ∷ 0 ∷ 0 ∷ 0 ∷ 3 ∷ 0 ∷ 0 ∷ 0 ∷ []
 
 abbrev pub printedScript : List ℕ
 printedScript = 2 ∷ 0 ∷ 1 ∷ 0 ∷ 2 ∷ 0 ∷ 0 ∷ 0 ∷ 4 ∷ 0 ∷ 0 ∷ 0 ∷ 1 ∷ 0 ∷ 0 ∷ 0 ∷ []
@@ -122,6 +123,6 @@ printedScript = 2 ∷ 0 ∷ 1 ∷ 0 ∷ 2 ∷ 0 ∷ 0 ∷ 0 ∷ 4 ∷ 0 ∷ 0 �
 abbrev pub printedCounts : List ℕ
 printedCounts = 3 ∷ 3 ∷ 2 ∷ 3 ∷ 2 ∷ 2 ∷ []
 
--- "--" and "00", at the front of a buffer of 16 bytes
+-- "--" and "00", at the front of a buffer of 32 bytes
 abbrev pub printedBurned : List ℕ
-printedBurned = 0 ∷ 0 ∷ 0 ∷ 0 ∷ 3 ∷ 0 ∷ 0 ∷ 0 ∷ zeros 8
+printedBurned = 0 ∷ 0 ∷ 0 ∷ 0 ∷ 0 ∷ 0 ∷ 0 ∷ 0 ∷ 3 ∷ 0 ∷ 0 ∷ 0 ∷ zeros 20

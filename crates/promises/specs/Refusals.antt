@@ -4,17 +4,19 @@ use mathlib.Core.Path.{_≡_}
 use mathlib.Core.Logic.{_⊎_, _≢_}
 use mathlib.Core.Bool.{Bool, true, false}
 use mathlib.Core.List.{List, [], _∷_, _++_}
-use Prim.Native.Nat.{ℕ, _/_, _%_, _^_, _≤_, _<_}
+use Prim.Native.Nat.{ℕ, _*_, _/_, _%_, _^_, _≤_, _<_}
 use lib.ListN.{length, getD}
 use Rattle.records.specs.declared.Refusal.{Refusal}
-use Rattle.records.specs.Records.{listOf, zeros}
+use Rattle.records.specs.Records.{Codec, listOf, zeros}
+use Rattle.cube.specs.declared.Cube.{Cube}
 use Rattle.cube.specs.Cubes.{good, one}
-use Rattle.cube.specs.Lists.{mostVariables, vectorVariables, mostRecords, recordWidth, cubesOf, cubeCapacity}
+use Rattle.cube.specs.Lists.{mostVariables, vectorVariables, mostRecords, recordWidth, cubes, cubesOf, cubeCapacity}
+use Rattle.converters.specs.NarrowRecord.{narrowWidth, narrowCubes, narrowCubesOf, narrowVariables}
 use Rattle.polarity.specs.Forms.{formFrom}
 use Rattle.polarity.specs.Vectors.{byteAt, isBit}
 use Rattle.script.specs.Run.{Refused}
 use Rattle.script.specs.Scripts.{stepRecords, stepWidth, mostSteps, fits, stepsOf}
-use Rattle.promises.specs.Calls.{Call, check, value, truthVector, coefficients, vectorBack, writeForm, bestPolarity, run, settle, lent}
+use Rattle.promises.specs.Calls.{Call, check, value, truthVector, coefficients, vectorBack, writeForm, bestPolarity, run, settle, wideFromNarrow, narrowFromWide, lent}
 
 -- ---- a reason to refuse
 
@@ -50,14 +52,17 @@ FirstWrong (x ∷ xs) number place = ((number ≡ reasonNumber x) × Wrong x pla
 
 -- ---- the order of each call
 
--- "Checking a list: 1 to 4", for a call that takes up to `limit` variables
-unfoldable pub listReasons : ℕ → ℕ → List ℕ → List Reason
-listReasons limit n list =
-    at 1 0 (limit < n)
-    ∷ at 2 0 (length list % recordWidth ≢ 0)
-    ∷ at 3 0 (mostRecords < length list / recordWidth)
-    ∷ lowest 4 (good n) one (cubesOf list)
+-- 2 to 4, of a list of this kind of record
+unfoldable pub recordReasons : Codec Cube → ℕ → List ℕ → List Reason
+recordReasons C n list =
+    at 2 0 (length list % C .width ≢ 0)
+    ∷ at 3 0 (mostRecords < length list / C .width)
+    ∷ lowest 4 (good n) one (listOf C list)
     ∷ []
+
+-- "Checking a list: 1 to 4", for a call that takes up to `limit` variables
+unfoldable pub listReasons : Codec Cube → ℕ → ℕ → List ℕ → List Reason
+listReasons C limit n list = at 1 0 (limit < n) ∷ recordReasons C n list
 
 -- "7, 8, 9"
 unfoldable pub scriptReasons : ℕ → List ℕ → List Reason
@@ -77,11 +82,11 @@ vectorReasons n vector =
 
 unfoldable pub reasons : Call → List Reason
 -- "Checking a list: 1 to 4"
-reasons (check n list) = listReasons mostVariables n list
+reasons (check n list) = listReasons cubes mostVariables n list
 -- "Value: 1 to 4, 6": "assignment has a bit at or above n"
-reasons (value n list a) = listReasons mostVariables n list ++ (at 6 0 (2 ^ n ≤ a) ∷ [])
+reasons (value n list a) = listReasons cubes mostVariables n list ++ (at 6 0 (2 ^ n ≤ a) ∷ [])
 -- "Truth vector of a list: 1 to 4, 5 (2^n bytes)"
-reasons (truthVector n list out) = listReasons vectorVariables n list ++ (at 5 0 (length out < 2 ^ n) ∷ [])
+reasons (truthVector n list out) = listReasons cubes vectorVariables n list ++ (at 5 0 (length out < 2 ^ n) ∷ [])
 -- "Coefficients, and back: 1, 14, 15, 5": "polarity has a bit at or above n"
 reasons (coefficients n vector p out) = vectorReasons n vector ++ (at 15 0 (2 ^ n ≤ p) ∷ at 5 0 (length out < 2 ^ n) ∷ [])
 reasons (vectorBack n vector p out) = vectorReasons n vector ++ (at 15 0 (2 ^ n ≤ p) ∷ at 5 0 (length out < 2 ^ n) ∷ [])
@@ -92,13 +97,21 @@ reasons (writeForm n vector p out) =
 reasons (bestPolarity n vector) = vectorReasons n vector
 -- "Run: 1 to 5, 7, 8, 9, then steps in turn": "the work capacity must be at least the given count"
 reasons (run n list script work) =
-    listReasons mostVariables n list ++ (at 5 0 (cubeCapacity (length work) < length (cubesOf list)) ∷ scriptReasons n script)
+    listReasons cubes mostVariables n list ++ (at 5 0 (cubeCapacity (length work) < length (cubesOf list)) ∷ scriptReasons n script)
 -- "Settle: the same; 5 tests work, then output, against the given count"
 reasons (settle n list script work out) =
-    listReasons mostVariables n list
+    listReasons cubes mostVariables n list
     ++ (at 5 0 (cubeCapacity (length work) < length (cubesOf list))
     ∷ at 5 0 (cubeCapacity (length out) < length (cubesOf list))
     ∷ scriptReasons n script)
+-- Wide from narrow: 1 to 4 of an old list, and "5, last, for an output too short" (document 02, Seven): 8 bytes a record
+reasons (wideFromNarrow n list out) =
+    listReasons narrowCubes narrowVariables n list ++ (at 5 0 (length out < recordWidth * length (narrowCubesOf list)) ∷ [])
+-- "narrow from wide gives 20 for n above 16, after 1 and before 2" (document 02, Seven); 5 by 4 bytes a record
+reasons (narrowFromWide n list out) =
+    at 1 0 (mostVariables < n)
+    ∷ at 20 0 (narrowVariables < n)
+    ∷ (recordReasons cubes n list ++ (at 5 0 (length out < narrowWidth * length (cubesOf list)) ∷ []))
 
 -- ---- a refused call
 

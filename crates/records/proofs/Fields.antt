@@ -1,23 +1,23 @@
 -- A kind of record that has numbers for its fields is lawful, and the bytes of what is read are the bytes that were there: from the fields' widths alone.
 -- Assumes nothing.
-use mathlib.Core.Path.{_≡_, refl, sym, ap, ap₂, _∙_, subst}
+use mathlib.Core.Path.{_≡_, refl, sym, ap, ap₂, _∙_}
 use mathlib.Core.Bool.{Bool, true, _&&_}
-use mathlib.Core.List.{List, [], _∷_, _++_, append-assoc}
-use Prim.Native.Nat.{ℕ, suc, _+_, _-_, _*_, _<_, _≤_}
-use native.Mathlib.Nat.{add-zero, zero-add, add-assoc}
+use mathlib.Core.List.{List, [], _∷_, _++_, append-assoc, append-nil}
+use Prim.Native.Nat.{ℕ, suc, _+_, _-_, _*_, _/_, _<_, _≤_}
+use native.Mathlib.Nat.{add-zero, add-assoc}
 use native.Mathlib.Omega.{arith}
 use lib.Dec.{ltb}
-use lib.ListN.{length, getD, replicate, take, drop, length-append, replicate-append-replicate, List·getD-append}
-use lib.Seq.{split-at, length-take-le, getD-append-add}
+use lib.ListN.{length, getD, replicate, take, drop, length-append, length-drop, replicate-append-replicate, List·getD-append}
+use lib.Seq.{sets, split-at, length-take-le, getD-append-add, take-append-le, drop-append-le}
 use borrow.Author.Tests.{ltb-true}
 use Rattle.bits.proofs.Bools.{both-true, below-or}
 use mathlib.Core.Logic.{⊎-elim}
 use Rattle.records.specs.Numbers.{bytesOf, numberAt}
-use Rattle.records.specs.Records.{Codec, flat, filled, image, records, zeros}
+use Rattle.records.specs.Records.{flat, filled, image, records, listOf, zeros}
 use Rattle.records.specs.Fields.{total, fieldBytes, numbersAt, byFields}
-use Rattle.records.proofs.Widths.{length-bytes, bytes-zero, number-past, number-front, bytes-back}
+use Rattle.records.proofs.Widths.{length-bytes, bytes-zero, number-past, number-front, bytes-back, number-part, sets-append}
 use Rattle.records.proofs.Images.{flat-append, length-flat, flat-listBelow}
-use Rattle.records.proofs.Records.{Lawful}
+use Rattle.records.proofs.Records.{Lawful, list-at, place-room}
 
 -- each field has a byte
 abbrev pub positive : List ℕ → Bool
@@ -74,6 +74,20 @@ fields-back b small (w ∷ ws) base at r h =
     ∙ fields-back b small ws base (at + w) (r - w) (omega arith) ∙ ap (λ (n : ℕ). getD b n 0) f)
     (below-or r w)
 
+-- the numbers in a part of a buffer
+numbers-part : (b : List ℕ) (p m : ℕ) (ws : List ℕ) (base at : ℕ) → base + at + total ws ≤ m → numbersAt ws (take m (drop p b)) base at ≡ numbersAt ws b (p + base) at
+numbers-part b p m [] base at h = refl
+numbers-part b p m (w ∷ ws) base at h =
+    ap₂ (λ (y : ℕ) (ys : List ℕ). y ∷ ys)
+    (number-part w b p m (base + at) (omega arith) ∙ ap (numberAt w b) (sym (add-assoc p base at)))
+    (numbers-part b p m ws base (at + w) (omega arith))
+
+-- two numbers stored one after the other
+pub stored-both : (w x y : ℕ) (b : List ℕ) (p : ℕ) → sets (sets b p (bytesOf w x)) (p + w) (bytesOf w y) ≡ sets b p (fieldBytes (w ∷ w ∷ []) (x ∷ y ∷ []))
+stored-both w x y b p =
+    ap (λ (k : ℕ). sets (sets b p (bytesOf w x)) (p + k) (bytesOf w y)) (sym (length-bytes w x))
+    ∙ sets-append b p (bytesOf w x) (bytesOf w y) ∙ ap (λ (vs : List ℕ). sets b p (bytesOf w x ++ vs)) (sym (append-nil (bytesOf w y)))
+
 -- ---- the kind of record
 
 -- what has to be shown of the fields: there are some, and the record is theirs and they the record's
@@ -123,3 +137,23 @@ module _ {A : Type 0} (ws : List ℕ) (fields : A → List ℕ) (of : List ℕ �
       flat-listBelow (λ a. fieldBytes ws (fields a)) (total ws) long k (λ i. of (numbersAt ws s (total ws * i) 0)) s e (λ i r hi hr.
       ap (λ (xs : List ℕ). getD (fieldBytes ws xs) r 0) (F .there s (total ws * i))
       ∙ fields-back s small ws (total ws * i) 0 r hr ∙ ap (λ (n : ℕ). getD s (n + r) 0) (add-zero (total ws * i)))
+
+  -- a record read from its part of the buffer
+  pub fields-in : (b : List ℕ) (i : ℕ) (d : A) → i < length b / total ws
+      → of (numbersAt ws (take (total ws * i + total ws - total ws * i) (drop (total ws * i) b)) 0 0) ≡ getD (listOf (byFields ws fields of) b) i d
+  fields-in b i d h =
+      let p : ℕ = total ws * i in
+      ap of (numbers-part b p (p + total ws - p) ws 0 0 (omega arith) ∙ ap (λ (q : ℕ). numbersAt ws b q 0) (add-zero p))
+      ∙ sym (list-at (byFields ws fields of) b i d h)
+
+  -- a record within a front of bytes is read the same whatever comes after
+  pub fields-front : (s t : List ℕ) (i : ℕ) → i < length s / total ws → byFields ws fields of .read (s ++ t) i ≡ byFields ws fields of .read s i
+  fields-front s t i h =
+      let w : ℕ = total ws in
+      let p : ℕ = w * i in
+      let room : p + w ≤ length s = place-room w (length s) i (F .some) h in
+      let part : take w (drop p (s ++ t)) ≡ take w (drop p s) =
+      ap (take w) (drop-append-le p s t (omega arith)) ∙ take-append-le w (drop p s) t (omega (arith, length-drop p s)) in
+      let alone : (b : List ℕ) → numbersAt ws (take w (drop p b)) 0 0 ≡ numbersAt ws b p 0 =
+      λ b. numbers-part b p w ws 0 0 (omega arith) ∙ ap (λ (q : ℕ). numbersAt ws b q 0) (add-zero p) in
+      ap of (sym (alone (s ++ t)) ∙ ap (λ (b : List ℕ). numbersAt ws b 0 0) part ∙ alone s)

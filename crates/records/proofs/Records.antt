@@ -7,13 +7,15 @@ use native.Mathlib.Nat.{mul-suc, mul-comm, le-trans, mul-le-mul-left, le-div-iff
 use native.Mathlib.Omega.{arith}
 use mathlib.Core.List.{List, [], _∷_, _++_, append-assoc, append-nil}
 use lib.Dec.{ltb}
-use lib.ListN.{length, drop, getD, set, replicate, length-append, length-replicate, length-drop, List·getD-eq-default}
+use lib.ListN.{length, take, drop, getD, set, replicate, length-append, length-replicate, length-drop, List·getD-eq-default}
 use lib.Seq.{sets, length-sets, sets-eq, drop-drop}
 use borrow.Author.Tests.{lt-ltb, le-ltb}
+use borrow.Rule.Slice.PartMut.{putMid}
 use Rattle.bits.proofs.Below.{length-listBelow, getD-listBelow, is-listBelow}
 use Rattle.records.specs.Places.{removeAt}
 use Rattle.records.specs.Records.{flat, filled, Codec, stored, records, listOf, written, image, Holds, Held, capacityOf}
 use Rattle.records.proofs.Filling.{length-filled}
+use Rattle.records.proofs.Widths.{sets-part}
 use Rattle.records.proofs.Images.{length-flat, length-image, image-put, image-push, image-remove, sets-past}
 
 -- What has to be shown of a codec, once for each kind of record
@@ -76,6 +78,19 @@ module _ {A : Type 0} (C : Codec A) where
   pub capacity-most : (limit n : ℕ) → capacityOf C limit n ≤ limit
   unfolding capacityOf
   capacity-most limit n = min-le-right (n / C .width) limit
+
+-- a record stored over its part of the buffer
+pub stored-part : {A : Type 0} (C : Codec A) → Lawful C → (b : List ℕ) (i : ℕ) (a : A) → i < length b / C .width
+    → (part : List ℕ) → part ≡ sets (take (C .width * i + C .width - C .width * i) (drop (C .width * i) b)) 0 (C .enc a)
+    → putMid (C .width * i) (C .width * i + C .width - C .width * i) b part ≡ stored C b i a
+stored-part C K b i a h part e =
+    let p : ℕ = C .width * i in
+    let w : ℕ = C .width in
+    let long : p + w - p ≡ w = omega arith in
+    ap (putMid p (p + w - p) b) e
+    ∙ ap (λ (m : ℕ). putMid p m b (sets (take m (drop p b)) 0 (C .enc a))) long
+    ∙ sets-part b (C .enc a) p w (K .len a) (place-room w (length b) i (K .wide) h)
+    ∙ sym (stored-in C b i a h)
 
 -- bytes are records of one byte, so that what holds of any kind of record holds of them
 abbrev pub bytes : Codec ℕ

@@ -2,9 +2,9 @@
 -- Assumes nothing.
 use mathlib.Core.Path.{_≡_, refl, sym, ap, ap₂, _∙_}
 use mathlib.Core.List.{List, [], _∷_, _++_, append-nil, append-assoc}
-use Prim.Native.Nat.{ℕ, zero, suc, _+_, _*_, _/_, _%_, _^_, _<_, _≤_}
-use native.Mathlib.Nat.{add-zero, add-suc, suc-add, mod-add-div, pow-succ', not-suc-le-zero, le-of-suc-le-suc}
-use native.Mathlib.Numerals.{add-one, add-two, add-three}
+use Prim.Native.Nat.{ℕ, zero, suc, _+_, _-_, _*_, _/_, _%_, _^_, _<_, _≤_}
+use native.Mathlib.Nat.{zero-add, add-zero, add-suc, suc-add, mul-assoc, mod-lt, mod-add-div, pow-succ', one-le-pow, not-suc-le-zero, le-of-suc-le-suc}
+use native.Mathlib.Numerals.{one-add}
 use native.Mathlib.Omega.{arith}
 use lib.ListN.{length, getD, set, take, drop, replicate, length-take, length-drop, drop-of-length-le}
 use lib.Seq.{sets, sets-eq, set-out, getD-append-add, getD-take, getD-drop, drop-drop}
@@ -25,6 +25,9 @@ bytes-zero zero = refl
 bytes-zero (suc zero) = refl
 bytes-zero (suc (suc k)) = ap (λ (l : List ℕ). 0 ∷ l) (bytes-zero (suc k))
 
+high-lt : (m x : ℕ) → x < 256 * m → x / 256 < m
+high-lt m x h = omega arith
+
 -- the bytes of a number that fits are bytes
 pub bytes-lt : (k x i : ℕ) → x < byteSize ^ k → getD (bytesOf k x) i 0 < byteSize
 unfolding bytesOf
@@ -32,12 +35,48 @@ bytes-lt zero x i h = omega arith
 bytes-lt (suc zero) x zero h = omega (arith, pow-succ' 256 0)
 bytes-lt (suc zero) x (suc i) h = omega arith
 bytes-lt (suc (suc k)) x zero h = omega arith
-bytes-lt (suc (suc k)) x (suc i) h = bytes-lt (suc k) (x / 256) i (less (256 ^ suc k) (omega (arith, pow-succ' 256 (suc k))))
-  where
-    less : (m : ℕ) → x < 256 * m → x / 256 < m
-    less m l = omega arith
+bytes-lt (suc (suc k)) x (suc i) h = bytes-lt (suc k) (x / 256) i (high-lt (256 ^ suc k) x (omega (arith, pow-succ' 256 (suc k))))
+
+bytes-more : (k x : ℕ) → 0 < k → bytesOf (suc k) x ≡ x % 256 ∷ bytesOf k (x / 256)
+unfolding bytesOf
+bytes-more zero x l = absurd (omega arith)
+bytes-more (suc k) x l = refl
+
+pow-times : (j z : ℕ) → 256 ^ suc j * z ≡ 256 * (256 ^ j * z)
+pow-times j z = ap (λ (m : ℕ). m * z) (pow-succ' 256 j) ∙ mul-assoc 256 (256 ^ j) z
+
+-- a number of two parts has the bytes of the low one, then those of the high one
+bytes-parts : (j k y z : ℕ) → 0 < k → y < 256 ^ j → bytesOf (j + k) (y + 256 ^ j * z) ≡ bytesOf j y ++ bytesOf k z
+unfolding bytesOf
+bytes-parts zero k y z l h =
+    let none : y + 1 * z ≡ z = omega arith in
+    ap₂ bytesOf (zero-add k) none
+bytes-parts (suc zero) k y z l h =
+    let low : (y + 256 * z) % 256 ≡ y = omega arith in
+    let high : (y + 256 * z) / 256 ≡ z = omega arith in
+    ap (λ (n : ℕ). bytesOf n (y + 256 * z)) (one-add k) ∙ bytes-more k (y + 256 * z) l ∙ ap₂ (λ (u v : ℕ). u ∷ bytesOf k v) low high
+bytes-parts (suc (suc j)) k y z l h =
+    let w : ℕ = 256 ^ suc j * z in
+    let low : (y + 256 * w) % 256 ≡ y % 256 = omega arith in
+    let high : (y + 256 * w) / 256 ≡ y / 256 + w = omega arith in
+    let less : y / 256 < 256 ^ suc j = high-lt (256 ^ suc j) y (omega (arith, pow-succ' 256 (suc j))) in
+    ap₂ (λ (n x : ℕ). bytesOf n (y + x)) (suc-add (suc j) k) (pow-times (suc j) z) ∙ bytes-more (suc j + k) (y + 256 * w) (omega arith)
+    ∙ ap₂ (λ (u v : ℕ). u ∷ bytesOf (suc j + k) v) low high ∙ ap (λ (r : List ℕ). y % 256 ∷ r) (bytes-parts (suc j) k (y / 256) z l less)
 
 -- ---- the number of bytes
+
+pub number-one : (b : List ℕ) (p : ℕ) → getD b p 0 ≡ numberAt 1 b p
+unfolding numberAt
+number-one b p = omega arith
+
+-- the number of a low part and of a high part after it
+pub number-parts : (j k : ℕ) (b : List ℕ) (p x y : ℕ) → x ≡ numberAt j b p → y ≡ numberAt k b (p + j) → x + byteSize ^ j * y ≡ numberAt (j + k) b p
+unfolding numberAt
+number-parts zero k b p x y e f = rw (e, f, zero-add k, add-zero p) (omega arith)
+number-parts (suc j) k b p x y e f =
+    let after : y ≡ numberAt k b (suc p + j) = f ∙ ap (numberAt k b) (add-suc p j ∙ sym (suc-add p j)) in
+    let all : x + 256 ^ suc j * y ≡ getD b p 0 + 256 * numberAt (j + k) b (suc p) = omega (arith, pow-times j y, number-parts j k b (suc p) (numberAt j b (suc p)) y refl after) in
+    all ∙ ap (λ (n : ℕ). numberAt n b p) (sym (suc-add j k))
 
 pub number-past : (k : ℕ) (a b : List ℕ) (p : ℕ) → numberAt k (a ++ b) (length a + p) ≡ numberAt k b p
 unfolding numberAt
@@ -60,7 +99,7 @@ number-front (suc (suc k)) x b h =
     ∙ mod-add-div x 256
 
 -- at and past the end there are no bytes
-pub byte-end : (b : List ℕ) (p : ℕ) → length b ≤ p → 0 ≡ getD b p 0
+byte-end : (b : List ℕ) (p : ℕ) → length b ≤ p → 0 ≡ getD b p 0
 byte-end [] p h = refl
 byte-end (x ∷ b) zero h = absurd (omega arith)
 byte-end (x ∷ b) (suc p) h = byte-end b p (le-of-suc-le-suc h)
@@ -100,39 +139,30 @@ module _ (b : List ℕ) (small : (i : ℕ) → getD b i 0 < byteSize) where
       high : (x y : ℕ) → x < 256 → (x + 256 * y) / 256 ≡ y
       high x y l = omega arith
 
--- ---- stores past the end
+-- ---- stores
 
+-- past the end nothing is stored
 pub sets-end : (b : List ℕ) (p : ℕ) (vs : List ℕ) → length b ≤ p → b ≡ sets b p vs
 sets-end b p [] h = refl
 sets-end b p (v ∷ vs) h = sets-end b (suc p) vs (omega arith) ∙ ap (λ (l : List ℕ). sets l (suc p) vs) (sym (set-out b p v h))
 
--- ---- two and four bytes, one by one
+-- stores one after another
+pub sets-append : (b : List ℕ) (p : ℕ) (us vs : List ℕ) → sets (sets b p us) (p + length us) vs ≡ sets b p (us ++ vs)
+sets-append b p [] vs = ap (λ (q : ℕ). sets b q vs) (add-zero p)
+sets-append b p (u ∷ us) vs = ap (λ (q : ℕ). sets (sets (set b p u) (suc p) us) q vs) (add-suc p (length us) ∙ sym (suc-add p (length us))) ∙ sets-append (set b p u) (suc p) us vs
 
-module _ (b : List ℕ) (p : ℕ) where
-  pub number-two : (x y : ℕ) → x ≡ getD b p 0 → y ≡ getD b (p + 1) 0 → x + 256 * y ≡ numberAt 2 b p
-  unfolding numberAt
-  number-two x y e₀ e₁ = let e : y ≡ getD b (suc p) 0 = e₁ ∙ ap (λ (n : ℕ). getD b n 0) (add-one p) in omega arith
+pub stored-one : (b : List ℕ) (p x : ℕ) → set b p x ≡ sets b p (bytesOf 1 x)
+unfolding bytesOf
+stored-one b p x = refl
 
-  pub number-four : (x y z w : ℕ) → x ≡ getD b p 0 → y ≡ getD b (p + 1) 0 → z ≡ getD b (p + 2) 0 → w ≡ getD b (p + 3) 0
-      → x + 256 * y + 65536 * z + 16777216 * w ≡ numberAt 4 b p
-  unfolding numberAt
-  number-four x y z w e₀ e₁ e₂ e₃ =
-      let f₁ : y ≡ getD b (suc p) 0 = e₁ ∙ ap (λ (n : ℕ). getD b n 0) (add-one p) in
-      let f₂ : z ≡ getD b (suc (suc p)) 0 = e₂ ∙ ap (λ (n : ℕ). getD b n 0) (add-two p) in
-      let f₃ : w ≡ getD b (suc (suc (suc p))) 0 = e₃ ∙ ap (λ (n : ℕ). getD b n 0) (add-three p) in
-      omega arith
-
-  pub stored-two : (x : ℕ) (b₁ b₂ : List ℕ) → b₁ ≡ set b p (x % 256) → b₂ ≡ set b₁ (p + 1) (x / 256) → b₂ ≡ sets b p (bytesOf 2 x)
-  unfolding bytesOf
-  stored-two x b₁ b₂ e₁ e₂ = e₂ ∙ ap₂ (λ (l : List ℕ) (n : ℕ). set l n (x / 256)) e₁ (add-one p)
-
-  pub stored-four : (x : ℕ) (b₁ b₂ b₃ b₄ : List ℕ) → b₁ ≡ set b p (x % 256) → b₂ ≡ set b₁ (p + 1) (x / 256 % 256)
-      → b₃ ≡ set b₂ (p + 2) (x / 65536 % 256) → b₄ ≡ set b₃ (p + 3) (x / 16777216) → b₄ ≡ sets b p (bytesOf 4 x)
-  unfolding bytesOf
-  stored-four x b₁ b₂ b₃ b₄ e₁ e₂ e₃ e₄ =
-      let f₃ : x / 65536 % 256 ≡ x / 256 / 256 % 256 = omega arith in
-      let f₄ : x / 16777216 ≡ x / 256 / 256 / 256 = omega arith in
-      e₄ ∙ rw (e₃, e₂, e₁, f₃, f₄, add-one p, add-two p, add-three p)
+-- the low part of a number stored, and its high part after that
+pub stored-parts : (j k : ℕ) → 0 < k → (b : List ℕ) (p x : ℕ) (b₁ b₂ : List ℕ) → b₁ ≡ sets b p (bytesOf j (x % byteSize ^ j))
+    → b₂ ≡ sets b₁ (p + j) (bytesOf k (x / byteSize ^ j)) → b₂ ≡ sets b p (bytesOf (j + k) x)
+stored-parts j k l b p x b₁ b₂ e₁ e₂ =
+    let y : ℕ = x % 256 ^ j in
+    let z : ℕ = x / 256 ^ j in
+    e₂ ∙ ap₂ (λ (c : List ℕ) (n : ℕ). sets c (p + n) (bytesOf k z)) e₁ (sym (length-bytes j y)) ∙ sets-append b p (bytesOf j y) (bytesOf k z)
+    ∙ ap (sets b p) (sym (bytes-parts j k y z l (mod-lt x (one-le-pow j 256 (omega arith)))) ∙ ap (bytesOf (j + k)) (mod-add-div x (256 ^ j)))
 
 -- ---- a part of a buffer
 
@@ -142,6 +172,10 @@ number-part zero b p m i h = refl
 number-part (suc k) b p m i h =
     ap₂ (λ (x y : ℕ). x + 256 * y) (getD-take m (drop p b) i 0 (omega arith) ∙ getD-drop p b i 0)
     (number-part k b p m (suc i) (omega arith) ∙ ap (numberAt k b) (add-suc p i))
+
+-- a number read as a part of a buffer
+pub number-in : (k : ℕ) (b : List ℕ) (p x : ℕ) → x ≡ numberAt k (take (p + k - p) (drop p b)) 0 → x ≡ numberAt k b p
+number-in k b p x e = e ∙ number-part k b p (p + k - p) 0 (omega arith) ∙ ap (numberAt k b) (add-zero p)
 
 -- bytes stored over a whole part
 pub sets-part : (b vs : List ℕ) (p m : ℕ) → length vs ≡ m → p + m ≤ length b → putMid p m b (sets (take m (drop p b)) 0 vs) ≡ sets b p vs

@@ -14,7 +14,7 @@ use Rattle.cube.specs.Lists.{cubes, cubesOf, recordWidth, mostVariables}
 use Rattle.cube.proofs.Lists.{lawful, AcceptedList, cubes-bytes}
 use Rattle.steps.specs.Calls.{Ready}
 
-module _ (n : ℕ) (list work : List ℕ) (ok : AcceptedList mostVariables n list) (small : (i : ℕ) → getD list i 0 < 256) (fits : length list ≤ length work)
+module _ (n : ℕ) (list work : List ℕ) (ok : AcceptedList cubes mostVariables n list) (small : (i : ℕ) → getD list i 0 < 256) (fits : length list ≤ length work)
     (w : List ℕ) (e : w ≡ filledBy work list) where
   abbrev count : ℕ
   count = length list / recordWidth

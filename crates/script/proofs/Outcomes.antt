@@ -10,7 +10,6 @@ use borrow.Author.Tests.{le-leb, lt-leb, leb-true}
 use lib.Dec.{leb}
 use lib.ListN.{length}
 use Rattle.records.specs.declared.Refusal.{Refusal}
-use Rattle.records.specs.Records.{image, zeros}
 use Rattle.records.specs.Answers.{Outcome, accepted, refused, refusal, unless, andThen, Accepts}
 use Rattle.records.proofs.Answers.{not-both, accepted-values, refused-same, unless-accepted, both-accepted, and-then, and-not}
 use Rattle.records.proofs.Records.{length-list}
@@ -44,7 +43,7 @@ module _ (n : ℕ) (list script : List ℕ) (room : ℕ) where
 
   -- what passed
   pub record AcceptedRun : Type 0 where
-    pub list-is : AcceptedList mostVariables n list
+    pub list-is : AcceptedList cubes mostVariables n list
     pub fits : length list / recordWidth ≤ cubeCapacity room
     pub script-is : AcceptedScript n script
 
@@ -54,7 +53,7 @@ module _ (n : ℕ) (list script : List ℕ) (room : ℕ) where
       let b = both-accepted (checkList mostVariables n list) _ (p .values) (p .is) in
       let c = unless-accepted (leb (length (cubesOf list)) (cubeCapacity room)) 5 0 (checkScript n script) (p .values) (b .second) in
       record {
-        list-is = check-accepts mostVariables n list (b .values) (b .first);
+        list-is = check-accepts cubes mostVariables n list (b .values) (b .first);
         fits = omega (arith, leb-true (length (cubesOf list)) (cubeCapacity room) (c .0), length-list cubes list);
         script-is = script-accepts n script (p .values) (c .1);
       }

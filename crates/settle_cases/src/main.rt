@@ -1,5 +1,5 @@
 // Cases of `settle`, a row each in the file `cases`: the line, the list's file and the script's file, with a bar between them. Each row is printed, and after it
-// what the program prints for it.
+// what the program prints for it. A row that begins with `#` is a remark.
 use libc::STDOUT_FILENO;
 ghost use Prim.Native.Nat.{_≤_};
 ghost use lib.ListN.{length};
@@ -7,6 +7,8 @@ ghost use lib.ListN.{length};
 const NEWLINE: u8 = 10;
 
 const BAR: u8 = b'|';
+
+const REMARK: u8 = b'#';
 
 // The place of a byte in a text, from a place on; the text's length where there is none.
 fn find(text: &[u8], from: usize, b: u8) -> usize
@@ -34,10 +36,8 @@ fn past(text: &[u8], p: usize) -> usize
     p
 }
 
-// One row: its three parts.
+// What the program prints for the three parts of a row.
 fn case(row: &[u8]) {
-    io::write_all(STDOUT_FILENO, row);
-    io::write_all(STDOUT_FILENO, b"\n");
     let start: usize = 0;
     let a = find(row, start, BAR);
     let b = past(row, a);
@@ -46,12 +46,24 @@ fn case(row: &[u8]) {
     map_files::settle_named(&row[start..a], &row[b..c], &row[d..]);
 }
 
+// One row: printed, and settled where it is no remark.
+fn row(text: &[u8]) {
+    io::write_all(STDOUT_FILENO, text);
+    io::write_all(STDOUT_FILENO, b"\n");
+    if 0 < text.len() {
+        if text[0] == REMARK {
+            return;
+        }
+    }
+    case(text);
+}
+
 // All rows.
 fn cases(table: &[u8]) {
     let mut p: usize = 0;
     while p < table.len() {
         let end = find(table, p, NEWLINE);
-        case(&table[p..end]);
+        row(&table[p..end]);
         if end == table.len() {
             return;
         }

@@ -15,7 +15,7 @@ use Rattle.bits.specs.Sums.{All}
 use Rattle.bits.proofs.Sums.{all-map}
 use Rattle.records.specs.declared.Refusal.{Refusal}
 use Rattle.records.specs.Records.{Holds, listOf, records, image, filled, flat, zeros}
-use Rattle.records.specs.Answers.{Outcome, accepted, refused, refusal, andThen}
+use Rattle.records.specs.Answers.{Outcome, accepted, refused, andThen}
 use Rattle.records.proofs.Answers.{not-both, refused-same, both-accepted, unless-accepted}
 use Rattle.records.proofs.Images.{length-flat}
 use Rattle.records.proofs.Records.{capacity-fits, holds-records, image-holds}
@@ -44,7 +44,7 @@ use Rattle.settling.proofs.Fewest.{burned-le-given, burned-le-result, b
 -- ---- what passed before the first step
 
 pub record AcceptedSettle (n : ℕ) (list script : List ℕ) (work out : ℕ) : Type 0 where
-  pub list-is : AcceptedList mostVariables n list
+  pub list-is : AcceptedList cubes mostVariables n list
   pub work-room : length (cubesOf list) ≤ cubeCapacity work
   pub out-room : length (cubesOf list) ≤ cubeCapacity out
   pub script-is : AcceptedScript n script
@@ -58,7 +58,7 @@ settle-checked n list script work out v e =
     let d = unless-accepted (leb (length (cubesOf list)) (cubeCapacity out)) 5 0 (checkScript n script) v (c .1) in
     let s = script-accepts n script v (d .1) in
     record {
-      list-is = check-accepts mostVariables n list (b .values) (b .first);
+      list-is = check-accepts cubes mostVariables n list (b .values) (b .first);
       work-room = leb-true _ _ (c .0);
       out-room = leb-true _ _ (d .0);
       script-is = s;

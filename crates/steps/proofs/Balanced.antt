@@ -9,7 +9,7 @@ use native.Mathlib.Omega.{arith}
 use lib.ListN.{length, getD}
 use Rattle.bits.specs.Sums.{_⊕_, sum, All}
 use Rattle.steps.specs.Moves.{Move, refuse, drops, joins, splits, turns, After, stop, next, applied, mapMove}
-use Rattle.steps.specs.Changes.{Placed, Writes}
+use Rattle.steps.specs.Changes.{Placed}
 use Rattle.steps.proofs.Places.{length-drop-at, length-join-at, length-split-at, length-turn-at, all-drop, all-join, all-split, all-turn, drop-map, join-map, split-map, turn-map, sum-drop, sum-join, sum-split, sum-turn}
 
 module _ {A : Type 0} where
@@ -20,6 +20,14 @@ module _ {A : Type 0} where
   Balanced w a b (joins x) = w x ≡ w a ⊕ w b
   Balanced w a b (splits x y) = w x ⊕ w y ≡ w a
   Balanced w a b (turns x y) = w x ⊕ w y ≡ w a ⊕ w b
+
+  -- P holds of every record that it writes
+  unfoldable pub Writes : (A → Type 0) → Move A → Type 0
+  Writes P (refuse r) = Unit {0}
+  Writes P drops = Unit {0}
+  Writes P (joins x) = P x
+  Writes P (splits x y) = P x × P y
+  Writes P (turns x y) = P x × P y
 
   -- how many records it adds, and how many it takes away
   abbrev pub added : Move A → ℕ
@@ -87,14 +95,6 @@ module _ {A : Type 0} where
   placed-more count cap room i j (joins y) h p = p
   placed-more count cap room i j (splits y z) h p = record { inside = p .inside; more = lt-of-lt-of-le (p .more) h }
   placed-more count cap room i j (turns y z) h p = p
-
-  pub writes-more : (P Q : A → Type 0) → ((x : A) → P x → Q x) → (m : Move A) → Writes P m → Writes Q m
-  unfolding Writes
-  writes-more P Q h (refuse number) w = w
-  writes-more P Q h drops w = w
-  writes-more P Q h (joins y) w = h y w
-  writes-more P Q h (splits y z) w = (h y (w .0), h z (w .1))
-  writes-more P Q h (turns y z) w = (h y (w .0), h z (w .1))
 
 -- ---- sound moves
 

@@ -13,11 +13,11 @@ use Rattle.cube.proofs.Codes.{code-lt, code-same, code-other, put-good, cube-ex
 use Rattle.cube.proofs.Apart.{apart-none, apart-one, Two}
 use Rattle.orders.specs.Codes.{third, lower, higher}
 use Rattle.orders.proofs.Codes.{third-lt, lower-lt, lower-other, higher-lt, higher-third}
-use Rattle.steps.specs.Moves.{Move, refuse}
+use Rattle.steps.specs.Moves.{Move}
 use Rattle.steps.specs.Steps.{thirdAt, dropMove, joinMove, splitMove, turnMove}
-use Rattle.steps.specs.Changes.{Placed, Writes}
+use Rattle.steps.specs.Changes.{Placed}
 use Rattle.steps.proofs.Linear.{Linear}
-use Rattle.steps.proofs.Balanced.{SoundBy, refuse-sound}
+use Rattle.steps.proofs.Balanced.{Writes, SoundBy, refuse-sound}
 use Rattle.steps.proofs.Inversion.{drop-by, join-by, turn-by, split-by, two-of}
 
 -- ---- the cubes of each rewrite

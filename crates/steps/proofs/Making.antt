@@ -6,7 +6,7 @@ use Prim.Native.Nat.{ℕ, zero, suc, _≤_, _<_}
 use native.Mathlib.Omega.{arith}
 use lib.ListN.{length}
 use Rattle.cube.specs.declared.Cube.{Cube}
-use Rattle.cube.specs.Cubes.{one, Good}
+use Rattle.cube.specs.Cubes.{one, Good, maskBits}
 use Rattle.cube.specs.Lists.{mostVariables}
 use Rattle.steps.specs.declared.Change.{Change}
 use Rattle.steps.specs.declared.StepRecord.{StepRecord}
@@ -28,7 +28,7 @@ module _ (x : StepRecord) where
   means-fits n op e k = subst (Allowed n) (means op e) (k .fits)
 
   -- a used variable is one of the masks' variables
-  pub split-below : (n : ℕ) → Known n x → n ≤ mostVariables → x .op ≡ 3 → x .v < 32
+  pub split-below : (n : ℕ) → Known n x → n ≤ mostVariables → x .op ≡ 3 → x .v < maskBits
   split-below n k few e = let l : x .v < n = means-fits n 3 e k in omega arith
 
   -- of the known operations but L, the one that is no drop, join or split

@@ -3,13 +3,13 @@
 use mathlib.Core.Path.{_≡_}
 use mathlib.Core.Bool.{cond, _&&_}
 use mathlib.Core.List.{List}
-use Prim.Native.Nat.{ℕ, _^_, _<_}
+use Prim.Native.Nat.{ℕ, _+_, _*_, _/_, _%_, _^_, _<_}
 use lib.Bits.{bitXor}
 use lib.Dec.{eqb, ltb}
 use Rattle.records.specs.Records.{Codec}
 use Rattle.cube.specs.declared.Cube.{Cube}
 use Rattle.cube.specs.Cubes.{one, withCode}
-use Rattle.cube.specs.CubeRecord.{cubes, narrow, recordNumber}
+use Rattle.cube.specs.CubeRecord.{cubes}
 use Rattle.orders.specs.Orders.{codeAfter}
 use Rattle.steps.specs.declared.Change.{Change}
 use Rattle.steps.specs.declared.Change.the-variants as change-is
@@ -46,18 +46,6 @@ Placed count room i j (joins x) = TwoPlaces count i j
 Placed count room i j (splits x y) = OnePlace count room i
 Placed count room i j (turns x y) = TwoPlaces count i j
 
--- P holds of every record that a move writes
-unfoldable pub Writes : {A : Type 0} → (A → Type 0) → Move A → Type 0
-Writes P (refuse number) = Unit {0}
-Writes P drops = Unit {0}
-Writes P (joins x) = P x
-Writes P (splits x y) = P x × P y
-Writes P (turns x y) = P x × P y
-
--- a cube that fits its record
-unfoldable pub Narrow : Cube → Type 0
-Narrow c = narrow c ≡ c
-
 -- what is decided of a step, from the cubes a and b at its places
 pub record Decided (n count cap : ℕ) (x : StepRecord) (a b : Cube) (change : Change) : Type 0 where
   pub is : moveOf change ≡ decision n count cap (meaning x) a b
@@ -74,16 +62,27 @@ Done = DoneBy cubes
 abbrev pub literalAfter : ℕ → ℕ → ℕ → Cube
 literalAfter v o x = withCode one v (codeAfter o x)
 
+-- how many numbers a mask holds
+abbrev pub halfSize : ℕ
+halfSize = 4294967296
+
+-- the two masks of a cube as one number: seen is its low half, value its high half; and the cube of such a number
+abbrev pub wordOf : Cube → ℕ
+wordOf c = c .seen + halfSize * c .value
+
+abbrev pub halves : ℕ → Cube
+halves x = record { seen = x % halfSize; value = x / halfSize }
+
 -- the order o at the variable v, as masks
 unfoldable pub masksAt : ℕ → ℕ → Masks
 masksAt v o = record {
-  own = recordNumber (record {
+  own = wordOf (record {
     seen = bitXor (bitXor (2 ^ v) (literalAfter v o 0 .seen)) (literalAfter v o 2 .seen);
     value = bitXor (bitXor (2 ^ v) (literalAfter v o 0 .value)) (literalAfter v o 1 .value);
   });
-  other = recordNumber (record {
+  other = wordOf (record {
     seen = bitXor (literalAfter v o 0 .seen) (literalAfter v o 1 .seen);
     value = bitXor (literalAfter v o 0 .value) (literalAfter v o 2 .value);
   });
-  always = recordNumber (literalAfter v o 2);
+  always = wordOf (literalAfter v o 2);
 }

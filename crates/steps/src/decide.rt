@@ -4,7 +4,7 @@ use crate::StepRecord;
 use cube::Cube;
 ghost use mathlib.Core.Path.{_≡_};
 ghost use Prim.Native.Nat.{_^_, _<_, _≤_};
-ghost use Rattle.cube.specs.Cubes.{code, withCode, Good};
+ghost use Rattle.cube.specs.Cubes.{code, withCode, Good, maskBits};
 ghost use Rattle.cube.specs.Lists.{mostVariables};
 ghost use Rattle.orders.specs.Codes.{thirdOf, lower, higher};
 ghost use Rattle.steps.specs.Steps.{dropMove, joinMove, splitMove, turnMove};
@@ -29,7 +29,7 @@ pub fn two_places(count: usize, i: usize, j: usize) -> u8
 
 // The set of one variable.
 fn only(v: u32) -> u32
-    requires { ⌜ v < 32 ⌝ }
+    requires { ⌜ v < maskBits ⌝ }
     ensures { λ r. ⌜ r ≡ 2 ^ v ⌝ }
 {
     1 << v
@@ -97,7 +97,7 @@ fn decide_join(n: usize, count: usize, i: usize, j: usize, a: Cube, b: Cube) -> 
 
 // Split: 10; 13 at capacity.
 fn decide_split(count: usize, cap: usize, v: u32, i: usize, a: Cube) -> Change
-    requires { ⌜ v < 32 ⌝ }
+    requires { ⌜ v < maskBits ⌝ }
     ensures { λ r. ⌜ moveOf r ≡ splitMove count cap v i a ⌝ }
 {
     if count <= i {

@@ -11,7 +11,7 @@ ghost use Rattle.records.specs.Records.{Held, records, image};
 ghost use Rattle.cube.specs.Cubes.{one};
 ghost use Rattle.cube.specs.Lists.{cubes, recordWidth};
 ghost use Rattle.steps.specs.Moves.{applied};
-ghost use Rattle.steps.specs.Changes.{moveOf, Placed, Writes, Narrow, Done};
+ghost use Rattle.steps.specs.Changes.{moveOf, Placed, Done};
 
 pub fn smaller(i: usize, j: usize) -> usize
     ensures { λ r. ⌜ r ≡ min i j ⌝ }
@@ -47,7 +47,6 @@ fn remove(work: &mut [u8], count: usize, i: usize)
 pub(crate) fn perform(work: &mut [u8], count: usize, i: usize, j: usize, change: Change) -> Stepped
     requires { ⌜ Held cubes count (now work) ⌝ }
     requires { ⌜ Placed count (length (now work) / recordWidth) i j (moveOf change) ⌝ }
-    requires { ⌜ Writes Narrow (moveOf change) ⌝ }
     ensures { λ r. ⌜ Done (now (work .entry)) (now (work .exit)) (applied one i j (records cubes count (now (work .entry))) (moveOf change)) r ⌝ }
 {
     match change {

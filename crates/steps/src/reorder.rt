@@ -4,27 +4,47 @@ use cube::Cube;
 use cube::list;
 ghost use mathlib.Core.Path.{_≡_};
 ghost use mathlib.Core.List.{map};
-ghost use Prim.Native.Nat.{ℕ, _^_, _<_};
+ghost use Prim.Native.Nat.{ℕ, _<_};
 ghost use lib.ListN.{length};
 ghost use Rattle.bits.specs.Sums.{All};
 ghost use Rattle.records.specs.Records.{Held, records, image};
-ghost use Rattle.cube.specs.Cubes.{Good};
+ghost use Rattle.cube.specs.Cubes.{Good, maskBits};
 ghost use Rattle.cube.specs.Lists.{cubes, mostVariables};
 ghost use Rattle.orders.specs.Orders.{orderCount};
 ghost use Rattle.steps.specs.Steps.{reordered};
-ghost use Rattle.steps.specs.Changes.{masksAt};
+ghost use Rattle.steps.specs.Changes.{wordOf, halves, masksAt};
 
-// An order of the codes at one variable, as masks of a record's number, with seen in its low half and value in its high half. A bit of the
-// variable is changed by the sum, modulo 2, of: itself where `own` is set, the variable's other bit where `other` is, and 1 where `always` is.
+// How many numbers a mask holds.
+const HALF: u64 = 4294967296;
+
+// The two masks of a cube as one number, with seen in its low half and value in its high half: what is done to each of them is done at once.
+fn word(c: Cube) -> u64
+    ensures { λ r. ⌜ r ≡ wordOf c ⌝ }
+{
+    c.seen as u64 + HALF * (c.value as u64)
+}
+
+// The cube of such a number.
+fn of_word(x: u64) -> Cube
+    ensures { λ r. ⌜ r ≡ halves x ⌝ }
+{
+    Cube {
+        seen: (x % HALF) as u32,
+        value: (x / HALF) as u32,
+    }
+}
+
+// An order of the codes at one variable, as masks of such numbers. A bit of the variable is changed by the sum, modulo 2, of: itself where
+// `own` is set, the variable's other bit where `other` is, and 1 where `always` is.
 struct Masks {
-    own: u32,
-    other: u32,
-    always: u32,
+    own: u64,
+    other: u64,
+    always: u64,
 }
 
 // The order o at the variable v, as masks: three codes, so that each new bit is such a sum.
 fn masks_at(v: u32, o: u8) -> Masks
-    requires { ⌜ v < 32 ⌝ }
+    requires { ⌜ v < maskBits ⌝ }
     ensures { λ r. ⌜ r ≡ masksAt v o ⌝ }
 {
     let at: u32 = 1 << v;
@@ -40,9 +60,9 @@ fn masks_at(v: u32, o: u8) -> Masks
         value: x.value ^ z.value,
     };
     Masks {
-        own: own.word(),
-        other: other.word(),
-        always: z.word(),
+        own: word(own),
+        other: word(other),
+        always: word(z),
     }
 }
 
@@ -55,9 +75,9 @@ fn recoded(k: Masks, c: Cube) -> Cube
         seen: c.value,
         value: c.seen,
     };
-    let x = c.word();
-    let y = crossed.word();
-    Cube::of_word(x ^ (x & k.own) ^ (y & k.other) ^ k.always)
+    let x = word(c);
+    let y = word(crossed);
+    of_word(x ^ (x & k.own) ^ (y & k.other) ^ k.always)
 }
 
 // Every cube's code at v moved by the order o. The pass ends by the length of the buffer too, which shows the compiler that each place lies in it.

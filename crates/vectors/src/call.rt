@@ -5,6 +5,8 @@ use crate::head::Head;
 use crate::item;
 use crate::item::Kind;
 use crate::print;
+use converters::narrow_from_wide;
+use converters::wide_from_narrow;
 use cube::list;
 use cube::value;
 use polarity::choose;
@@ -60,6 +62,24 @@ fn on_list(name: usize, h: Head, list: &[u8], script: &[u8], out: &mut [u8]) {
     run(h.n, list, script, out);
 }
 
+fn wide(n: usize, list: &[u8], out: &mut [u8]) {
+    print::listed(n, wide_from_narrow::wide_from_narrow(n, list, out), out);
+}
+
+fn narrow(n: usize, list: &[u8], out: &mut [u8]) {
+    print::counted(narrow_from_wide::narrow_from_wide(n, list, out));
+    print::bytes(out);
+}
+
+// The converters of lists.
+fn convert(name: usize, n: usize, list: &[u8], out: &mut [u8]) {
+    if name == head::WIDE {
+        wide(n, list, out);
+        return;
+    }
+    narrow(n, list, out);
+}
+
 fn test(n: usize, bits: &[u8]) {
     print::counted(vector::check_vector(n, bits));
 }
@@ -112,8 +132,12 @@ fn on_bits(name: usize, h: Head, bits: &[u8], out: &mut [u8]) {
 fn lend(name: usize, h: Head, bytes: &[u8], script: &[u8]) {
     let mut out = [UNTOUCHED; MOST_ROOM];
     let size = data::within(h.room, &out);
-    if name < head::TEST {
+    if name < head::WIDE {
         on_list(name, h, bytes, script, &mut out[..size]);
+        return;
+    }
+    if name < head::TEST {
+        convert(name, h.n, bytes, &mut out[..size]);
         return;
     }
     on_bits(name, h, bytes, &mut out[..size]);
@@ -127,7 +151,7 @@ fn first_kind(name: usize, n: usize) -> Kind {
             n: 0,
         };
     }
-    if MOST_CODES < n {
+    if name == head::WIDE || MOST_CODES < n {
         return Kind {
             of: item::NOTHING,
             n: 0,

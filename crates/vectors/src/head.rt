@@ -3,7 +3,7 @@ use text::ReadNumber;
 use text::number;
 use text::place;
 
-// The calls: those on lists, and from TEST on those on vectors and coefficients.
+// The calls: those on lists, from WIDE on the two converters of lists, and from TEST on those on vectors and coefficients.
 pub(crate) const CHECK: usize = 1;
 
 pub(crate) const VALUE: usize = 2;
@@ -12,15 +12,19 @@ pub(crate) const VECTOR: usize = 3;
 
 pub(crate) const RUN: usize = 4;
 
-pub(crate) const TEST: usize = 5;
+pub(crate) const WIDE: usize = 5;
 
-pub(crate) const BEST: usize = 6;
+pub(crate) const NARROW: usize = 6;
 
-pub(crate) const FORM: usize = 7;
+pub(crate) const TEST: usize = 7;
 
-pub(crate) const COEFFICIENTS: usize = 8;
+pub(crate) const BEST: usize = 8;
 
-pub(crate) const BACK: usize = 9;
+pub(crate) const FORM: usize = 9;
+
+pub(crate) const COEFFICIENTS: usize = 10;
+
+pub(crate) const BACK: usize = 11;
 
 // A number and the place after it; 0 and the same place where there is none.
 pub(crate) struct Numeral {
@@ -51,11 +55,21 @@ fn name_by_b(row: &[u8], first: u8) -> ReadNumber {
     either(row, b"run ", RUN, b"test ", TEST)
 }
 
+fn name_by_w(row: &[u8], first: u8) -> ReadNumber {
+    if first == b'w' {
+        return place::word_at(row, 0, b"wide ", WIDE);
+    }
+    if first == b'n' {
+        return place::word_at(row, 0, b"narrow ", NARROW);
+    }
+    name_by_b(row, first)
+}
+
 fn name_by_v(row: &[u8], first: u8) -> ReadNumber {
     if first == b'v' {
         return either(row, b"value ", VALUE, b"vector ", VECTOR);
     }
-    name_by_b(row, first)
+    name_by_w(row, first)
 }
 
 // The name that a row begins with, by its first letter.

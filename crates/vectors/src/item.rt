@@ -1,5 +1,6 @@
 // The items of a part: cubes, steps or bits; bytes in hexadecimal, after an `x` up to the next space; and what stands in brackets, so many times.
 use crate::head;
+use cube::Cube;
 use steps::StepRecord;
 use text::ReadCube;
 use text::ReadStep;
@@ -96,10 +97,15 @@ fn bit(row: &[u8], p: usize) -> Item {
     none(p)
 }
 
+// A cube's record as one number.
+fn record_of(c: Cube) -> u64 {
+    c.seen as u64 + c.value as u64 * 4294967296
+}
+
 fn cube(row: &[u8], p: usize, n: u32) -> Item {
     match cubes::cube_at(row, p, n) {
         ReadCube::Wrong(_) => none(p),
-        ReadCube::Read(c, q) => bytes(q, c.word() as u64, 4, false),
+        ReadCube::Read(c, q) => bytes(q, record_of(c), 8, false),
     }
 }
 

@@ -14,7 +14,7 @@ ghost use Rattle.io.specs.Counts.{Counts};
 // Bytes of a buffer that is shown whole; of a longer one the last ones are.
 const MOST_SHOWN: usize = 257;
 
-const LAST_SHOWN: usize = 14;
+const LAST_SHOWN: usize = 26;
 
 pub(crate) fn text(t: &[u8]) {
     io::write_all(STDOUT_FILENO, t);

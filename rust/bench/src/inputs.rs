@@ -16,11 +16,11 @@ impl Random {
 /// `count` cubes over n variables. The cube half the list further on differs in `apart` variables, from 0 on.
 pub fn paired_list(count: usize, n: u32, apart: u32) -> Vec<u8> {
     let mut random = Random(count as u64 + u64::from(n));
-    let mask = ((1u32 << n) - 1) as u16;
-    let half: Vec<(u16, u16)> = (0..count.div_ceil(2))
+    let mask = ((1u64 << n) - 1) as u32;
+    let half: Vec<(u32, u32)> = (0..count.div_ceil(2))
         .map(|_| {
-            let seen = random.next() as u16 & mask | ((1 << apart) - 1);
-            (seen, random.next() as u16 & seen)
+            let seen = random.next() as u32 & mask | ((1 << apart) - 1);
+            (seen, random.next() as u32 & seen)
         })
         .collect();
     let partners = half.iter().map(|&(seen, value)| (seen, value ^ ((1 << apart) - 1)));
@@ -30,18 +30,23 @@ pub fn paired_list(count: usize, n: u32, apart: u32) -> Vec<u8> {
 /// `count` cubes over few variables.
 pub fn few_records(count: usize, n: u32) -> Vec<u8> {
     let mut random = Random(count as u64);
-    let mask = (1u16 << n) - 1;
+    let mask = (1u32 << n) - 1;
     (0..count)
         .flat_map(|_| {
-            let seen = random.next() as u16 & mask;
-            record(seen, random.next() as u16 & seen)
+            let seen = random.next() as u32 & mask;
+            record(seen, random.next() as u32 & seen)
         })
         .collect()
 }
 
-pub fn record(seen: u16, value: u16) -> [u8; 4] {
-    let ([a, b], [c, d]) = (seen.to_le_bytes(), value.to_le_bytes());
-    [a, b, c, d]
+/// The old list of a list over at most 16 variables: the low halves of both masks.
+pub fn narrow_list(list: &[u8]) -> Vec<u8> {
+    list.as_chunks::<8>().0.iter().flat_map(|&[a, b, _, _, c, d, _, _]| [a, b, c, d]).collect()
+}
+
+pub fn record(seen: u32, value: u32) -> [u8; 8] {
+    let ([a, b, c, d], [e, f, g, h]) = (seen.to_le_bytes(), value.to_le_bytes());
+    [a, b, c, d, e, f, g, h]
 }
 
 /// Joins of places k and k + `half`, whose cubes differ in one variable.

@@ -9,13 +9,13 @@ mod measure;
 mod plain;
 
 use druthmoy::words;
-use inputs::{bits, exchanges, few_records, joins, mixed, paired_list, record, step, turns};
+use inputs::{bits, exchanges, few_records, joins, mixed, narrow_list, paired_list, record, step, turns};
 use plain::{ByBytes, ByWords};
 use std::hint::black_box;
 
 const RECORDS: usize = 4096;
 const STEPS: usize = 1024;
-const BUFFER: usize = 4 * RECORDS;
+const BUFFER: usize = 8 * RECORDS;
 
 fn main() {
     if cfg!(feature = "standin") {
@@ -25,6 +25,7 @@ fn main() {
     println!("|---|---|---:|---:|---:|---:|");
     let mut highest: f64 = 0.0;
     lists(&mut highest);
+    converters(&mut highest);
     polarities(&mut highest);
     scripts(&mut highest);
     settling(&mut highest);
@@ -32,7 +33,10 @@ fn main() {
 }
 
 fn lists(highest: &mut f64) {
-    for (count, n, size) in [(4, 4, "4 records, n = 4"), (RECORDS, 16, "4,096 records, n = 16")] {
+    // At 32 variables no seen bit can be too high, so that a check has less to look at.
+    for (count, n, size) in
+        [(4, 4, "4 records, n = 4"), (RECORDS, 31, "4,096 records, n = 31"), (RECORDS, 32, "4,096 records, n = 32")]
+    {
         let list = &paired_list(count, n, 1);
         let n = u64::from(n);
         row(
@@ -70,6 +74,29 @@ fn lists(highest: &mut f64) {
             Some(|_: &mut [u8], out: &mut [u8]| {
                 answered(|answer| plain::truth_vector::<ByBytes>(n, black_box(list), out, answer))
             }),
+        );
+    }
+}
+
+fn converters(highest: &mut f64) {
+    for (count, size) in [(16, "16 records, n = 16"), (RECORDS, "4,096 records, n = 16")] {
+        let wide = &paired_list(count, 16, 1);
+        let narrow = &narrow_list(wide);
+        row(
+            highest,
+            "wide from narrow",
+            size,
+            |_, out| words::wide_from_narrow(16, black_box(narrow), out),
+            |_, out| answered(|answer| plain::wide_from_narrow(16, black_box(narrow), out, answer)),
+            SAME_WAY,
+        );
+        row(
+            highest,
+            "narrow from wide",
+            size,
+            |_, out| words::narrow_from_wide(16, black_box(wide), out),
+            |_, out| answered(|answer| plain::narrow_from_wide(16, black_box(wide), out, answer)),
+            SAME_WAY,
         );
     }
 }
@@ -123,14 +150,14 @@ fn polarities(highest: &mut f64) {
 
 fn scripts(highest: &mut f64) {
     let half = RECORDS / 2;
-    let one_apart = paired_list(RECORDS, 16, 1);
-    let two_apart = paired_list(RECORDS, 16, 2);
+    let one_apart = paired_list(RECORDS, 32, 1);
+    let two_apart = paired_list(RECORDS, 32, 2);
     let (small, small_script) = small_map();
     for (n, list, script, size) in [
         (2, &small, &small_script, "3 records, 2 steps, n = 2"),
-        (16, &one_apart, &joins(STEPS, half), "4,096 records, 1,024 joins, n = 16"),
-        (16, &two_apart, &turns(STEPS, half), "4,096 records, 1,024 turns, n = 16"),
-        (16, &one_apart, &exchanges(STEPS, 16), "4,096 records, 1,024 L steps, n = 16"),
+        (32, &one_apart, &joins(STEPS, half), "4,096 records, 1,024 joins, n = 32"),
+        (32, &two_apart, &turns(STEPS, half), "4,096 records, 1,024 turns, n = 32"),
+        (32, &one_apart, &exchanges(STEPS, 32), "4,096 records, 1,024 L steps, n = 32"),
     ] {
         row(
             highest,
@@ -146,13 +173,13 @@ fn scripts(highest: &mut f64) {
 fn settling(highest: &mut f64) {
     let half = RECORDS / 2;
     let (small, small_script) = small_map();
-    let (eight, sixteen) = (paired_list(RECORDS, 8, 1), paired_list(RECORDS, 16, 1));
+    let (eight, thirty_two) = (paired_list(RECORDS, 8, 1), paired_list(RECORDS, 32, 1));
     for (n, list, script, size) in [
         (2, &small, &small_script, "3 records, 2 steps, n = 2"),
         (8, &eight, &joins(STEPS, half), "4,096 records, 1,024 joins, n = 8"),
         (8, &eight, &exchanges(STEPS, 8), "4,096 records, 1,024 L steps, n = 8"),
-        (16, &sixteen, &joins(STEPS, half), "4,096 records, 1,024 joins, n = 16"),
-        (16, &sixteen, &mixed(STEPS, half, 16), "4,096 records, 768 joins and 256 L steps, n = 16"),
+        (32, &thirty_two, &joins(STEPS, half), "4,096 records, 1,024 joins, n = 32"),
+        (32, &thirty_two, &mixed(STEPS, half, 32), "4,096 records, 768 joins and 256 L steps, n = 32"),
     ] {
         row(
             highest,

@@ -3,6 +3,7 @@
 //! Every call tests its input as the library does, answers the same eight words and, like the library's, is not inlined.
 
 mod bytes;
+mod converters;
 mod cube;
 mod lists;
 mod orders;
@@ -11,6 +12,7 @@ mod settling;
 mod vectors;
 mod words;
 
+pub use converters::{narrow_from_wide, wide_from_narrow};
 pub use lists::{check, truth_vector, value};
 pub use script::run;
 pub use settling::settle;

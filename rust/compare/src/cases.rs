@@ -5,11 +5,13 @@
 use crate::differ::{Call, Case};
 use crate::random::Random;
 use crate::scripts;
-use model::cube::{Cube, RECORD, encoded_list};
+use model::cube::{Cube, NARROW_RECORD, RECORD, encoded_list, encoded_narrow_list};
 use model::polarity::coefficients;
 use model::refusal::ORDERS;
 use model::script::{self, STEP, encoded_script};
 
+const VARIABLES: usize = 32;
+const NARROW_VARIABLES: usize = 16;
 const RECORDS: usize = 4096;
 const STEPS: usize = 1024;
 
@@ -44,18 +46,20 @@ pub fn case(random: &mut Random, call: Call) -> Case {
         Call::Check | Call::Value | Call::TruthVector => list_case(random, faults, call),
         Call::Coefficients | Call::Vector | Call::WriteForm | Call::BestPolarity => bits_case(random, faults, call),
         Call::Run | Call::Settle => script_case(random, faults, call),
+        Call::WideFromNarrow | Call::NarrowFromWide => converter_case(random, faults, call),
     }
 }
 
 fn list_case(random: &mut Random, faults: &Faults, call: Call) -> Case {
-    let limit = if call == Call::TruthVector { 8 } else { 16 };
-    let width = random.below(limit + 1);
+    let limit = if call == Call::TruthVector { 8 } else { VARIABLES };
+    let width = many_variables(random, limit);
     let n = variables(random, faults, width, limit);
     let count = count(random, faults);
     let cubes = cubes(random, width, count);
     let number = if call == Call::Value { pattern(random, width, faults.has(6)) } else { 0 };
     let out = if call == Call::TruthVector { lent(random, 1 << width, faults.has(5)) } else { vec![] };
-    Case { call, n, input: list_bytes(random, faults, width, &cubes), number, script: vec![], work: vec![], out }
+    let input = list_bytes(random, faults, width, RECORD, encoded_list(&cubes));
+    Case { call, n, input, number, script: vec![], work: vec![], out }
 }
 
 fn bits_case(random: &mut Random, faults: &Faults, call: Call) -> Case {
@@ -84,8 +88,8 @@ fn bits_case(random: &mut Random, faults: &Faults, call: Call) -> Case {
 fn script_case(random: &mut Random, faults: &Faults, call: Call) -> Case {
     // Above 8 variables there is no polarity to find, and the model is fast.
     let wide = call == Call::Run || random.one_in(3);
-    let width = if wide { random.below(17) } else { few_variables(random) };
-    let n = variables(random, faults, width, 16);
+    let width = if wide { many_variables(random, VARIABLES) } else { few_variables(random) };
+    let n = variables(random, faults, width, VARIABLES);
     let count = count(random, faults);
     let cubes = cubes(random, width, count);
     let (work_too_small, out_too_small) = match call {
@@ -97,7 +101,27 @@ fn script_case(random: &mut Random, faults: &Faults, call: Call) -> Case {
     let out = if call == Call::Settle { lent(random, RECORD * count, out_too_small) } else { vec![] };
     let capacity = (work.len() / RECORD).clamp(count.min(RECORDS), RECORDS);
     let script = script_bytes(random, faults, width, &cubes, capacity);
-    Case { call, n, input: list_bytes(random, faults, width, &cubes), number: 0, script, work, out }
+    let input = list_bytes(random, faults, width, RECORD, encoded_list(&cubes));
+    Case { call, n, input, number: 0, script, work, out }
+}
+
+fn converter_case(random: &mut Random, faults: &Faults, call: Call) -> Case {
+    let wide_from_narrow = call == Call::WideFromNarrow;
+    let limit = if wide_from_narrow { NARROW_VARIABLES } else { VARIABLES };
+    let width = match faults.has(20) {
+        true => random.between(NARROW_VARIABLES + 1, VARIABLES),
+        false => many_variables(random, NARROW_VARIABLES),
+    };
+    let n = variables(random, faults, width, limit);
+    let count = count(random, faults);
+    let cubes = cubes(random, width, count);
+    let (from, to, bytes) = match wide_from_narrow {
+        true => (NARROW_RECORD, RECORD, encoded_narrow_list(&cubes)),
+        false => (RECORD, NARROW_RECORD, encoded_list(&cubes)),
+    };
+    let input = list_bytes(random, faults, width, from, bytes);
+    let out = lent(random, to * count, faults.has(5));
+    Case { call, n, input, number: 0, script: vec![], work: vec![], out }
 }
 
 /// The number of variables that is said, for input that is made for `width`.
@@ -106,8 +130,13 @@ fn variables(random: &mut Random, faults: &Faults, width: usize, limit: usize) -
         return width as u64;
     }
     let limit = limit as u64;
-    let far = [limit + 1, limit + 2, 17, 32, 64, 256, 65536, 1 << 32, 1 << 63, u64::MAX];
+    let far = [limit + 1, limit + 2, 2 * limit, 33, 64, 65, 256, 65536, 1 << 32, 1 << 63, u64::MAX];
     random.pick(&far) | if random.one_in(4) { random.next() << 16 } else { 0 }
+}
+
+/// From 0 to the limit, and often the last two.
+fn many_variables(random: &mut Random, limit: usize) -> usize {
+    if random.one_in(4) { limit - random.below(2) } else { random.below(limit + 1) }
 }
 
 /// From 0 to 8, the large ones rarely: the model adds 8^n bytes for a best polarity.
@@ -131,7 +160,7 @@ fn count(random: &mut Random, faults: &Faults) -> usize {
     }
 }
 
-/// Cubes with equal and near ones among them, as steps need them.
+/// Cubes with equal and near ones among them, as steps need them, and with literals at the last variable.
 fn cubes(random: &mut Random, width: usize, count: usize) -> Vec<Cube> {
     let mut cubes: Vec<Cube> = Vec::new();
     for _ in 0..count {
@@ -144,7 +173,8 @@ fn cubes(random: &mut Random, width: usize, count: usize) -> Vec<Cube> {
             cube.fill_with(|| random.below(3) as u8);
         } else if width > 0 {
             for _ in 0..changes {
-                cube[random.below(width)] = random.below(3) as u8;
+                let v = if random.one_in(4) { width - 1 } else { random.below(width) };
+                cube[v] = random.below(3) as u8;
             }
         }
         cubes.push(cube);
@@ -152,36 +182,42 @@ fn cubes(random: &mut Random, width: usize, count: usize) -> Vec<Cube> {
     cubes
 }
 
-fn list_bytes(random: &mut Random, faults: &Faults, width: usize, cubes: &[Cube]) -> Vec<u8> {
-    let mut bytes = if faults.has(3) {
+/// The bytes of a list whose records have `record` bytes, damaged.
+fn list_bytes(random: &mut Random, faults: &Faults, width: usize, record: usize, good: Vec<u8>) -> Vec<u8> {
+    let mut bytes = good;
+    if faults.has(3) {
         let records = RECORDS + random.between(1, 3);
-        random.bytes(RECORD * records)
-    } else {
-        encoded_list(cubes)
-    };
+        bytes = random.bytes(record * records);
+    }
     if faults.has(4) {
         for _ in 0..random.between(1, 3) {
-            let place = random.below(bytes.len() / RECORD);
-            spoil(random, width, &mut bytes[RECORD * place..RECORD * (place + 1)]);
+            let place = random.below(bytes.len() / record);
+            spoil(random, width, &mut bytes[record * place..][..record]);
         }
     }
     if faults.has(2) {
-        let extra = random.between(1, 3);
-        bytes.extend(random.bytes(extra));
+        if bytes.is_empty() || random.one_in(2) {
+            let extra = random.between(1, record - 1);
+            bytes.extend(random.bytes(extra));
+        } else {
+            bytes.truncate(bytes.len() - random.between(1, record - 1));
+        }
     }
     bytes
 }
 
 /// Makes a record bad: a value bit outside seen, or a seen bit at or above the number of variables.
 fn spoil(random: &mut Random, width: usize, record: &mut [u8]) {
-    let outside = width == 16 || random.one_in(2);
-    let k = if outside { random.below(16) } else { random.between(width, 15) };
+    let bits = 4 * record.len();
+    let outside = width == bits || random.one_in(2);
+    let k = if outside { random.below(bits) } else { random.between(width, bits - 1) };
     let (byte, bit) = (k / 8, 1 << (k % 8));
+    let (seen, value) = record.split_at_mut(record.len() / 2);
     if outside {
-        record[byte] &= !bit;
-        record[2 + byte] |= bit;
+        seen[byte] &= !bit;
+        value[byte] |= bit;
     } else {
-        record[byte] |= bit;
+        seen[byte] |= bit;
     }
 }
 
@@ -265,8 +301,8 @@ fn lent(random: &mut Random, needed: usize, too_small: bool) -> Vec<u8> {
         _ if too_small && needed > 0 => needed - if random.one_in(2) { 1 } else { random.between(1, needed) },
         _ if needed > RECORD * 4000 && random.one_in(2) => RECORD * RECORDS + random.below(100),
         0..=9 => needed,
-        10..=19 => needed + random.below(4),
-        _ => needed + random.below(41),
+        10..=19 => needed + random.below(RECORD),
+        _ => needed + random.below(10 * RECORD + 1),
     };
     random.bytes(length)
 }

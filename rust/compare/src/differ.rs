@@ -16,10 +16,12 @@ pub enum Call {
     BestPolarity,
     Run,
     Settle,
+    WideFromNarrow,
+    NarrowFromWide,
 }
 
 impl Call {
-    pub const ALL: [Call; 9] = [
+    pub const ALL: [Call; 11] = [
         Call::Check,
         Call::Value,
         Call::TruthVector,
@@ -29,6 +31,8 @@ impl Call {
         Call::BestPolarity,
         Call::Run,
         Call::Settle,
+        Call::WideFromNarrow,
+        Call::NarrowFromWide,
     ];
 }
 
@@ -37,7 +41,7 @@ impl Call {
 pub struct Case {
     pub call: Call,
     pub n: u64,
-    /// The list, the truth vector or the coefficients.
+    /// The list, old or not, the truth vector or the coefficients.
     pub input: Vec<u8>,
     /// The assignment or the polarity.
     pub number: u64,
@@ -83,6 +87,8 @@ fn by_model(case: &Case) -> After {
         Call::BestPolarity => calls::best_polarity(n, input),
         Call::Run => calls::run(n, input, script, &mut work),
         Call::Settle => calls::settle(n, input, script, &mut work, &mut out),
+        Call::WideFromNarrow => calls::wide_from_narrow(n, input, &mut out),
+        Call::NarrowFromWide => calls::narrow_from_wide(n, input, &mut out),
     };
     After { answer: calls::words(&outcome), work, out }
 }
@@ -105,6 +111,8 @@ fn by_words(case: &Case) -> Result<After, String> {
             Call::BestPolarity => words::best_polarity(n, input),
             Call::Run => words::run(n, input, script, work),
             Call::Settle => words::settle(n, input, script, work, out),
+            Call::WideFromNarrow => words::wide_from_narrow(n, input, out),
+            Call::NarrowFromWide => words::narrow_from_wide(n, input, out),
         }
     };
     if *input.slice() != case.input[..] || *script.slice() != case.script[..] {
@@ -137,6 +145,8 @@ fn by_names(case: &Case) -> After {
                 vec![given, peak, script, polarity, size, burned]
             },
         ),
+        Call::WideFromNarrow => druthmoy::wide_from_narrow(n, input, &mut out).map(one),
+        Call::NarrowFromWide => druthmoy::narrow_from_wide(n, input, &mut out).map(one),
     };
     let mut answer = [0; 8];
     match named {

@@ -1,18 +1,19 @@
-//! Document 01's marked examples and limits, with the answers that it gives for them.
+//! Document 01's marked examples and limits, as document 02 amends them, with the answers that they give.
 
 use crate::differ::{Call, Case, compare};
-use model::cube::{encoded_list, read};
+use model::cube::{RECORD, encoded_list, encoded_narrow_list, read};
 use model::script::Step::{self, Drop, Join, L, Split, Turn};
 use model::script::encoded_script;
 
 /// Calls each example; the answer must begin with the words that are said here, and the model must agree with all of it.
 pub fn all() -> Result<(), String> {
-    let examples: Vec<Example> =
-        [values_and_forms(), single_runs(), settled(), limits(), too_many_variables()].into_iter().flatten().collect();
+    let parts =
+        [values_and_forms(), single_runs(), settled(), limits(), too_many_variables(), long_labels(), old_lists()];
+    let examples: Vec<Example> = parts.into_iter().flatten().collect();
     for (case, expected) in &examples {
         let answer = compare(case)?;
         if answer[..expected.len()] != expected[..] {
-            return Err(format!("document 01 says {expected:?}, the answer is {answer:?}\n{case}"));
+            return Err(format!("the documents say {expected:?}, the answer is {answer:?}\n{case}"));
         }
     }
     println!("{} examples and limits", examples.len());
@@ -65,10 +66,10 @@ fn settled() -> Vec<Example> {
 }
 
 fn limits() -> Vec<Example> {
-    let zeros = |count: usize| vec![0; 4 * count];
-    let check = |count| Case { input: zeros(count), ..empty(Call::Check, 16) };
+    let zeros = |count: usize| vec![0; RECORD * count];
+    let check = |count| Case { input: zeros(count), ..empty(Call::Check, 32) };
     let split = Split { v: 0, i: 0 };
-    let exchange = L { v: 15, literal: 1 };
+    let exchange = L { v: 31, literal: 1 };
     let mut limits = vec![(check(4096), vec![0, 0, 4096]), (check(4097), vec![3, 0])];
     for call in [Call::Run, Call::Settle] {
         limits.extend([
@@ -76,20 +77,63 @@ fn limits() -> Vec<Example> {
             (on_script(call, 1, &zeros(4096), &[split], 4096), vec![13, 0]),
             (on_script(call, 1, &zeros(4096), &[split], 5000), vec![13, 0]),
             (on_script(call, 1, &zeros(4095), &[split, split], 5000), vec![13, 1]),
-            (on_script(call, 16, &zeros(4096), &[exchange; 1024], 4096), vec![0, 0]),
-            (on_script(call, 16, &zeros(4096), &[exchange; 1025], 4096), vec![8, 0]),
-            (on_script(call, 16, &zeros(4096), &[], 4095), vec![5, 0]),
+            (on_script(call, 32, &zeros(4096), &[exchange; 1024], 4096), vec![0, 0]),
+            (on_script(call, 32, &zeros(4096), &[exchange; 1025], 4096), vec![8, 0]),
+            (on_script(call, 32, &zeros(4096), &[], 4095), vec![5, 0]),
         ]);
     }
     limits
 }
 
-/// "n=9 gives 1 there; n=17 gives 1 everywhere."
+/// n = 9 gives 1 with a truth vector or a polarity, and n = 33 everywhere.
 fn too_many_variables() -> Vec<Example> {
     let with_polarity = [Call::TruthVector, Call::Coefficients, Call::Vector, Call::WriteForm, Call::BestPolarity];
     let nine = with_polarity.map(|call| (Case { input: vec![0; 512], ..empty(call, 9) }, vec![1, 0]));
-    let seventeen = Call::ALL.map(|call| (empty(call, 17), vec![1, 0]));
-    nine.into_iter().chain(seventeen).collect()
+    let thirty_three = Call::ALL.map(|call| (empty(call, 33), vec![1, 0]));
+    nine.into_iter().chain(thirty_three).collect()
+}
+
+/// The last of 32 variables: in a record, in an assignment, in a step.
+fn long_labels() -> Vec<Example> {
+    let last = format!("{}0", "-".repeat(31));
+    let list = &records(&[&last]);
+    let at = |number| Case { number, ..value(32, &[&last]) };
+    let run = |v, literal| on_script(Call::Run, 32, list, &[L { v, literal }], 1);
+    vec![
+        (Case { input: list.clone(), ..empty(Call::Check, 32) }, vec![0, 0, 1]),
+        (Case { input: list.clone(), ..empty(Call::Check, 31) }, vec![4, 0]),
+        (at(0x7fff_ffff), vec![0, 0, 1]),
+        (at(0xffff_ffff), vec![0, 0, 0]),
+        (at(1 << 32), vec![6, 0]),
+        (run(31, 0), vec![0, 0, 1, 1]),
+        (run(32, 0), vec![9, 0]),
+    ]
+}
+
+/// An old list has at most 16 variables: above, wide from narrow gives 1, and narrow from wide 20.
+fn old_lists() -> Vec<Example> {
+    let cubes = ["1-------0------1", "----------------", "0101010101010101"].map(read);
+    let convert = |call, n, input: Vec<u8>, room| Case { input, out: vec![7; room], ..empty(call, n) };
+    let widen = |n, room| convert(Call::WideFromNarrow, n, encoded_narrow_list(&cubes), room);
+    let narrow = |n, room| convert(Call::NarrowFromWide, n, encoded_list(&cubes), room);
+    vec![
+        (widen(16, 27), vec![0, 0, 3]),
+        (widen(16, 23), vec![5, 0]),
+        (widen(15, 24), vec![4, 0]),
+        (widen(17, 24), vec![1, 0]),
+        (convert(Call::WideFromNarrow, 16, vec![0; 4 * 4096], 8 * 4096), vec![0, 0, 4096]),
+        (convert(Call::WideFromNarrow, 16, vec![0; 4 * 4097], 8 * 4097), vec![3, 0]),
+        (narrow(16, 15), vec![0, 0, 3]),
+        (narrow(16, 11), vec![5, 0]),
+        (narrow(15, 12), vec![4, 0]),
+        (narrow(17, 12), vec![20, 0]),
+        (narrow(32, 12), vec![20, 0]),
+        (convert(Call::NarrowFromWide, 16, vec![0; 8 * 4096], 4 * 4096), vec![0, 0, 4096]),
+        (convert(Call::NarrowFromWide, 16, vec![0; 8 * 4097], 4 * 4097), vec![3, 0]),
+        // An old list that was not converted: of an odd count; of an even one, read as half as many records.
+        (Case { input: encoded_narrow_list(&cubes), ..empty(Call::Check, 32) }, vec![2, 0]),
+        (Case { input: encoded_narrow_list(&cubes[1..]), ..empty(Call::Check, 32) }, vec![4, 0]),
+    ]
 }
 
 fn empty(call: Call, n: u64) -> Case {
@@ -111,6 +155,6 @@ fn on_bits(call: Call, n: u64, bits: &[u8], p: u64) -> Case {
 
 /// A run or a settling in buffers for so many records, with three bytes more.
 fn on_script(call: Call, n: u64, list: &[u8], script: &[Step], capacity: usize) -> Case {
-    let buffer = vec![7; 4 * capacity + 3];
+    let buffer = vec![7; RECORD * capacity + 3];
     Case { input: list.to_vec(), script: encoded_script(script), work: buffer.clone(), out: buffer, ..empty(call, n) }
 }

@@ -1,7 +1,7 @@
 //! Small worlds, whole.
 
 use crate::differ::{Call, Case, compare};
-use model::cube::{Cube, encoded_list};
+use model::cube::{Cube, RECORD, encoded_list};
 use model::script::{Step, encoded};
 
 /// Every function of 4 variables: best polarity against trying all.
@@ -32,7 +32,7 @@ pub fn short_lists_and_scripts() -> Result<(), String> {
     for list in &lists {
         let input = encoded_list(list);
         for script in &scripts {
-            for more in [0, 7] {
+            for more in [0, RECORD + 7] {
                 let work = vec![0x5a; input.len() + more];
                 let run = Case {
                     call: Call::Run,

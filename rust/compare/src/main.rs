@@ -4,6 +4,7 @@
 //! was compared. At the first difference it prints the whole case and exits with 1.
 
 mod cases;
+mod converters;
 mod differ;
 mod examples;
 mod exhaustive;
@@ -27,12 +28,13 @@ fn main() -> ExitCode {
     if cfg!(feature = "standin") {
         println!("STAND-IN: the calls are answered by the model itself; nothing below speaks of the library.\n");
     }
-    let parts: [Part; 7] = [
-        ("document 01's examples and limits", &examples::all),
+    let parts: [Part; 8] = [
+        ("the documents' examples and limits", &examples::all),
         ("the wrapper's records", &|| records::all(seed)),
         ("random calls", &|| random_calls::all(calls as usize, seed)),
         ("all functions of 4 variables", &exhaustive::functions_of_four),
         ("all short lists and scripts over 2 variables", &exhaustive::short_lists_and_scripts),
+        ("the converters: faults together, short lists there and back", &converters::all),
         ("published average of 5-variable functions", &|| figures::average_of_five(seed)),
         ("published sizes of rd53, rd73, rd84", &figures::ones_counters),
     ];

@@ -11,24 +11,30 @@ pub fn all(seed: u64) -> Result<(), String> {
         same_cube(&mut random)?;
         same_step(&mut random)?;
     }
-    println!("{EACH} cubes written out, read and as records; {EACH} steps as records");
+    println!("{EACH} cubes written out, read and as records of both widths; {EACH} steps as records");
     Ok(())
 }
 
 fn same_cube(random: &mut Random) -> Result<(), String> {
-    let n = random.below(17);
+    let n = random.below(33);
     let codes: cube::Cube = (0..n).map(|_| random.below(3) as u8).collect();
     let text = cube::written(&codes);
     let read: Cube = text.parse().map_err(|error| format!("{text:?}: {error}"))?;
     let record = read.record();
-    if record != cube::encoded(&codes) || Cube::from_record(record) != read || read.written(n) != text {
-        return Err(format!("{text:?}: the wrapper has {read:?}, the model {:?}", cube::encoded(&codes)));
+    let modelled = cube::encoded(&codes);
+    if record != modelled || Cube::from_record(record) != read || read.written(n) != text {
+        return Err(format!("{text:?}: the wrapper has {read:?}, the model {modelled:?}"));
+    }
+    // A cube has a narrow record where it has no literal from variable 16 on.
+    let narrow = codes.iter().skip(16).all(|&code| code == 2).then(|| cube::encoded(&codes[..n.min(16)].to_vec()));
+    if read.narrow_record() != narrow || narrow.is_some_and(|record| Cube::from_narrow_record(record) != read) {
+        return Err(format!("{text:?}: the wrapper has {:?}, the model {narrow:?}", read.narrow_record()));
     }
     Ok(())
 }
 
 fn same_step(random: &mut Random) -> Result<(), String> {
-    let (v, literal) = (random.below(16), random.below(2) as u8);
+    let (v, literal) = (random.below(32), random.below(2) as u8);
     let (i, j) = (random.below(65536), random.below(65536));
     let (v_byte, i_word, j_word) = (v as u8, i as u16, j as u16);
     let (named, modelled) = match random.below(5) {

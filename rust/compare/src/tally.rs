@@ -1,13 +1,15 @@
 //! How often each call answered each refusal number, and what the accepted scripts did.
 
 use crate::differ::{Call, Case};
+use model::cube::RECORD;
 use model::refusal::ORDERS;
+use std::collections::BTreeSet;
 use std::fmt;
 
 #[derive(Default)]
 pub struct Tally {
     /// By call, then by refusal number; 0 counts the accepted calls.
-    answers: [[u64; 16]; 9],
+    answers: [[u64; 21]; 11],
     /// Steps of accepted runs by operation.
     steps: [u64; 6],
     /// Refusals at a step by whether steps were done before it.
@@ -15,6 +17,8 @@ pub struct Tally {
     at_a_later_step: u64,
     /// Settled maps by what was burned: the script's result, the given list, the form.
     burned: [u64; 3],
+    /// Accepted lists of 32 variables with a literal at the last of them.
+    with_the_last_variable: u64,
     longest_list: usize,
     longest_script: usize,
     highest_peak: u64,
@@ -24,13 +28,16 @@ impl Tally {
     pub fn add(&mut self, case: &Case, answer: &[u64; 8]) {
         let number = answer[0] as usize;
         self.answers[case.call as usize][number] += 1;
+        if number == 0 && case.n == 32 && case.input.chunks(RECORD).any(|record| record[3] >= 0x80) {
+            self.with_the_last_variable += 1;
+        }
         let has_script = matches!(case.call, Call::Run | Call::Settle);
         match number {
             0 if has_script => {
                 for step in case.script.chunks(8) {
                     self.steps[step[0] as usize] += 1;
                 }
-                self.longest_list = self.longest_list.max(case.input.len() / 4);
+                self.longest_list = self.longest_list.max(case.input.len() / RECORD);
                 self.longest_script = self.longest_script.max(case.script.len() / 8);
                 self.highest_peak = self.highest_peak.max(answer[3]);
                 if case.call == Call::Settle {
@@ -45,16 +52,19 @@ impl Tally {
         }
     }
 
-    /// The refusals that document 01 gives a call and that were not met, and those met that it does not give.
+    /// The refusals that the documents give a call and that were not met, and those met that they do not give.
     pub fn amiss(&self) -> Vec<String> {
         let mut amiss = Vec::new();
         for ((name, numbers), answers) in ORDERS.iter().zip(&self.answers) {
-            for number in 0..16 {
+            for number in 0..answers.len() as u64 {
                 let given = number == 0 || numbers.contains(&number);
                 if given != (answers[number as usize] > 0) {
                     amiss.push(format!("{name}: refusal {number} met {} times", answers[number as usize]));
                 }
             }
+        }
+        if self.with_the_last_variable == 0 {
+            amiss.push("no accepted list has a literal at variable 31".into());
         }
         amiss
     }
@@ -62,16 +72,17 @@ impl Tally {
 
 impl fmt::Display for Tally {
     fn fmt(&self, f: &mut fmt::Formatter) -> fmt::Result {
-        write!(f, "{:14} {:>8}", "refusal", "accepted")?;
-        for number in 1..16 {
+        let all: BTreeSet<u64> = ORDERS.iter().flat_map(|(_, numbers)| numbers.iter().copied()).collect();
+        write!(f, "{:16} {:>8}", "refusal", "accepted")?;
+        for number in &all {
             write!(f, "{number:>7}")?;
         }
         writeln!(f, "{:>9}", "calls")?;
         for ((name, numbers), answers) in ORDERS.iter().zip(&self.answers) {
-            write!(f, "{name:14} {:>8}", answers[0])?;
-            for number in 1..16 {
-                if numbers.contains(&number) {
-                    write!(f, "{:>7}", answers[number as usize])?;
+            write!(f, "{name:16} {:>8}", answers[0])?;
+            for number in &all {
+                if numbers.contains(number) {
+                    write!(f, "{:>7}", answers[*number as usize])?;
                 } else {
                     write!(f, "{:>7}", "-")?;
                 }
@@ -83,6 +94,7 @@ impl fmt::Display for Tally {
         writeln!(f, "refused at the first step: {}, at a later one: {}", self.at_the_first_step, self.at_a_later_step)?;
         let [script, given, form] = self.burned;
         writeln!(f, "burned: {script} times the script's result, {given} the given list, {form} the form")?;
+        writeln!(f, "accepted lists with a literal at variable 31: {}", self.with_the_last_variable)?;
         write!(
             f,
             "longest accepted list: {} records, longest accepted script: {} steps, highest peak: {}",

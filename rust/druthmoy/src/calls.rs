@@ -75,11 +75,21 @@ pub fn settle(n: u64, list: &[u8], script: &[u8], work: &mut [u8], out: &mut [u8
     Ok(Settled { given, peak, script, fixed, burned })
 }
 
+/// Writes an old list's cubes, at the same places, as a list to the front of `out`; answers how many.
+pub fn wide_from_narrow(n: u64, list: &[u8], out: &mut [u8]) -> Result<u64, Refusal> {
+    accepted(words::wide_from_narrow(n, list, out)).map(|[count, ..]| count)
+}
+
+/// Writes a list's cubes, at the same places, as an old list to the front of `out`; answers how many.
+pub fn narrow_from_wide(n: u64, list: &[u8], out: &mut [u8]) -> Result<u64, Refusal> {
+    accepted(words::narrow_from_wide(n, list, out)).map(|[count, ..]| count)
+}
+
 /// The values of an accepted call.
 fn accepted([number, place, values @ ..]: Words) -> Result<[u64; 6], Refusal> {
     if number == 0 {
         return Ok(values);
     }
-    let reason = Reason::from_number(number).expect("the library answers refusal numbers from 1 to 15");
+    let reason = Reason::from_number(number).expect("the library answers refusal numbers from 1 to 15, and 20");
     Err(Refusal { reason, place })
 }

@@ -1,7 +1,7 @@
 //! Safe calls of Druthmoy's verified library, `libdruthmoy.a`.
 //!
-//! Lists and scripts are slices of bytes, laid out as in document 01; [`Cube`] and [`Step`] read and write their
-//! records. Each call answers what it found or the [`Refusal`] that it met, and leaves its buffers as the header
+//! Lists and scripts are slices of bytes; [`Cube`] and [`Step`] read and write their records. Each call answers what it
+//! found or the [`Refusal`] that it met. How the bytes are laid out, and what a call leaves in its buffers, the header
 //! `druthmoy.h` says. [`words`] has the same calls with the eight words of their answers as they are.
 //!
 //! ```
@@ -14,6 +14,18 @@
 //! let burned = out.as_chunks().0.iter().map(|&record| Cube::from_record(record).written(2));
 //! assert_eq!(burned.take(settled.burned as usize).collect::<Vec<_>>(), ["--", "00"]);
 //! ```
+//!
+//! An old list, of 4-byte records, is converted before it is used:
+//!
+//! ```
+//! use druthmoy::{Cube, NARROW_RECORD, RECORD, wide_from_narrow};
+//!
+//! let old = [0x01, 0x00, 0x01, 0x00, 0x02, 0x00, 0x02, 0x00];
+//! let mut list = vec![0; RECORD * (old.len() / NARROW_RECORD)];
+//! assert_eq!(wide_from_narrow(2, &old, &mut list), Ok(2));
+//! let cubes = list.as_chunks().0.iter().map(|&record| Cube::from_record(record).written(2));
+//! assert_eq!(cubes.collect::<Vec<_>>(), ["1-", "-1"]);
+//! ```
 
 mod calls;
 mod raw;
@@ -22,9 +34,10 @@ mod refusal;
 pub mod words;
 
 pub use calls::{
-    Fixed, Run, Settled, best_polarity, check, coefficients, run, settle, truth_vector, value, vector, write_form,
+    Fixed, Run, Settled, best_polarity, check, coefficients, narrow_from_wide, run, settle, truth_vector, value,
+    vector, wide_from_narrow, write_form,
 };
-pub use records::{Cube, NotACube, Step};
+pub use records::{Cube, NARROW_RECORD, NotACube, RECORD, Step};
 pub use refusal::{Reason, Refusal};
 
 #[cfg(feature = "standin")]

@@ -61,4 +61,20 @@ unsafe extern "C" {
         out_length: usize,
         answer: *mut u64,
     );
+    pub fn dm_wide_from_narrow(
+        n: u64,
+        list: *const u8,
+        list_length: usize,
+        out: *mut u8,
+        out_length: usize,
+        answer: *mut u64,
+    );
+    pub fn dm_narrow_from_wide(
+        n: u64,
+        list: *const u8,
+        list_length: usize,
+        out: *mut u8,
+        out_length: usize,
+        answer: *mut u64,
+    );
 }

@@ -3,26 +3,41 @@
 use std::fmt;
 use std::str::FromStr;
 
+/// Bytes of a cube's record, and of the record that it has in an old list.
+pub const RECORD: usize = 8;
+pub const NARROW_RECORD: usize = 4;
+
 /// A cube: its literals by two masks, bit k for variable k.
 #[derive(Clone, Copy, Debug, Default, PartialEq, Eq, Hash)]
 pub struct Cube {
     /// Set where a literal stands.
-    pub seen: u16,
+    pub seen: u32,
     /// Set where the plain literal stands.
-    pub value: u16,
+    pub value: u32,
 }
 
 impl Cube {
-    pub fn record(self) -> [u8; 4] {
-        let ([a, b], [c, d]) = (self.seen.to_le_bytes(), self.value.to_le_bytes());
-        [a, b, c, d]
+    pub fn record(self) -> [u8; RECORD] {
+        let ([a, b, c, d], [e, f, g, h]) = (self.seen.to_le_bytes(), self.value.to_le_bytes());
+        [a, b, c, d, e, f, g, h]
     }
 
-    pub fn from_record([a, b, c, d]: [u8; 4]) -> Cube {
-        Cube { seen: u16::from_le_bytes([a, b]), value: u16::from_le_bytes([c, d]) }
+    pub fn from_record([a, b, c, d, e, f, g, h]: [u8; RECORD]) -> Cube {
+        Cube { seen: u32::from_le_bytes([a, b, c, d]), value: u32::from_le_bytes([e, f, g, h]) }
     }
 
-    /// Written out for `n` variables: `0`, `1` or `-` each, variable 0 first.
+    /// The record in an old list; nothing where a bit stands at or above variable 16.
+    pub fn narrow_record(self) -> Option<[u8; NARROW_RECORD]> {
+        let (seen, value) = (u16::try_from(self.seen).ok()?, u16::try_from(self.value).ok()?);
+        let ([a, b], [c, d]) = (seen.to_le_bytes(), value.to_le_bytes());
+        Some([a, b, c, d])
+    }
+
+    pub fn from_narrow_record([a, b, c, d]: [u8; NARROW_RECORD]) -> Cube {
+        Cube { seen: u16::from_le_bytes([a, b]).into(), value: u16::from_le_bytes([c, d]).into() }
+    }
+
+    /// Written out for `n` variables, at most 32: `0`, `1` or `-` each, variable 0 first.
     pub fn written(self, n: usize) -> String {
         let literal = |k: usize| match (self.seen >> k & 1, self.value >> k & 1) {
             (0, _) => '-',
@@ -33,13 +48,13 @@ impl Cube {
     }
 }
 
-/// A text that is not `0`, `1` or `-` for each of at most 16 variables.
+/// A text that is not `0`, `1` or `-` for each of at most 32 variables.
 #[derive(Clone, Copy, Debug, PartialEq, Eq)]
 pub struct NotACube;
 
 impl fmt::Display for NotACube {
     fn fmt(&self, f: &mut fmt::Formatter) -> fmt::Result {
-        f.write_str("a cube is written as 0, 1 or - for each of at most 16 variables")
+        f.write_str("a cube is written as 0, 1 or - for each of at most 32 variables")
     }
 }
 
@@ -51,7 +66,7 @@ impl FromStr for Cube {
     fn from_str(text: &str) -> Result<Cube, NotACube> {
         let mut cube = Cube::default();
         for (k, literal) in text.chars().enumerate() {
-            let bit = 1u16.checked_shl(k as u32).ok_or(NotACube)?;
+            let bit = 1u32.checked_shl(k as u32).ok_or(NotACube)?;
             match literal {
                 '0' => cube.seen |= bit,
                 '1' => (cube.seen, cube.value) = (cube.seen | bit, cube.value | bit),

@@ -2,13 +2,13 @@
 
 use std::fmt;
 
-/// Why a call was refused. The discriminant is document 01's number.
+/// Why a call was refused. The discriminant is the number that document 01 or 02 gives it.
 #[derive(Clone, Copy, Debug, PartialEq, Eq, Hash)]
 #[repr(u64)]
 pub enum Reason {
     /// n above the call's limit.
     TooManyVariables = 1,
-    /// List length not a multiple of 4.
+    /// List length not a multiple of 8, or of 4 for an old list.
     ListLength = 2,
     /// More than 4,096 records.
     TooManyRecords = 3,
@@ -37,10 +37,12 @@ pub enum Reason {
     BadVector = 14,
     /// Polarity has a bit at or above n.
     Polarity = 15,
+    /// n above 16, the variables of a narrow record.
+    TooManyForNarrow = 20,
 }
 
 impl Reason {
-    pub const ALL: [Reason; 15] = [
+    pub const ALL: [Reason; 16] = [
         Reason::TooManyVariables,
         Reason::ListLength,
         Reason::TooManyRecords,
@@ -56,6 +58,7 @@ impl Reason {
         Reason::Full,
         Reason::BadVector,
         Reason::Polarity,
+        Reason::TooManyForNarrow,
     ];
 
     pub fn number(self) -> u64 {

@@ -104,3 +104,21 @@ pub fn settle(n: u64, list: &[u8], script: &[u8], work: &mut [u8], out: &mut [u8
     }
     answer
 }
+
+#[inline]
+pub fn wide_from_narrow(n: u64, list: &[u8], out: &mut [u8]) -> Words {
+    let mut answer = UNANSWERED;
+    unsafe {
+        raw::dm_wide_from_narrow(n, list.as_ptr(), list.len(), out.as_mut_ptr(), out.len(), answer.as_mut_ptr());
+    }
+    answer
+}
+
+#[inline]
+pub fn narrow_from_wide(n: u64, list: &[u8], out: &mut [u8]) -> Words {
+    let mut answer = UNANSWERED;
+    unsafe {
+        raw::dm_narrow_from_wide(n, list.as_ptr(), list.len(), out.as_mut_ptr(), out.len(), answer.as_mut_ptr());
+    }
+    answer
+}

@@ -1,6 +1,6 @@
 //! The library's calls over bytes: what each refuses, in document 01's order, what it answers and what it writes.
 
-use crate::cube::{self, Cube, RECORD, encoded_list};
+use crate::cube::{self, Cube, NARROW_RECORD, RECORD, encoded_list, encoded_narrow_list};
 use crate::polarity;
 use crate::refusal::{Refusal, refuse_at_if, refuse_if};
 use crate::script::{self, STEP, Step};
@@ -19,19 +19,26 @@ pub fn words(outcome: &Outcome) -> [u64; 8] {
     words
 }
 
+/// Document 02, Seven: "lists hold n up to 32", and "the limits of 8 variables stay".
+const MOST_VARIABLES: u64 = 32;
+const VECTOR_VARIABLES: u64 = 8;
+
+/// The variables that an old list's records have bits for.
+const NARROW_VARIABLES: u64 = 16;
+
 pub fn check(n: u64, list: &[u8]) -> Outcome {
-    let list = checked_list(n, 16, list)?;
+    let list = checked_list(n, MOST_VARIABLES, list)?;
     Ok(vec![list.len() as u64])
 }
 
 pub fn value(n: u64, list: &[u8], a: u64) -> Outcome {
-    let list = checked_list(n, 16, list)?;
+    let list = checked_list(n, MOST_VARIABLES, list)?;
     refuse_if(has_bit_from(n, a), 6)?;
     Ok(vec![cube::value(&list, a) as u64])
 }
 
 pub fn truth_vector(n: u64, list: &[u8], out: &mut [u8]) -> Outcome {
-    let list = checked_list(n, 8, list)?;
+    let list = checked_list(n, VECTOR_VARIABLES, list)?;
     refuse_if(out.len() < 1 << n, 5)?;
     write_front(out, &cube::truth_vector(n as usize, &list));
     Ok(vec![1 << n])
@@ -69,7 +76,7 @@ pub fn best_polarity(n: u64, vector: &[u8]) -> Outcome {
 }
 
 pub fn run(n: u64, list: &[u8], script: &[u8], work: &mut [u8]) -> Outcome {
-    let given = checked_list(n, 16, list)?;
+    let given = checked_list(n, MOST_VARIABLES, list)?;
     refuse_if(capacity(work) < given.len(), 5)?;
     let script = checked_script(n, script)?;
     let outcome = script::run(&given, &script, capacity(work));
@@ -80,7 +87,7 @@ pub fn run(n: u64, list: &[u8], script: &[u8], work: &mut [u8]) -> Outcome {
 }
 
 pub fn settle(n: u64, list: &[u8], script: &[u8], work: &mut [u8], out: &mut [u8]) -> Outcome {
-    let given = checked_list(n, 16, list)?;
+    let given = checked_list(n, MOST_VARIABLES, list)?;
     refuse_if(capacity(work) < given.len(), 5)?;
     refuse_if(capacity(out) < given.len(), 5)?;
     let script = checked_script(n, script)?;
@@ -97,12 +104,35 @@ pub fn settle(n: u64, list: &[u8], script: &[u8], work: &mut [u8], out: &mut [u8
     Ok([&counts[..], &[polarity, size, settled.burned.len() as u64]].concat())
 }
 
+/// Document 02, Seven: "wide from narrow gives the same cubes at the same places".
+pub fn wide_from_narrow(n: u64, list: &[u8], out: &mut [u8]) -> Outcome {
+    let list = checked_records(n, NARROW_VARIABLES, NARROW_RECORD, list)?;
+    refuse_if(out.len() < RECORD * list.len(), 5)?;
+    write_front(out, &encoded_list(&list));
+    Ok(vec![list.len() as u64])
+}
+
+/// The same: "and narrow from wide undoes it".
+pub fn narrow_from_wide(n: u64, list: &[u8], out: &mut [u8]) -> Outcome {
+    refuse_if(n > MOST_VARIABLES, 1)?;
+    refuse_if(n > NARROW_VARIABLES, 20)?;
+    let list = checked_list(n, MOST_VARIABLES, list)?;
+    refuse_if(out.len() < NARROW_RECORD * list.len(), 5)?;
+    write_front(out, &encoded_narrow_list(&list));
+    Ok(vec![list.len() as u64])
+}
+
 /// Rules 1 to 4.
 fn checked_list(n: u64, limit: u64, list: &[u8]) -> Result<Vec<Cube>, Refusal> {
+    checked_records(n, limit, RECORD, list)
+}
+
+/// Rules 1 to 4 of records that have so many bytes.
+fn checked_records(n: u64, limit: u64, width: usize, list: &[u8]) -> Result<Vec<Cube>, Refusal> {
     refuse_if(n > limit, 1)?;
-    refuse_if(!list.len().is_multiple_of(RECORD), 2)?;
-    refuse_if(list.len() / RECORD > 4096, 3)?;
-    let cubes: Vec<Option<Cube>> = list.chunks(RECORD).map(|record| cube::decoded(n as usize, record)).collect();
+    refuse_if(!list.len().is_multiple_of(width), 2)?;
+    refuse_if(list.len() / width > 4096, 3)?;
+    let cubes: Vec<Option<Cube>> = list.chunks(width).map(|record| cube::decoded(n as usize, record)).collect();
     let bad = cubes.iter().position(Option::is_none);
     refuse_at_if(bad.is_some(), 4, bad.unwrap_or(0))?;
     Ok(cubes.into_iter().flatten().collect())
@@ -120,13 +150,13 @@ fn checked_script(n: u64, script: &[u8]) -> Result<Vec<Step>, Refusal> {
 
 /// Rules 1 and 14.
 fn check_bits(n: u64, bits: &[u8]) -> Result<(), Refusal> {
-    refuse_if(n > 8, 1)?;
+    refuse_if(n > VECTOR_VARIABLES, 1)?;
     refuse_at_if(bits.len() != 1 << n, 14, 1 << n)?;
     let bad = bits.iter().position(|&byte| byte > 1);
     refuse_at_if(bad.is_some(), 14, bad.unwrap_or(0))
 }
 
-/// "Its length divided by 4, rounded down, and at most 4,096."
+/// "Its length divided by 8, rounded down, and at most 4,096": document 02, Seven, has 8 for 4.
 fn capacity(buffer: &[u8]) -> usize {
     (buffer.len() / RECORD).min(4096)
 }

@@ -3,8 +3,11 @@
 /// The literal codes of a cube, variable 0 first: 0 complemented, 1 plain, 2 absent.
 pub type Cube = Vec<u8>;
 
-/// Bytes of a cube record.
-pub const RECORD: usize = 4;
+/// Bytes of a cube record: half of them seen, half of them value.
+pub const RECORD: usize = 8;
+
+/// Bytes of a record of an old list.
+pub const NARROW_RECORD: usize = 4;
 
 /// The product is true where each literal that stands in it is.
 pub fn is_true(cube: &Cube, a: u64) -> bool {
@@ -25,13 +28,12 @@ pub fn truth_vector(n: usize, list: &[Cube]) -> Vec<u8> {
     (0..1 << n).map(|a| value(list, a)).collect()
 }
 
-/// The cube of a record, or nothing if the record is bad for `n` variables.
+/// The cube of a record of either width, or nothing if the record is bad for `n` variables.
 pub fn decoded(n: usize, record: &[u8]) -> Option<Cube> {
+    let (seen, value) = record.split_at(record.len() / 2);
     let mut cube = Vec::new();
-    for k in 0..16 {
-        let seen = record[k / 8] >> (k % 8) & 1;
-        let value = record[2 + k / 8] >> (k % 8) & 1;
-        match (seen, value) {
+    for k in 0..8 * seen.len() {
+        match (bit_of(seen, k), bit_of(value, k)) {
             (0, 1) => return None,
             (1, _) if k >= n => return None,
             (1, code) => cube.push(code),
@@ -42,13 +44,14 @@ pub fn decoded(n: usize, record: &[u8]) -> Option<Cube> {
     Some(cube)
 }
 
-/// The record of a cube.
-pub fn encoded(cube: &Cube) -> [u8; RECORD] {
-    let mut record = [0; RECORD];
+/// The record of a cube, of so many bytes.
+pub fn encoded<const WIDTH: usize>(cube: &Cube) -> [u8; WIDTH] {
+    let mut record = [0; WIDTH];
+    let (seen, value) = record.split_at_mut(WIDTH / 2);
     for (k, &code) in cube.iter().enumerate() {
         if code != 2 {
-            record[k / 8] |= 1 << (k % 8);
-            record[2 + k / 8] |= code << (k % 8);
+            seen[k / 8] |= 1 << (k % 8);
+            value[k / 8] |= code << (k % 8);
         }
     }
     record
@@ -56,7 +59,12 @@ pub fn encoded(cube: &Cube) -> [u8; RECORD] {
 
 /// The records of a list, end to end.
 pub fn encoded_list(list: &[Cube]) -> Vec<u8> {
-    list.iter().flat_map(encoded).collect()
+    list.iter().flat_map(encoded::<RECORD>).collect()
+}
+
+/// The records of an old list, end to end.
+pub fn encoded_narrow_list(list: &[Cube]) -> Vec<u8> {
+    list.iter().flat_map(encoded::<NARROW_RECORD>).collect()
 }
 
 /// A cube written out: `0`, `1` or `-` per variable.
@@ -78,4 +86,8 @@ pub fn read(text: &str) -> Cube {
 
 fn bit(a: u64, k: usize) -> u64 {
     a >> k & 1
+}
+
+fn bit_of(bytes: &[u8], k: usize) -> u8 {
+    bytes[k / 8] >> (k % 8) & 1
 }

@@ -1,4 +1,4 @@
-//! Document 01 once more, by other means than the library's.
+//! Document 01, as document 02 amends it, once more, by other means than the library's.
 //!
 //! A cube is the vector of its literal codes, a list a vector of cubes, and each definition is computed as it is
 //! worded: a value counts true products, a coefficient adds over every subset, an L step rewrites every cube and is

@@ -18,7 +18,7 @@ pub fn refuse_at_if(broken: bool, number: u64, place: usize) -> Result<(), Refus
 }
 
 /// The numbers that each call can answer, in the order in which it tests them.
-pub const ORDERS: [(&str, &[u64]); 9] = [
+pub const ORDERS: [(&str, &[u64]); 11] = [
     ("check", &[1, 2, 3, 4]),
     ("value", &[1, 2, 3, 4, 6]),
     ("truth_vector", &[1, 2, 3, 4, 5]),
@@ -28,4 +28,6 @@ pub const ORDERS: [(&str, &[u64]); 9] = [
     ("best_polarity", &[1, 14]),
     ("run", &[1, 2, 3, 4, 5, 7, 8, 9, 10, 11, 12, 13]),
     ("settle", &[1, 2, 3, 4, 5, 7, 8, 9, 10, 11, 12, 13]),
+    ("wide_from_narrow", &[1, 2, 3, 4, 5]),
+    ("narrow_from_wide", &[1, 20, 2, 3, 4, 5]),
 ];

@@ -1,7 +1,7 @@
 //! The model against the examples that document 01 marks and against the program's printed examples.
 
 use model::calls::{self, Outcome, words};
-use model::cube::{Cube, encoded_list, read, truth_vector, value, written};
+use model::cube::{Cube, RECORD, encoded_list, encoded_narrow_list, read, truth_vector, value, written};
 use model::polarity::{Best, best, coefficients, form, vector};
 use model::program::printed;
 use model::refusal::Refusal;
@@ -41,7 +41,7 @@ fn best_polarities() {
 fn form_of_the_best_polarity() {
     let form = form(2, &coefficients(&[0, 1, 1, 1], 3), 3);
     assert_eq!(form, list(&["--", "00"]));
-    assert_eq!(encoded_list(&form), [0, 0, 0, 0, 3, 0, 0, 0]);
+    assert_eq!(encoded_list(&form), [0, 0, 0, 0, 0, 0, 0, 0, 3, 0, 0, 0, 0, 0, 0, 0]);
 }
 
 #[test]
@@ -91,51 +91,116 @@ fn what_the_program_prints() {
     assert_eq!(printed(3, &records(&["000", "111"]), &[]), "in 2 peak 2 script 2 fixed 1 4 out 2\n000\n111\n");
     assert_eq!(printed(0, &records(&[""]), &[]), "in 1 peak 1 script 1 fixed 0 1 out 1\n\n");
     assert_eq!(printed(9, &records(&["---------"]), &[]), "in 1 peak 1 script 1 fixed - - out 1\n---------\n");
-    assert_eq!(printed(17, &[], &[]), "refused 1 at 0\n");
+    assert_eq!(printed(33, &[], &[]), "refused 1 at 0\n");
+
+    let last = format!("{}1", "-".repeat(31));
+    assert_eq!(printed(32, &records(&[&last]), &[]), format!("in 1 peak 1 script 1 fixed - - out 1\n{last}\n"));
+}
+
+#[test]
+fn what_the_program_reads() {
+    assert_eq!(printed(9, &[0; 32_769], &[]), "refused 2 at 0\n");
+    assert_eq!(printed(9, &[0; 32_776], &[]), "refused 3 at 0\n");
+    assert_eq!(printed(9, &[0; 32_777], &[]), "refused 3 at 0\n");
+    assert_eq!(printed(9, &[], &[0; 8_193]), "refused 7 at 0\n");
+    assert_eq!(printed(9, &[], &[0; 8_200]), "refused 8 at 0\n");
+    assert_eq!(printed(9, &[], &[0; 8_201]), "refused 8 at 0\n");
 }
 
 #[test]
 fn limits() {
-    assert_eq!(calls::check(16, &[0; 4 * 4096]), Ok(vec![4096]));
-    assert_eq!(calls::check(16, &[0; 4 * 4097]), refused(3, 0));
+    assert_eq!(calls::check(32, &[0; RECORD * 4096]), Ok(vec![4096]));
+    assert_eq!(calls::check(32, &[0; RECORD * 4097]), refused(3, 0));
     assert_eq!(calls::best_polarity(8, &[0; 256]), Ok(vec![0, 0]));
     assert_eq!(calls::best_polarity(9, &[0; 512]), refused(1, 0));
 
-    let (mut work, mut out) = ([0; 4], [0; 4]);
-    assert_eq!(calls::check(17, &[]), refused(1, 0));
-    assert_eq!(calls::value(17, &[], 0), refused(1, 0));
-    assert_eq!(calls::truth_vector(17, &[], &mut out), refused(1, 0));
-    assert_eq!(calls::coefficients(17, &[], 0, &mut out), refused(1, 0));
-    assert_eq!(calls::vector(17, &[], 0, &mut out), refused(1, 0));
-    assert_eq!(calls::write_form(17, &[], 0, &mut out), refused(1, 0));
-    assert_eq!(calls::best_polarity(17, &[]), refused(1, 0));
-    assert_eq!(calls::run(17, &[], &[], &mut work), refused(1, 0));
-    assert_eq!(calls::settle(17, &[], &[], &mut work, &mut out), refused(1, 0));
+    let (mut work, mut out) = ([0; RECORD], [0; RECORD]);
+    assert_eq!(calls::check(33, &[]), refused(1, 0));
+    assert_eq!(calls::value(33, &[], 0), refused(1, 0));
+    assert_eq!(calls::truth_vector(33, &[], &mut out), refused(1, 0));
+    assert_eq!(calls::coefficients(33, &[], 0, &mut out), refused(1, 0));
+    assert_eq!(calls::vector(33, &[], 0, &mut out), refused(1, 0));
+    assert_eq!(calls::write_form(33, &[], 0, &mut out), refused(1, 0));
+    assert_eq!(calls::best_polarity(33, &[]), refused(1, 0));
+    assert_eq!(calls::run(33, &[], &[], &mut work), refused(1, 0));
+    assert_eq!(calls::settle(33, &[], &[], &mut work, &mut out), refused(1, 0));
+    assert_eq!(calls::wide_from_narrow(33, &[], &mut out), refused(1, 0));
+    assert_eq!(calls::narrow_from_wide(33, &[], &mut out), refused(1, 0));
+}
+
+#[test]
+fn the_last_of_thirty_two_variables() {
+    let last = records(&[&format!("{}0", "-".repeat(31))]);
+    assert_eq!(last, [0, 0, 0, 0x80, 0, 0, 0, 0]);
+    assert_eq!(calls::check(31, &last), refused(4, 0));
+    assert_eq!(calls::value(32, &last, 0x7fff_ffff), Ok(vec![1]));
+    assert_eq!(calls::value(32, &last, 0xffff_ffff), Ok(vec![0]));
+    assert_eq!(calls::value(32, &last, 1 << 32), refused(6, 0));
+    let mut work = [7; RECORD];
+    let exchanges = encoded_script(&[L { v: 31, literal: 0 }, L { v: 31, literal: 1 }]);
+    assert_eq!(calls::run(32, &last, &exchanges, &mut work), Ok(vec![1, 1]));
+    assert_eq!(work[..], last);
+    assert_eq!(calls::run(32, &last, &encoded_script(&[L { v: 32, literal: 0 }]), &mut work), refused(9, 0));
+}
+
+#[test]
+fn an_old_list_there_and_back() {
+    let cubes = list(&["1-------0------1", "----------------", "0101010101010101"]);
+    let (narrow, wide) = (encoded_narrow_list(&cubes), encoded_list(&cubes));
+    assert_eq!(narrow[..4], [0x01, 0x81, 0x01, 0x80]);
+    assert_eq!(wide[..8], [0x01, 0x81, 0, 0, 0x01, 0x80, 0, 0]);
+
+    let mut out = [7; 25];
+    assert_eq!(calls::wide_from_narrow(16, &narrow, &mut out), Ok(vec![3]));
+    assert_eq!((&out[..24], out[24]), (&wide[..], 7));
+    let mut out = [7; 13];
+    assert_eq!(calls::narrow_from_wide(16, &wide, &mut out), Ok(vec![3]));
+    assert_eq!((&out[..12], out[12]), (&narrow[..], 7));
+}
+
+#[test]
+fn refusals_of_the_converters() {
+    let mut out = [7; 7];
+    assert_eq!(calls::wide_from_narrow(17, &[0; 3], &mut out), refused(1, 0));
+    assert_eq!(calls::wide_from_narrow(16, &[0; 3], &mut out), refused(2, 0));
+    assert_eq!(calls::wide_from_narrow(16, &[255; 4 * 4097], &mut out), refused(3, 0));
+    assert_eq!(calls::wide_from_narrow(1, &[0, 0, 0, 0, 2, 0, 0, 0], &mut out), refused(4, 1));
+    assert_eq!(calls::wide_from_narrow(1, &[0; 4], &mut out), refused(5, 0));
+
+    let mut out = [7; 3];
+    assert_eq!(calls::narrow_from_wide(33, &[0; 7], &mut out), refused(1, 0));
+    assert_eq!(calls::narrow_from_wide(32, &[0; 7], &mut out), refused(20, 0));
+    assert_eq!(calls::narrow_from_wide(17, &[], &mut out), refused(20, 0));
+    assert_eq!(calls::narrow_from_wide(16, &[0; 4], &mut out), refused(2, 0));
+    assert_eq!(calls::narrow_from_wide(16, &[255; 8 * 4097], &mut out), refused(3, 0));
+    assert_eq!(calls::narrow_from_wide(16, &[0, 0, 1, 0, 0, 0, 0, 0], &mut out), refused(4, 0));
+    assert_eq!(calls::narrow_from_wide(16, &[0; 8], &mut out), refused(5, 0));
+    assert_eq!(out, [7; 3]);
 }
 
 #[test]
 fn refusals_at_a_step_leave_the_work_buffer_zero() {
-    let mut work = vec![7; 4 * 4096 + 3];
+    let mut work = vec![7; RECORD * 4096 + 3];
     let split = encoded_script(&[Split { v: 0, i: 0 }]);
-    assert_eq!(calls::run(1, &[0; 4 * 4096], &split, &mut work), refused(13, 0));
+    assert_eq!(calls::run(1, &[0; RECORD * 4096], &split, &mut work), refused(13, 0));
     assert!(work.iter().all(|&byte| byte == 0));
 
-    let (mut work, mut out) = (vec![7; 11], vec![7; 9]);
+    let (mut work, mut out) = (vec![7; 19], vec![7; 17]);
     let join = encoded_script(&[L { v: 0, literal: 1 }, Join { i: 1, j: 1 }]);
     assert_eq!(calls::settle(1, &records(&["0", "1"]), &join, &mut work, &mut out), refused(11, 1));
-    assert_eq!((work, out), (vec![0; 11], vec![7; 9]));
+    assert_eq!((work, out), (vec![0; 19], vec![7; 17]));
 
     let drop = encoded_script(&[Drop { i: 0, j: 1 }]);
-    assert_eq!(calls::run(1, &records(&["0", "1"]), &drop, &mut [7; 8]), refused(12, 0));
+    assert_eq!(calls::run(1, &records(&["0", "1"]), &drop, &mut [7; 16]), refused(12, 0));
 }
 
 #[test]
 fn refusals_before_the_first_step_write_nothing() {
-    let mut work = vec![7; 8];
+    let mut work = vec![7; 16];
     let mut late = encoded_script(&[L { v: 0, literal: 1 }, L { v: 0, literal: 1 }]);
     late[8 + 7] = 1;
     assert_eq!(calls::run(1, &records(&["0", "1"]), &late, &mut work), refused(9, 1));
-    assert_eq!(work, [7; 8]);
+    assert_eq!(work, [7; 16]);
 }
 
 #[test]

@@ -127,3 +127,33 @@ pub unsafe extern "C" fn dm_settle(
         give(calls::settle(n, list, script, work, out), answer)
     }
 }
+
+#[unsafe(no_mangle)]
+pub unsafe extern "C" fn dm_wide_from_narrow(
+    n: u64,
+    list: *const u8,
+    list_length: usize,
+    out: *mut u8,
+    out_length: usize,
+    answer: *mut u64,
+) {
+    unsafe {
+        let out = from_raw_parts_mut(out, out_length);
+        give(calls::wide_from_narrow(n, from_raw_parts(list, list_length), out), answer)
+    }
+}
+
+#[unsafe(no_mangle)]
+pub unsafe extern "C" fn dm_narrow_from_wide(
+    n: u64,
+    list: *const u8,
+    list_length: usize,
+    out: *mut u8,
+    out_length: usize,
+    answer: *mut u64,
+) {
+    unsafe {
+        let out = from_raw_parts_mut(out, out_length);
+        give(calls::narrow_from_wide(n, from_raw_parts(list, list_length), out), answer)
+    }
+}

@@ -1,4 +1,4 @@
--- `settle_named` is safe and ends: a line that gives a number gives at most 16 variables.
+-- `settle_named` is safe and ends: a line that gives a number gives one that a list can have.
 -- Assumes nothing.
 use Rattle.map_files.proofs.Lines.{variables-few}
 use borrow.Author.Needs.{needs}

@@ -4,7 +4,7 @@ use mathlib.Core.Path.{_≡_, refl, sym, ap, ap₂, _∙_, subst}
 use mathlib.Core.Bool.{true, not}
 use mathlib.Core.List.{List, [], _∷_, map}
 use Prim.Native.Nat.{ℕ, _+_, _-_, _^_, _<_, _≤_, zero-le}
-use native.Mathlib.Nat.{sub-zero, le-trans}
+use native.Mathlib.Nat.{sub-zero}
 use native.Mathlib.Numerals.{add-one}
 use native.Mathlib.Omega.{arith}
 use lib.ListN.{length}
@@ -18,15 +18,14 @@ use Rattle.records.specs.Records.{stored, written}
 use Rattle.records.proofs.Answers.{and-then, and-not}
 use Rattle.records.proofs.Records.{length-stored}
 use Rattle.cube.specs.declared.Cube.{Cube}
-use Rattle.cube.specs.Lists.{cubes, narrow, cubeCapacity}
-use Rattle.cube.proofs.Lists.{good-narrow}
+use Rattle.cube.specs.Lists.{cubes, cubeCapacity}
 use Rattle.polarity.specs.Forms.{product, formFrom}
 use Rattle.polarity.specs.Vectors.{byteAt, Vector, checkVector}
 use Rattle.polarity.specs.Calls.{formOutcome}
 use Rattle.polarity.specs.Words.{nonzero}
 use Rattle.polarity.proofs.Vectors.{check-accepts, check-long}
 use Rattle.bits.proofs.Below.{those-next, those-skip, those-end}
-use Rattle.polarity.proofs.Forms.{product-good, form-length}
+use Rattle.polarity.proofs.Forms.{form-length}
 
 -- ---- counting
 
@@ -84,13 +83,11 @@ module _ (n p : ℕ) (l out₀ : List ℕ) (v : Vector n l) where
       left = ap (λ (r : List Cube). written cubes place r out) (sym (ap (map (product p)) (those-skip (λ t. nonzero (byteAt l t)) (length l) s h (ap nonzero e)))) ∙ W .left;
     }
 
-    pub writing-more : (c : Cube) (out′ : List ℕ) → s < length l → (byteAt l s ≡ 0 → ⊥) → c ≡ product p s → out′ ≡ stored cubes out place (narrow c)
+    pub writing-more : (c : Cube) (out′ : List ℕ) → s < length l → (byteAt l s ≡ 0 → ⊥) → c ≡ product p s → out′ ≡ stored cubes out place c
         → Writing n p l out₀ out′ (place + 1) (s + 1)
     unfolding written
     writing-more c out′ h d ec eo =
-        let fits : narrow c ≡ product p s =
-        ap narrow ec ∙ good-narrow n (product p s) (le-trans (v .few) (omega arith)) (product-good p s n (subst (λ (m : ℕ). s < m) (v .long) h)) in
-        let put : out′ ≡ stored cubes out place (product p s) = eo ∙ ap (stored cubes out place) fits in
+        let put : out′ ≡ stored cubes out place (product p s) = eo ∙ ap (stored cubes out place) ec in
         let here : nonzero (byteAt l s) ≡ true = ap not (ne-eqb (byteAt l s) 0 d) in
         record {
           long = ap length put ∙ length-stored cubes out place (product p s) ∙ W .long;

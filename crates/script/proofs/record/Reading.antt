@@ -6,11 +6,11 @@ use Prim.Native.Nat.{ℕ, suc, _+_, _-_, _*_, _/_, _%_, _≤_, _<_}
 use native.Mathlib.Nat.{add-zero}
 use native.Mathlib.Numerals.{add-one, add-two}
 use native.Mathlib.Omega.{arith}
-use lib.ListN.{length, getD, set, take, drop, length-set}
+use lib.ListN.{length, getD, set, length-set}
 use lib.Seq.{sets, length-sets}
 use Rattle.records.specs.Numbers.{bytesOf, numberAt}
 use Rattle.records.specs.Records.{listOf, stored}
-use Rattle.records.proofs.Widths.{number-part}
+use Rattle.records.proofs.Widths.{number-one}
 use Rattle.records.proofs.Records.{list-at, list-past, stored-in, stored-out}
 use Rattle.steps.specs.declared.StepRecord.{StepRecord}
 use Rattle.script.specs.Scripts.{stepRecords, narrowStep, placeSize, stepWidth}
@@ -19,10 +19,6 @@ use Rattle.script.specs.Scripts.{stepRecords, narrowStep, placeSize, ste
 
 pub step-past : (b : List ℕ) (k : ℕ) → length b / stepWidth ≤ k → stepRecords .none ≡ getD (listOf stepRecords b) k (stepRecords .none)
 step-past b k h = sym (list-past stepRecords b k (stepRecords .none) h)
-
-number-one : (b : List ℕ) (p : ℕ) → getD b p 0 ≡ numberAt 1 b p
-unfolding numberAt
-number-one b p = omega arith
 
 pub step-in : (b : List ℕ) (k i j : ℕ) → k < length b / stepWidth → i ≡ numberAt 2 b (stepWidth * k + 2) → j ≡ numberAt 2 b (stepWidth * k + 4)
     → record {
@@ -43,12 +39,6 @@ step-in b k i j h ei ej =
       zero = number-one b (8 * k + 7) t;
     })
     ∙ sym (list-at stepRecords b k (stepRecords .none) h)
-
--- two bytes of a script read as a part of it
-pub place-in : (b : List ℕ) (p x : ℕ) → p + 2 ≤ length b → x ≡ numberAt 2 (take (p + 2 - p) (drop p b)) 0 → x ≡ numberAt 2 b p
-place-in b p x h e =
-    let long : p + 2 - p ≡ 2 = omega arith in
-    e ∙ ap (λ (m : ℕ). numberAt 2 (take m (drop p b)) 0) long ∙ number-part 2 b p 2 0 (omega arith) ∙ ap (numberAt 2 b) (add-zero p)
 
 -- ---- a step's record stored
 

@@ -18,17 +18,17 @@ loop-holds c = search needs
 find-requires : tie.Need-find-requires Inv-loop μ-loop
 find-requires c κs = search needs
 
-sub-case : tie.Need-sub-case Inv-loop μ-loop
-sub-case c = search needs
+sub-row : tie.Need-sub-row Inv-loop μ-loop
+sub-row c = search needs
 
-part-case-start : tie.Need-part-case-start Inv-loop μ-loop
-part-case-start c = search needs
+part-row-start : tie.Need-part-row-start Inv-loop μ-loop
+part-row-start c = search needs
 
-part-case-end : tie.Need-part-case-end Inv-loop μ-loop
-part-case-end c = search needs
+part-row-end : tie.Need-part-row-end Inv-loop μ-loop
+part-row-end c = search needs
 
-case-requires : tie.Need-case-requires Inv-loop μ-loop
-case-requires c κs = search needs
+row-requires : tie.Need-row-requires Inv-loop μ-loop
+row-requires c κs = search needs
 
 returns : tie.Need-returns Inv-loop μ-loop
 returns c = search needs
@@ -53,10 +53,10 @@ cases-spec =
     μ-loop
     loop-holds
     find-requires
-    sub-case
-    part-case-start
-    part-case-end
-    case-requires
+    sub-row
+    part-row-start
+    part-row-end
+    row-requires
     returns
     add-p
     loop-less

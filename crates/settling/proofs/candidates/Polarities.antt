@@ -14,8 +14,8 @@ use Rattle.records.specs.declared.Refusal.{Refusal}
 use Rattle.records.specs.Answers.{accepted, Accepts}
 use Rattle.records.proofs.Answers.{not-both, unless-accepted, and-then, after-accepted}
 use Rattle.cube.specs.declared.Cube.{Cube}
-use Rattle.cube.specs.Lists.{cubesOf, listValue, truthVector, mostVariables, vectorVariables}
-use Rattle.cube.specs.Calls.{checkList, vectorOutcome, vectorAfter}
+use Rattle.cube.specs.Lists.{cubes, cubesOf, listValue, truthVector, mostVariables, vectorVariables}
+use Rattle.cube.specs.Calls.{checkListOf, checkList, vectorOutcome, vectorAfter}
 use Rattle.cube.proofs.Lists.{check-accepts}
 use Rattle.polarity.specs.declared.Best.{Best}
 use Rattle.polarity.specs.declared.Best.the-variants as best-is
@@ -30,7 +30,7 @@ use Rattle.settling.proofs.Forming.{truth-vector-is, vector-accepted}
 
 module _ (n : ℕ) (list : List ℕ) (p : Accepts (checkList vectorVariables n list)) where
   few : n ≤ vectorVariables
-  few = check-accepts vectorVariables n list (p .values) (p .is) .few
+  few = check-accepts cubes vectorVariables n list (p .values) (p .is) .few
 
   pub vector-written : (v v′ : List ℕ) → length v ≡ 2 ^ n → v′ ≡ vectorAfter n list v → v′ ≡ truthVector n (cubesOf list)
   unfolding vectorAfter vectorOutcome
@@ -63,7 +63,7 @@ module _ (n : ℕ) (list : List ℕ) (p : Accepts (checkList vectorVariables n l
 
 -- fewer variables pass the stricter check
 pub passed-few : (n : ℕ) (list : List ℕ) → Accepts (checkList mostVariables n list) → n ≤ vectorVariables → Accepts (checkList vectorVariables n list)
-unfolding checkList
+unfolding checkListOf
 passed-few n list p h =
     let q = unless-accepted (leb n mostVariables) 1 0 _ (p .values) (p .is) in
     record { values = p .values; is = simp (le-leb _ _ h) (q .1) }

@@ -15,7 +15,7 @@ use Rattle.records.specs.declared.Refusal.{Refusal}
 use Rattle.records.proofs.Answers.{not-both, accepted-values, unless-accepted, unless-at-accepted, and-then, and-not, unless-passes, unless-fails}
 use Rattle.records.proofs.Records.{capacity-fits, capacity-most, holds-fits, image-holds}
 use Rattle.records.proofs.Images.{length-flat}
-use Rattle.cube.specs.Calls.{checkList}
+use Rattle.cube.specs.Calls.{checkListOf, checkList}
 use Rattle.cube.specs.Cubes.{good}
 use Rattle.cube.specs.Lists.{cubes, cubesOf, cubeCapacity, mostVariables, recordWidth, mostRecords}
 use Rattle.cube.specs.declared.Cube.{Cube}
@@ -42,7 +42,7 @@ module _ (n : ℕ) (list result : List ℕ) (best : BestForm) (F : FormIs n (cub
     (S : StandsFor n (cubesOf result) (cubesOf list) (burnedList n (cubesOf result) (cubesOf list)) c) where
   pub best-burnable : (out : ℕ) → Burns n list result out → Burnable n list result best (c .origin) out
   best-burnable out b = record {
-    list-whole = check-accepts mostVariables n list (b .passed .values) (b .passed .is) .whole;
+    list-whole = check-accepts cubes mostVariables n list (b .passed .values) (b .passed .is) .whole;
     result-whole = b .whole;
     best-is = F;
     named = S .named;
@@ -80,7 +80,7 @@ module _ (n : ℕ) (list script work out : List ℕ) where
 
   module _ (given : ℕ) (eg : checkList mostVariables n list ≡ accepted (given ∷ [])) where
     given-is : given ≡ length (cubesOf list)
-    unfolding checkList
+    unfolding checkListOf
     given-is =
         let p = unless-accepted (leb n mostVariables) 1 0 _ _ eg in
         let q = unless-accepted (eqb (length list % recordWidth) 0) 2 0 _ _ (p .1) in

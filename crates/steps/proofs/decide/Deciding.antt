@@ -16,7 +16,7 @@ use Rattle.bits.specs.Bits.{bit}
 use Rattle.bits.proofs.Bools.{all-at}
 use Rattle.bits.proofs.Bits.{bit-lt, bit-ext, bit-high, bit-xor, pow-bit, pow-bit-other}
 use Rattle.cube.specs.declared.Cube.{Cube}
-use Rattle.cube.specs.Cubes.{code, put, withCode, Good, apart, differing}
+use Rattle.cube.specs.Cubes.{code, put, withCode, Good, apart, differing, maskBits}
 use Rattle.cube.specs.Lists.{mostVariables}
 use Rattle.cube.proofs.Codes.{code-lt, code-above, with-put}
 use Rattle.cube.proofs.Masks.{differing-bit, apart-count}
@@ -81,7 +81,7 @@ is-pow x v e f = bit-ext x (2 ^ v) (λ k. go k (ℕ-discrete k v))
     go k (no d) = f k d ∙ sym (pow-bit-other v k d)
 
 -- its lowest member
-lowest-pow : (v : ℕ) → v < 32 → trailingZeros 32 (2 ^ v) ≡ v
+lowest-pow : (v : ℕ) → v < maskBits → trailingZeros 32 (2 ^ v) ≡ v
 unfolding trailingZeros
 lowest-pow v h = eqb-true _ _ (all-at 32 (λ v. eqb (trailingZeros 32 (2 ^ v)) v) refl v h)
 
@@ -127,7 +127,7 @@ module _ (n : ℕ) (a b : Cube) (g : Good n a) (h : Good n b) where
       at k d (no c) = ap₂ differ (bit-apart k (λ l. t .elsewhere k l c d)) (pow-bit-other p k c)
 
 -- the only member of a set, as its lowest
-only : (x v u : ℕ) → u < 32 → x ≡ 2 ^ u → v ≡ trailingZeros 32 x → v ≡ u
+only : (x v u : ℕ) → u < maskBits → x ≡ 2 ^ u → v ≡ trailingZeros 32 x → v ≡ u
 only x v u l e f = f ∙ ap (trailingZeros 32) e ∙ lowest-pow u l
 
 pub third-made : (c d r : Cube) (v x y z : ℕ) → x ≡ code c v → y ≡ code d v → z ≡ thirdOf x y → r ≡ withCode c v z
@@ -135,7 +135,7 @@ pub third-made : (c d r : Cube) (v x y z : ℕ) → x ≡ code c v → y ≡ cod
 third-made c d r v x y z ex ey ez er =
     er ∙ ap (withCode c v) (ez ∙ ap₂ thirdOf ex ey)
 
-third-put : (c d x : Cube) (v u : ℕ) → u < 32 → v ≡ u → code d u ≢ code c u → x ≡ withCode c v (thirdOf (code c v) (code d v)) → x ≡ thirdAt c d u
+third-put : (c d x : Cube) (v u : ℕ) → u < maskBits → v ≡ u → code d u ≢ code c u → x ≡ withCode c v (thirdOf (code c v) (code d v)) → x ≡ thirdAt c d u
 third-put c d x v u l e ne f =
     f ∙ ap (λ (w : ℕ). withCode c w (thirdOf (code c w) (code d w))) e
     ∙ ap (withCode c u) (third-of-codes (code c u) (code d u) (code-lt c u) (code-lt d u) ne) ∙ with-put c u (third (code c u) (code d u)) l
@@ -199,7 +199,7 @@ module _ (n count i j p : ℕ) (a b : Cube) (e : p ≡ placesNumber count i j) w
         go : (l : List ℕ) → apart n a b ≡ l → joins c ≡ joined a b l
         go [] el = absurd (omega (arith, many [] el))
         go (u ∷ []) el =
-            let l : u < 32 = omega (arith, apart-one n a b u el .0) in
+            let l : u < maskBits = omega (arith, apart-one n a b u el .0) in
             ap joins (third-put a b c v u l (only s v u l (es ∙ one-set n a b g h u el) ev) (apart-one n a b u el .1) ec)
         go (u ∷ w ∷ l) el = absurd (omega (arith, many (u ∷ w ∷ l) el))
 
@@ -240,8 +240,8 @@ module _ (n count i j p : ℕ) (a b : Cube) (e : p ≡ placesNumber count i j) w
         where
           made : (p q : ℕ) → Two n a b p q → v ≡ p → turns c d ≡ turns (thirdAt a b p) (thirdAt b a q)
           made p q w e =
-              let lp : p < 32 = omega (arith, w .p-lt) in
-              let lq : q < 32 = omega (arith, w .q-lt) in
+              let lp : p < maskBits = omega (arith, w .p-lt) in
+              let lq : q < maskBits = omega (arith, w .q-lt) in
               let rest : bitXor s m ≡ 2 ^ q = ap₂ bitXor es (em ∙ ap (λ (k : ℕ). 2 ^ k) e) ∙ other-set n a b g h p q w in
               ap₂ turns (third-put a b c v p lp e (w .at-p) ec) (third-put b a d u q lq (only (bitXor s m) u q lq rest eu) (λ z. w .at-q (sym z)) ed)
 
@@ -267,7 +267,7 @@ module _ (count cap v i : ℕ) (a : Cube) where
   unfolding moveOf splitMove
   split-full hi h = simp (lt-ltb i count hi, le-ltb count cap h)
 
-  pub split-halves : i < count → count < cap → v < 32 → (x y z : ℕ) → x ≡ code a v → y ≡ lower x → z ≡ higher x
+  pub split-halves : i < count → count < cap → v < maskBits → (x y z : ℕ) → x ≡ code a v → y ≡ lower x → z ≡ higher x
       → (c d : Cube) → c ≡ withCode a v y → d ≡ withCode a v z → moveOf (change-is.Split c d) ≡ splitMove count cap v i a
   unfolding moveOf splitMove
   split-halves hi hc hv x y z ex ey ez c d ec ed =

@@ -12,14 +12,14 @@ use Rattle.records.proofs.Images.{length-image, length-remove}
 use Rattle.records.proofs.Records.{Lawful, length-records, getD-records, list-at, length-stored, place-room, held-fits, held-place, holds-store, holds-push, holds-remove, holds-held, holds-records, image-holds}
 use Rattle.cube.specs.declared.Cube.{Cube}
 use Rattle.cube.specs.Cubes.{one}
-use Rattle.cube.specs.Lists.{cubes, narrow, recordWidth}
+use Rattle.cube.specs.Lists.{cubes, recordWidth}
 use Rattle.cube.proofs.Lists.{lawful}
 use Rattle.steps.specs.declared.Change.{Change}
 use Rattle.steps.specs.declared.Change.the-variants as change-is
 use Rattle.steps.specs.declared.Stepped.the-variants as stepped-is
 use Rattle.steps.specs.Moves.{Move, refuse, drops, joins, splits, turns, After, next, applied, dropAt, joinAt, splitAt, turnAt}
 use Rattle.steps.specs.Effects.{TwoPlaces}
-use Rattle.steps.specs.Changes.{moveOf, OnePlace, Placed, Writes, Narrow, DoneBy}
+use Rattle.steps.specs.Changes.{moveOf, OnePlace, Placed, DoneBy}
 use Rattle.steps.proofs.Places.{length-drop-at, length-join-at, length-split-at, length-turn-at}
 
 -- ---- a place looked at
@@ -61,13 +61,13 @@ module _ {A : Type 0} (C : Codec A) (K : Lawful C) where
 
   -- ---- a place removed among k
 
-  pub remove-done : (k i : ℕ) (b b₁ b₂ : List ℕ) (c x : A) → Held C k b → i < k → c ≡ getD (listOf C b) (k - 1) (C .none) → x ≡ c
+  pub remove-done : (k i : ℕ) (b b₁ b₂ : List ℕ) (x : A) → Held C k b → i < k → x ≡ getD (listOf C b) (k - 1) (C .none)
       → b₁ ≡ stored C b i x → b₂ ≡ stored C b₁ (k - 1) (C .none) → b₂ ≡ image C (length b) (removeAt (C .none) (records C k b) i)
   unfolding Held
-  remove-done k i b b₁ b₂ c x h hi ec ex e₁ e₂ =
+  remove-done k i b b₁ b₂ x h hi ex e₁ e₂ =
       let l : List A = records C k b in
       let many : length l ≡ k = length-records C k b in
-      let x-is : x ≡ getD l (k - 1) (C .none) = ex ∙ look-in C k (k - 1) b K h (omega arith) c ec in
+      let x-is : x ≡ getD l (k - 1) (C .none) = look-in C k (k - 1) b K h (omega arith) x ex in
       in-place (length b) b₂ (removeAt (C .none) l i)
       (ap length e₂ ∙ length-stored C b₁ (k - 1) (C .none) ∙ ap length e₁ ∙ length-stored C b i x)
       (subst (λ (t : List ℕ). Holds C t (removeAt (C .none) l i))
@@ -139,7 +139,7 @@ module _ {A : Type 0} (C : Codec A) (K : Lawful C) where
         (stored-long k j b₁ b₂ y h₁ (p .second) e₂ ∙ stored-long k i b b₁ x h (p .first) e₁)
         (subst (λ (l : List A). Holds C b₂ (set l j y)) (stored-records k i b b₁ x h (p .first) e₁) (stored-holds k j b₁ b₂ y h₁ (p .second) e₂))
 
--- ---- what the places of a move say, and what it writes
+-- ---- what the places of a move say
 
 module _ {A : Type 0} (k room i j : ℕ) (m : Move A) (p : Placed k room i j m) where
   pub drop-in : m ≡ drops → TwoPlaces k i j
@@ -158,20 +158,7 @@ module _ {A : Type 0} (k room i j : ℕ) (m : Move A) (p : Placed k room i j m) 
   unfolding Placed
   turn-in x y e = subst (Placed k room i j) e p
 
-module _ {A : Type 0} (P : A → Type 0) (m : Move A) (w : Writes P m) where
-  join-writes : (x : A) → m ≡ joins x → P x
-  unfolding Writes
-  join-writes x e = subst (Writes P) e w
-
-  split-writes : (x y : A) → m ≡ splits x y → P x × P y
-  unfolding Writes
-  split-writes x y e = subst (Writes P) e w
-
-  turn-writes : (x y : A) → m ≡ turns x y → P x × P y
-  unfolding Writes
-  turn-writes x y e = subst (Writes P) e w
-
--- ---- a move m made to the k records of a buffer b, return by return; of each record that is stored, all of it fits
+-- ---- a move m made to the k records of a buffer b, return by return
 
 module _ {A : Type 0} (C : Codec A) (K : Lawful C) (k i j : ℕ) (b : List ℕ) (m : Move A) where
   made-next : (b′ : List ℕ) (l : List A) (count : ℕ) → applied (C .none) i j (records C k b) m ≡ next l → b′ ≡ image C (length b) l → length l ≡ count
@@ -192,42 +179,35 @@ module _ {A : Type 0} (C : Codec A) (K : Lawful C) (k i j : ℕ) (b : List ℕ) 
       (dropped-image C K k i j b h hi lo ehi elo b₁ b₂ e₁ e₂)
       (length-drop-at (C .none) (records C k b) i j ∙ ap (λ (n : ℕ). n - 2) (length-records C k b))
 
-  module _ (Fit : A → Type 0) (fit : A → A) (fits : (x : A) → Fit x → fit x ≡ x) (p : Placed k (length b / C .width) i j m) (w : Writes Fit m) where
-    pub held-join : (x : A) → m ≡ joins x → Held C k b → (b₁ : List ℕ) → b₁ ≡ stored C b i (fit x) → Held C k b₁
-    held-join x e h b₁ e₁ = stored-held C K k i b b₁ (fit x) h (join-in k (length b / C .width) i j m p x e .first) e₁
+  module _ (p : Placed k (length b / C .width) i j m) where
+    pub held-join : (x : A) → m ≡ joins x → Held C k b → (b₁ : List ℕ) → b₁ ≡ stored C b i x → Held C k b₁
+    held-join x e h b₁ e₁ = stored-held C K k i b b₁ x h (join-in k (length b / C .width) i j m p x e .first) e₁
 
-    pub made-join : (x : A) → m ≡ joins x → Held C k b → (b₁ b₂ : List ℕ) → b₁ ≡ stored C b i (fit x)
+    pub made-join : (x : A) → m ≡ joins x → Held C k b → (b₁ b₂ : List ℕ) → b₁ ≡ stored C b i x
         → b₂ ≡ image C (length b₁) (removeAt (C .none) (records C k b₁) j) → DoneBy C b b₂ (applied (C .none) i j (records C k b) m) (stepped-is.Count (k - 1))
     unfolding applied
     made-join x e h b₁ b₂ e₁ e₂ =
         made-next b₂ (joinAt (C .none) (records C k b) i j x) (k - 1) (ap (applied (C .none) i j (records C k b)) e)
-        (joined-image C K k i j b h (join-in k (length b / C .width) i j m p x e .first) x b₁ b₂
-        (e₁ ∙ ap (stored C b i) (fits x (join-writes Fit m w x e))) e₂)
+        (joined-image C K k i j b h (join-in k (length b / C .width) i j m p x e .first) x b₁ b₂ e₁ e₂)
         (length-join-at (C .none) (records C k b) i j x ∙ ap (λ (n : ℕ). n - 1) (length-records C k b))
 
-    pub made-split : (x y : A) → m ≡ splits x y → Held C k b → (b₁ b₂ : List ℕ) → b₁ ≡ stored C b i (fit x) → b₂ ≡ stored C b₁ k (fit y)
+    pub made-split : (x y : A) → m ≡ splits x y → Held C k b → (b₁ b₂ : List ℕ) → b₁ ≡ stored C b i x → b₂ ≡ stored C b₁ k y
         → DoneBy C b b₂ (applied (C .none) i j (records C k b) m) (stepped-is.Count (k + 1))
     unfolding applied
     made-split x y e h b₁ b₂ e₁ e₂ =
-        let all = split-writes Fit m w x y e in
         made-next b₂ (splitAt (records C k b) i x y) (k + 1) (ap (applied (C .none) i j (records C k b)) e)
-        (split-image C K k i j b h (split-in k (length b / C .width) i j m p x y e) x y b₁ b₂ (e₁ ∙ ap (stored C b i) (fits x (all .0))) (e₂ ∙ ap (stored C b₁ k) (fits y (all .1))))
+        (split-image C K k i j b h (split-in k (length b / C .width) i j m p x y e) x y b₁ b₂ e₁ e₂)
         (length-split-at (records C k b) i x y ∙ ap (λ (n : ℕ). n + 1) (length-records C k b))
 
-    pub made-turn : (x y : A) → m ≡ turns x y → Held C k b → (b₁ b₂ : List ℕ) → b₁ ≡ stored C b i (fit x) → b₂ ≡ stored C b₁ j (fit y)
+    pub made-turn : (x y : A) → m ≡ turns x y → Held C k b → (b₁ b₂ : List ℕ) → b₁ ≡ stored C b i x → b₂ ≡ stored C b₁ j y
         → DoneBy C b b₂ (applied (C .none) i j (records C k b) m) (stepped-is.Count k)
     unfolding applied
     made-turn x y e h b₁ b₂ e₁ e₂ =
-        let all = turn-writes Fit m w x y e in
         made-next b₂ (turnAt (records C k b) i j x y) k (ap (applied (C .none) i j (records C k b)) e)
-        (turned-image C K k i j b h (turn-in k (length b / C .width) i j m p x y e) x y b₁ b₂ (e₁ ∙ ap (stored C b i) (fits x (all .0))) (e₂ ∙ ap (stored C b₁ j) (fits y (all .1))))
+        (turned-image C K k i j b h (turn-in k (length b / C .width) i j m p x y e) x y b₁ b₂ e₁ e₂)
         (length-turn-at (records C k b) i j x y ∙ length-records C k b)
 
 -- ---- cubes in the work buffer
-
-pub narrow-fits : (c : Cube) → Narrow c → narrow c ≡ c
-unfolding Narrow
-narrow-fits c h = h
 
 -- a change of cubes, as a move
 module _ (change : Change) where
@@ -252,17 +232,17 @@ module _ (change : Change) where
   turn-move c d e = ap moveOf e
 
 -- a join of cubes
-module _ (k i j : ℕ) (b : List ℕ) (change : Change) (p : Placed k (length b / recordWidth) i j (moveOf change)) (w : Writes Narrow (moveOf change))
-    (c : Cube) (e : change ≡ change-is.Join c) where
+module _ (k i j : ℕ) (b : List ℕ) (change : Change) (p : Placed k (length b / recordWidth) i j (moveOf change)) (c : Cube)
+    (e : change ≡ change-is.Join c) where
   pub join-below : j < k
   join-below = join-in k (length b / recordWidth) i j (moveOf change) p c (join-move change c e) .second
 
   pub join-one : 1 ≤ k
   join-one = omega (arith, join-below)
 
-  pub join-held : Held cubes k b → (b₁ : List ℕ) → b₁ ≡ stored cubes b i (narrow c) → Held cubes k b₁
-  join-held = held-join cubes lawful k i j b (moveOf change) Narrow narrow narrow-fits p w c (join-move change c e)
+  pub join-held : Held cubes k b → (b₁ : List ℕ) → b₁ ≡ stored cubes b i c → Held cubes k b₁
+  join-held = held-join cubes lawful k i j b (moveOf change) p c (join-move change c e)
 
-  pub perform-join : Held cubes k b → (b₁ b₂ : List ℕ) → b₁ ≡ stored cubes b i (narrow c) → b₂ ≡ image cubes (length b₁) (removeAt one (records cubes k b₁) j)
+  pub perform-join : Held cubes k b → (b₁ b₂ : List ℕ) → b₁ ≡ stored cubes b i c → b₂ ≡ image cubes (length b₁) (removeAt one (records cubes k b₁) j)
       → DoneBy cubes b b₂ (applied one i j (records cubes k b) (moveOf change)) (stepped-is.Count (k - 1))
-  perform-join = made-join cubes lawful k i j b (moveOf change) Narrow narrow narrow-fits p w c (join-move change c e)
+  perform-join = made-join cubes lawful k i j b (moveOf change) p c (join-move change c e)

@@ -1,10 +1,10 @@
 -- The codes at one variable moved by an order, in one cube: three codes have two bits, and each new bit is a sum of the old ones, taken by masks.
 -- Assumes nothing.
-use mathlib.Core.Path.{_≡_, refl, sym, ap, ap₂, _∙_}
+use mathlib.Core.Path.{_≡_, refl, sym, ap, ap₂, _∙_, subst}
 use mathlib.Core.Logic.{_≢_}
 use mathlib.Core.Bool.{Bool, true, cond, _&&_}
 use Prim.Native.Nat.{ℕ, zero, suc, _/_, _%_, _^_, _≤_, _<_, min, zero-le}
-use native.Mathlib.Nat.{min-zero, mod-eq-of-lt}
+use native.Mathlib.Nat.{min-zero}
 use native.Mathlib.Omega.{arith}
 use lib.Bits.{bitAnd, bitXor, differ, and-shr, xor-shr, and-mod, xor-mod}
 use lib.Dec.{lit<, eqb, ltb, leb}
@@ -15,13 +15,12 @@ use Rattle.bits.proofs.Bools.{both-true, all-at₂, all-at₃, one-lt}
 use Rattle.bits.proofs.Bits.{bit-lt, bit-high, bit-and, bit-xor, differ-lt, differ-zero, with-same, with-other, with-lt, is-with, pow-bit, pow-bit-other}
 use Rattle.cube.specs.declared.Cube.{Cube}
 use Rattle.cube.specs.Cubes.{codeOf, code, seenBit, valueBit, put, withCode, one, Good}
-use Rattle.cube.specs.CubeRecord.{recordNumber, halves, halfSize}
 use Rattle.cube.specs.Lists.{mostVariables}
 use Rattle.cube.proofs.Codes.{code-lt, good-seen, good-value, with-put}
 use Rattle.orders.specs.Orders.{codeAfter}
 use Rattle.steps.specs.declared.reorder.Masks.{Masks}
 use Rattle.steps.specs.Steps.{reordered}
-use Rattle.steps.specs.Changes.{literalAfter, masksAt}
+use Rattle.steps.specs.Changes.{literalAfter, halfSize, wordOf, halves, masksAt}
 
 -- ---- one bit
 
@@ -120,13 +119,13 @@ module _ (v : ℕ) where
 -- ---- two masks as one number
 
 abbrev pair : ℕ → ℕ → ℕ
-pair low high = recordNumber (record { seen = low; value = high })
+pair low high = wordOf (record { seen = low; value = high })
 
-module _ (low high : ℕ) where
-  pair-low : pair low high % halfSize ≡ low % halfSize
+module _ (low high : ℕ) (h : low < halfSize) where
+  pair-low : pair low high % halfSize ≡ low
   pair-low = omega arith
 
-  pair-high : pair low high / halfSize ≡ high % halfSize
+  pair-high : pair low high / halfSize ≡ high
   pair-high = omega arith
 
 -- ---- a cube by masks
@@ -135,35 +134,41 @@ module _ (low high : ℕ) where
 unfoldable pub byMasks : Masks → Cube → Cube
 byMasks k c = halves (changed (pair (c .seen) (c .value)) (k .own) (pair (c .value) (c .seen)) (k .other) (k .always))
 
-module _ (v : ℕ) (l : v < mostVariables) where
-  -- a mask of bit v alone, as one half of a number
-  half-flag : (m a : ℕ) → a < 2 → m ≡ flag v a → m % halfSize ≡ flag v a
-  half-flag m a h e = ap (λ (t : ℕ). t % halfSize) e ∙ mod-eq-of-lt (with-lt mostVariables v 0 a l h (lit< tt))
-
+-- one mask s, with the other w: f has a bit for each code, and i the masks of them
+module _ (v : ℕ) (l : v < mostVariables) (f : ℕ → ℕ) (f-lt : (x : ℕ) → f x < 2) (i : ℕ → ℕ) (flags : (x : ℕ) → i x ≡ flag v (f x)) (j k : ℕ) where
   differ-flags : (m n a b : ℕ) → a < 2 → b < 2 → m ≡ flag v a → n ≡ flag v b → bitXor m n ≡ flag v (differ a b)
   differ-flags m n a b ha hb ea eb = ap₂ bitXor ea eb ∙ flag-xor v a b ha hb
 
-  same-flags : (m n a b : ℕ) → a < 2 → b < 2 → m ≡ flag v a → n ≡ flag v b → bitXor (bitXor (2 ^ v) m) n ≡ flag v (differ (differ 1 a) b)
-  same-flags m n a b ha hb ea eb =
-      differ-flags (bitXor (2 ^ v) m) n (differ 1 a) b (differ-lt 1 a (lit< tt) ha) hb (differ-flags (2 ^ v) m 1 a (lit< tt) ha (flag-one v) ea) eb
+  flag-lt : (m a : ℕ) → a < 2 → m ≡ flag v a → m < halfSize
+  flag-lt m a h e = subst (λ (t : ℕ). t < halfSize) (sym e) (with-lt mostVariables v 0 a l h (lit< tt))
 
-  -- one half h of a number: f has a bit for each code, i the masks of them, and s and w stand in that half of p and q
-  module _ (h : ℕ → ℕ) (and : (a b : ℕ) → h (bitAnd a b) ≡ bitAnd (h a) (h b)) (xor : (a b : ℕ) → h (bitXor a b) ≡ bitXor (h a) (h b))
-      (f : ℕ → ℕ) (f-lt : (x : ℕ) → f x < 2) (i : ℕ → ℕ) (flags : (x : ℕ) → i x ≡ flag v (f x)) (j k : ℕ) where
-    own-lt : differ (differ 1 (f 0)) (f k) < 2
-    own-lt = differ-lt (differ 1 (f 0)) (f k) (differ-lt 1 (f 0) (lit< tt) (f-lt 0)) (f-lt k)
+  from-lt : differ 1 (f 0) < 2
+  from-lt = differ-lt 1 (f 0) (lit< tt) (f-lt 0)
 
-    other-lt : differ (f 0) (f j) < 2
-    other-lt = differ-lt (f 0) (f j) (f-lt 0) (f-lt j)
+  own-lt : differ (differ 1 (f 0)) (f k) < 2
+  own-lt = differ-lt (differ 1 (f 0)) (f k) from-lt (f-lt k)
 
-    half-changed : (p q s w own other always : ℕ) → h p ≡ s → h q ≡ w
-        → h own ≡ bitXor (bitXor (2 ^ v) (i 0)) (i k) % halfSize → h other ≡ bitXor (i 0) (i j) % halfSize → h always ≡ i 2 % halfSize
-        → h (changed p own q other always) ≡ withBit s v (newBit (bit s v) (bit w v) (differ (differ 1 (f 0)) (f k)) (differ (f 0) (f j)) (f 2))
-    half-changed p q s w own other always ep eq eo et ea =
-        let eo₁ : h own ≡ flag v (differ (differ 1 (f 0)) (f k)) = eo ∙ half-flag _ _ own-lt (same-flags _ _ _ _ (f-lt 0) (f-lt k) (flags 0) (flags k)) in
-        let et₁ : h other ≡ flag v (differ (f 0) (f j)) = et ∙ half-flag _ _ other-lt (differ-flags _ _ _ _ (f-lt 0) (f-lt j) (flags 0) (flags j)) in
-        let ea₁ : h always ≡ flag v (f 2) = ea ∙ half-flag _ _ (f-lt 2) (flags 2) in
-        changed-through h and xor p own q other always ∙ (λ t. changed (ep t) (eo₁ t) (eq t) (et₁ t) (ea₁ t)) ∙ changed-flags v s w _ _ _ own-lt other-lt (f-lt 2)
+  own-is : bitXor (bitXor (2 ^ v) (i 0)) (i k) ≡ flag v (differ (differ 1 (f 0)) (f k))
+  own-is = differ-flags (bitXor (2 ^ v) (i 0)) (i k) (differ 1 (f 0)) (f k) from-lt (f-lt k) (differ-flags (2 ^ v) (i 0) 1 (f 0) (lit< tt) (f-lt 0) (flag-one v) (flags 0)) (flags k)
+
+  other-lt : differ (f 0) (f j) < 2
+  other-lt = differ-lt (f 0) (f j) (f-lt 0) (f-lt j)
+
+  other-is : bitXor (i 0) (i j) ≡ flag v (differ (f 0) (f j))
+  other-is = differ-flags (i 0) (i j) (f 0) (f j) (f-lt 0) (f-lt j) (flags 0) (flags j)
+
+  mask-changed : (s w : ℕ) → changed s (bitXor (bitXor (2 ^ v) (i 0)) (i k)) w (bitXor (i 0) (i j)) (i 2)
+      ≡ withBit s v (newBit (bit s v) (bit w v) (differ (differ 1 (f 0)) (f k)) (differ (f 0) (f j)) (f 2))
+  mask-changed s w = (λ t. changed s (own-is t) w (other-is t) (flags 2 t)) ∙ changed-flags v s w _ _ _ own-lt other-lt (f-lt 2)
+
+  own-fits : bitXor (bitXor (2 ^ v) (i 0)) (i k) < halfSize
+  own-fits = flag-lt _ _ own-lt own-is
+
+  other-fits : bitXor (i 0) (i j) < halfSize
+  other-fits = flag-lt _ _ other-lt other-is
+
+  always-fits : i 2 < halfSize
+  always-fits = flag-lt _ _ (f-lt 2) (flags 2)
 
 pub recoded-is : (k : Masks) (c : Cube) → Good mostVariables c → (v o : ℕ) → v < mostVariables → k ≡ masksAt v o → byMasks k c ≡ reordered v o c
 unfolding masksAt byMasks reordered put code
@@ -174,6 +179,12 @@ recoded-is k c g v o l e = ap (λ (t : Masks). byMasks t c) e ∙ (λ t. record 
 
     w : ℕ
     w = c .value
+
+    hs : s < halfSize
+    hs = good-seen mostVariables c g
+
+    hw : w < halfSize
+    hw = good-value mostVariables c g
 
     images : (x : ℕ) → literalAfter v o x ≡ put one v (codeAfter o x)
     images x = with-put one v (codeAfter o x) (omega arith)
@@ -190,20 +201,52 @@ recoded-is k c g v o l e = ap (λ (t : Masks). byMasks t c) e ∙ (λ t. record 
     value-lt : (x : ℕ) → value-of x < 2
     value-lt x = one-lt (eqb (codeAfter o x) 1)
 
+    seen-at : ℕ → ℕ
+    seen-at x = literalAfter v o x .seen
+
+    value-at : ℕ → ℕ
+    value-at x = literalAfter v o x .value
+
+    seen-flags : (x : ℕ) → seen-at x ≡ flag v (seen-of x)
+    seen-flags x = ap (λ (t : Cube). t .seen) (images x)
+
+    own-seen : ℕ
+    own-seen = bitXor (bitXor (2 ^ v) (seen-at 0)) (seen-at 2)
+
+    own-value : ℕ
+    own-value = bitXor (bitXor (2 ^ v) (value-at 0)) (value-at 1)
+
+    other-seen : ℕ
+    other-seen = bitXor (seen-at 0) (seen-at 1)
+
+    other-value : ℕ
+    other-value = bitXor (value-at 0) (value-at 2)
+
+    own-low : own-seen < halfSize
+    own-low = own-fits v l seen-of seen-lt seen-at seen-flags 1 2
+
+    other-low : other-seen < halfSize
+    other-low = other-fits v l seen-of seen-lt seen-at seen-flags 1 2
+
+    always-low : seen-at 2 < halfSize
+    always-low = always-fits v l seen-of seen-lt seen-at seen-flags 1 2
+
     seen-is : byMasks (masksAt v o) c .seen ≡ withBit s v (seen-of (code c v))
     seen-is =
-        half-changed v l (λ t. t % halfSize) (λ a b. and-mod a b mostVariables) (λ a b. xor-mod a b mostVariables)
-        seen-of seen-lt (λ x. literalAfter v o x .seen) (λ x. ap (λ (t : Cube). t .seen) (images x)) 1 2 (pair s w) (pair w s) s w _ _ _
-        (pair-low s w ∙ mod-eq-of-lt (good-seen mostVariables c g)) (pair-low w s ∙ mod-eq-of-lt (good-value mostVariables c g)) (pair-low _ _) (pair-low _ _) (pair-low _ _)
+        changed-through (λ t. t % halfSize) (λ a b. and-mod a b mostVariables) (λ a b. xor-mod a b mostVariables)
+        (pair s w) (masksAt v o .own) (pair w s) (masksAt v o .other) (masksAt v o .always)
+        ∙ (λ t. changed (pair-low s w hs t) (pair-low own-seen own-value own-low t) (pair-low w s hw t) (pair-low other-seen other-value other-low t) (pair-low (seen-at 2) (value-at 2) always-low t))
+        ∙ mask-changed v l seen-of seen-lt seen-at seen-flags 1 2 s w
         ∙ ap (withBit s v)
         (tested (bit s v) (bit w v) (seen-of 0) (seen-of 1) (seen-of 2) (bit-lt s v) (g .inside v) (seen-lt 0) (seen-lt 1) (seen-lt 2) .0
         ∙ pick-code seen-of (code c v) (code-lt c v))
 
     value-is : byMasks (masksAt v o) c .value ≡ withBit w v (value-of (code c v))
     value-is =
-        half-changed v l (λ t. t / halfSize) (λ a b. and-shr a b mostVariables) (λ a b. xor-shr a b mostVariables)
-        value-of value-lt (λ x. literalAfter v o x .value) (λ x. ap (λ (t : Cube). t .value) (images x)) 2 1 (pair s w) (pair w s) w s _ _ _
-        (pair-high s w ∙ mod-eq-of-lt (good-value mostVariables c g)) (pair-high w s ∙ mod-eq-of-lt (good-seen mostVariables c g)) (pair-high _ _) (pair-high _ _) (pair-high _ _)
+        changed-through (λ t. t / halfSize) (λ a b. and-shr a b mostVariables) (λ a b. xor-shr a b mostVariables)
+        (pair s w) (masksAt v o .own) (pair w s) (masksAt v o .other) (masksAt v o .always)
+        ∙ (λ t. changed (pair-high s w hs t) (pair-high own-seen own-value own-low t) (pair-high w s hw t) (pair-high other-seen other-value other-low t) (pair-high (seen-at 2) (value-at 2) always-low t))
+        ∙ mask-changed v l value-of value-lt value-at (λ x. ap (λ (t : Cube). t .value) (images x)) 2 1 w s
         ∙ ap (withBit w v)
         (tested (bit s v) (bit w v) (value-of 0) (value-of 1) (value-of 2) (bit-lt s v) (g .inside v) (value-lt 0) (value-lt 1) (value-lt 2) .1
         ∙ pick-code value-of (code c v) (code-lt c v))
@@ -218,7 +261,7 @@ recoded-made k c x y ex ey r er = er ∙ ap halves (λ t. changed (ex t) (k .own
 pub masks-made : (v o m i₀ i₁ i₂ : ℕ) (x y z : Cube) (own other always : ℕ) → m ≡ 2 ^ v
     → i₀ ≡ codeAfter o 0 → x ≡ withCode one v i₀ → i₁ ≡ codeAfter o 1 → y ≡ withCode one v i₁ → i₂ ≡ codeAfter o 2 → z ≡ withCode one v i₂
     → own ≡ pair (bitXor (bitXor m (x .seen)) (z .seen)) (bitXor (bitXor m (x .value)) (y .value))
-    → other ≡ pair (bitXor (x .seen) (y .seen)) (bitXor (x .value) (z .value)) → always ≡ recordNumber z
+    → other ≡ pair (bitXor (x .seen) (y .seen)) (bitXor (x .value) (z .value)) → always ≡ wordOf z
     → record { own = own; other = other; always = always } ≡ masksAt v o
 unfolding masksAt
 masks-made v o m i₀ i₁ i₂ x y z own other always em e₀ ex e₁ ey e₂ ez eo et ea =
@@ -228,5 +271,5 @@ masks-made v o m i₀ i₁ i₂ x y z own other always em e₀ ex e₁ ey e₂ e
     λ t. record {
       own = (eo ∙ (λ u. pair (bitXor (bitXor (em u) (x₁ u .seen)) (z₁ u .seen)) (bitXor (bitXor (em u) (x₁ u .value)) (y₁ u .value)))) t;
       other = (et ∙ (λ u. pair (bitXor (x₁ u .seen) (y₁ u .seen)) (bitXor (x₁ u .value) (z₁ u .value)))) t;
-      always = (ea ∙ ap recordNumber z₁) t;
+      always = (ea ∙ ap wordOf z₁) t;
     }

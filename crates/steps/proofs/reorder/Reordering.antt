@@ -12,13 +12,11 @@ use Rattle.records.specs.Records.{Codec, stored, records, listOf, image, Holds,
 use Rattle.records.proofs.Records.{Lawful, length-records, length-stored, list-at, held-fits, holds-load, holds-place, holds-store}
 use Rattle.cube.specs.declared.Cube.{Cube}
 use Rattle.cube.specs.Cubes.{one, Good}
-use Rattle.cube.specs.Lists.{cubes, cubesOf, narrow, recordWidth, mostVariables}
-use Rattle.cube.proofs.Lists.{lawful, good-narrow, good-at}
-use Rattle.orders.specs.Orders.{orderCount}
+use Rattle.cube.specs.Lists.{cubes, cubesOf, recordWidth, mostVariables}
+use Rattle.cube.proofs.Lists.{lawful, good-at}
 use Rattle.steps.specs.declared.reorder.Masks.{Masks}
 use Rattle.steps.specs.Steps.{reordered}
 use Rattle.steps.specs.Changes.{masksAt}
-use Rattle.steps.proofs.Linear.{reordered-good}
 
 module _ {A : Type 0} (f : A → A) where
   -- the first k changed
@@ -105,10 +103,6 @@ module _ (n v o : ℕ) (d b : List ℕ) (i : ℕ) (r : Mapped cubes (reordered v
   pub reorder-good : Good mostVariables c
   reorder-good = subst (Good mostVariables) (sym next-is) (good-at mostVariables (records cubes n d) all i)
 
-  pub reorder-more : v < mostVariables → o < orderCount → (k : Masks) → k ≡ masksAt v o → (x : Cube) → ((v o : ℕ) → v < mostVariables → k ≡ masksAt v o → x ≡ reordered v o c)
-      → (b₁ : List ℕ) → b₁ ≡ stored cubes b i (narrow x) → Mapped cubes (reordered v o) n d b₁ (i + 1)
-  reorder-more hv ho k ek x ex b₁ e₁ =
-      let good : Good mostVariables (reordered v o c) = reordered-good mostVariables v o hv ho c reorder-good in
-      mapped-more cubes lawful (reordered v o) n d b i r h (narrow x)
-      (ap narrow (ex v o hv ek) ∙ good-narrow mostVariables (reordered v o c) (omega arith) good ∙ ap (reordered v o) next-is)
-      b₁ e₁
+  pub reorder-more : v < mostVariables → (k : Masks) → k ≡ masksAt v o → (x : Cube) → ((v o : ℕ) → v < mostVariables → k ≡ masksAt v o → x ≡ reordered v o c)
+      → (b₁ : List ℕ) → b₁ ≡ stored cubes b i x → Mapped cubes (reordered v o) n d b₁ (i + 1)
+  reorder-more hv k ek x ex b₁ e₁ = mapped-more cubes lawful (reordered v o) n d b i r h x (ex v o hv ek ∙ ap (reordered v o) next-is) b₁ e₁

@@ -14,7 +14,7 @@ use Rattle.cube.specs.declared.Cube.{Cube}
 use Rattle.cube.specs.Cubes.{code, put, one, Good}
 use Rattle.cube.specs.Lists.{cubes, recordWidth, mostVariables}
 use Rattle.cube.proofs.Codes.{code-lt}
-use Rattle.cube.proofs.Lists.{lawful, good-narrow, good-at, all-good-more}
+use Rattle.cube.proofs.Lists.{lawful, good-at, all-good-more}
 use Rattle.orders.specs.Orders.{orderCount, letterOrder}
 use Rattle.orders.proofs.Orders.{code-after-letter, letter-lt}
 use Rattle.steps.specs.declared.Change.{Change}
@@ -24,8 +24,8 @@ use Rattle.steps.specs.declared.Stepped.the-variants as stepped-is
 use Rattle.steps.specs.Moves.{After, next, applied}
 use Rattle.steps.specs.Steps.{Step, drop, join, split, turn, L, Allowed, meaning, exchanged, reordered, step, decision}
 use Rattle.steps.specs.Calls.{Ready, Known, workStepped}
-use Rattle.steps.specs.Changes.{moveOf, Placed, Writes, Narrow, Decided, Done}
-use Rattle.steps.proofs.Balanced.{placed-more, writes-more}
+use Rattle.steps.specs.Changes.{moveOf, Placed, Decided, Done}
+use Rattle.steps.proofs.Balanced.{placed-more}
 use Rattle.steps.proofs.Decisions.{Sound}
 use Rattle.steps.proofs.Inversion.{split-accepted}
 use Rattle.steps.proofs.Kept.{step-count, step-kept}
@@ -82,10 +82,6 @@ module _ (n count cap : ℕ) (b : List ℕ) (ready : Ready n count cap b) where
 
     pub step-placed : Placed count (length b / recordWidth) (x .i) (x .j) (moveOf change)
     step-placed = placed-more count cap (length b / recordWidth) (x .i) (x .j) (moveOf change) (omega (arith, ready .room)) (sound .places)
-
-    pub step-narrow : Writes Narrow (moveOf change)
-    unfolding Narrow
-    step-narrow = writes-more (Good n) Narrow (λ y g. good-narrow n y (ready .few) g) (moveOf change) (sound .good)
 
     pub step-done : (b′ : List ℕ) (r : Stepped) → Done b b′ (applied one (x .i) (x .j) (records cubes count b) (moveOf change)) r
         → Done b b′ (step n cap (meaning x) (records cubes count b)) r

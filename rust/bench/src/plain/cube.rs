@@ -1,6 +1,9 @@
 //! A cube by two masks.
 
-pub const RECORD: usize = 4;
+pub const RECORD: usize = 8;
+
+/// Variables of a list, at most.
+pub const VARIABLES: u64 = 32;
 
 #[derive(Clone, Copy, PartialEq, Eq)]
 pub struct Cube {
@@ -9,22 +12,24 @@ pub struct Cube {
 }
 
 impl Cube {
-    /// One load and one store a record, so that a pass over records can be done in vectors.
+    /// A load and a store of four bytes for each mask, in place, so that a pass over records can be done in vectors.
     #[inline]
     pub fn read(record: &[u8; RECORD]) -> Cube {
-        let word = u32::from_le_bytes(*record);
-        Cube { seen: word & 0xffff, value: word >> 16 }
+        let (masks, _) = record.as_chunks();
+        Cube { seen: u32::from_le_bytes(masks[0]), value: u32::from_le_bytes(masks[1]) }
     }
 
     #[inline]
-    pub fn record(self) -> [u8; RECORD] {
-        (self.seen | self.value << 16).to_le_bytes()
+    pub fn store(self, record: &mut [u8; RECORD]) {
+        let (masks, _) = record.as_chunks_mut();
+        masks[0] = self.seen.to_le_bytes();
+        masks[1] = self.value.to_le_bytes();
     }
 
-    /// No value bit outside seen, and no seen bit at or above n.
+    /// No value bit outside seen, and no seen bit outside the set.
     #[inline]
-    pub fn is_good(self, n: u64) -> bool {
-        self.value & !self.seen == 0 && self.seen >> n == 0
+    pub fn is_within(self, set: u32) -> bool {
+        (self.value & !self.seen) | (self.seen & !set) == 0
     }
 
     #[inline]
@@ -49,6 +54,12 @@ impl Cube {
         let (seen, value) = (u32::from(code != 2), u32::from(code == 1));
         Cube { seen: self.seen & !bit | seen << v, value: self.value & !bit | value << v }
     }
+}
+
+/// The set of the variables below n.
+#[inline]
+pub fn variables_below(n: u64) -> u32 {
+    1u32.checked_shl(n as u32).map_or(u32::MAX, |next| next - 1)
 }
 
 /// The remaining one of the codes 0, 1, 2.

@@ -1,6 +1,6 @@
 //! Check and value: one masked comparison a record; and the truth vector, in either way.
 
-use super::cube::{Cube, RECORD};
+use super::cube::{Cube, RECORD, VARIABLES, variables_below};
 use super::vectors::Way;
 use super::{Refusal, Words, refusal, refuse_if, words};
 
@@ -8,7 +8,7 @@ pub type Records<'a> = &'a [[u8; RECORD]];
 
 #[inline(never)]
 pub fn check(n: u64, list: &[u8], answer: &mut Words) {
-    *answer = words(checked(n, 16, list).map(|records| [records.len() as u64]));
+    *answer = words(checked(n, VARIABLES, list).map(|records| [records.len() as u64]));
 }
 
 #[inline(never)]
@@ -34,16 +34,19 @@ pub fn checked(n: u64, limit: u64, list: &[u8]) -> Result<Records<'_>, Refusal> 
 }
 
 /// Records that are looked at together, with no branch between them.
-const STRIDE: usize = 32;
+pub const STRIDE: usize = 32;
 
 /// The lowest bad record: by strides, and one by one where one of a stride is bad, or fewer are left.
 fn first_bad(n: u64, records: Records) -> Option<usize> {
+    let below = variables_below(n);
     let mut i = 0;
     while i < records.len() {
         let stride = records[i..].first_chunk::<STRIDE>();
-        if stride.is_some_and(|stride| stride.iter().fold(true, |all, record| all & Cube::read(record).is_good(n))) {
+        if stride
+            .is_some_and(|stride| stride.iter().fold(true, |all, record| all & Cube::read(record).is_within(below)))
+        {
             i += STRIDE;
-        } else if !Cube::read(&records[i]).is_good(n) {
+        } else if !Cube::read(&records[i]).is_within(below) {
             return Some(i);
         } else {
             i += 1;
@@ -57,7 +60,7 @@ fn value_at(records: Records, a: u32) -> u8 {
 }
 
 fn try_value(n: u64, list: &[u8], a: u64) -> Result<[u64; 1], Refusal> {
-    let records = checked(n, 16, list)?;
+    let records = checked(n, VARIABLES, list)?;
     refuse_if(a >> n != 0, 6)?;
     Ok([value_at(records, a as u32) as u64])
 }

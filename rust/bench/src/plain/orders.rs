@@ -1,8 +1,11 @@
 //! The six orders of the codes 0, 1, 2, and what they do to a cube by masks.
 
-use super::cube::{Cube, RECORD};
+use super::cube::{Cube, RECORD, VARIABLES};
 
 pub const NONE: u8 = 0;
+
+/// The order that is pending at each variable.
+pub type Pending = [u8; VARIABLES as usize];
 
 /// Where each code goes.
 const ORDERS: [[u8; 3]; 6] = [[0, 1, 2], [2, 1, 0], [0, 2, 1], [1, 0, 2], [1, 2, 0], [2, 0, 1]];
@@ -51,33 +54,48 @@ fn inverse(order: u8) -> u8 {
 
 /// An L step: one pass, no branch a record.
 pub fn exchange(records: &mut [[u8; RECORD]], v: u32, literal: u8) {
-    let bit = 1u32 << v;
-    let plain = if literal == 1 { !0u32 } else { 0 };
-    for record in records {
-        let cube = Cube::read(record);
-        // The other literal's code stays; the two that are exchanged differ in seen, and for literal 1 in value.
-        let flip = bit & !(cube.seen & (cube.value ^ plain));
-        *record = Cube { seen: cube.seen ^ flip, value: cube.value ^ (flip & plain) }.record();
-    }
+    reorder(records, v, EXCHANGES[literal as usize]);
 }
 
 /// Undoes what is pending, one pass for each variable that has an order pending.
-pub fn undo(records: &mut [[u8; RECORD]], pending: &[u8; 16]) {
+pub fn undo(records: &mut [[u8; RECORD]], pending: &Pending) {
     for (v, &order) in pending.iter().enumerate() {
         if order != NONE {
-            apply(records, v as u32, ORDERS[inverse(order) as usize]);
+            reorder(records, v as u32, inverse(order));
         }
     }
 }
 
-fn apply(records: &mut [[u8; RECORD]], v: u32, order: [u8; 3]) {
-    let bit = 1u32 << v;
-    let seen = order.map(|code| if code == 2 { 0 } else { bit });
-    let value = order.map(|code| if code == 1 { bit } else { 0 });
+/// An order at one variable as masks of a record's word, with seen in its low half and value in its high half. A bit of the variable is
+/// changed by the sum, modulo 2, of: itself where `own` is set, the variable's other bit where `other` is, and 1 where `always` is.
+struct Masks {
+    own: u64,
+    other: u64,
+    always: u64,
+}
+
+impl Masks {
+    fn at(v: u32, order: u8) -> Masks {
+        let bit = 1 << v;
+        let [x, y, z] = ORDERS[order as usize].map(|code| Cube { seen: 0, value: 0 }.put(v, code.into()));
+        Masks {
+            own: word(bit ^ x.seen ^ z.seen, bit ^ x.value ^ y.value),
+            other: word(x.seen ^ y.seen, x.value ^ z.value),
+            always: word(z.seen, z.value),
+        }
+    }
+}
+
+fn word(seen: u32, value: u32) -> u64 {
+    u64::from(seen) | u64::from(value) << 32
+}
+
+/// One load and one store a record, so that a pass over records can be done in vectors.
+fn reorder(records: &mut [[u8; RECORD]], v: u32, order: u8) {
+    let Masks { own, other, always } = Masks::at(v, order);
     for record in records {
-        let cube = Cube::read(record);
-        let is = [cube.seen & !cube.value, cube.value, !cube.seen];
-        let moved = |to: [u32; 3]| (is[0] & to[0]) | (is[1] & to[1]) | (is[2] & to[2]);
-        *record = Cube { seen: cube.seen & !bit | moved(seen), value: cube.value & !bit | moved(value) }.record();
+        let word = u64::from_le_bytes(*record);
+        let crossed = word.rotate_left(32);
+        *record = (word ^ (word & own) ^ (crossed & other) ^ always).to_le_bytes();
     }
 }

@@ -1,8 +1,8 @@
 //! Run: the list is copied to the work buffer, where steps are O(1) by masks and an L step is one pass.
 
-use super::cube::{Cube, RECORD, records, third};
+use super::cube::{Cube, RECORD, VARIABLES, records, third};
 use super::lists::{Records, checked};
-use super::orders::{self, NONE, after_exchange, exchange};
+use super::orders::{self, NONE, Pending, after_exchange, exchange};
 use super::{Refusal, Words, refusal, refuse_if, words};
 
 const STEP: usize = 8;
@@ -18,7 +18,7 @@ pub struct Done {
 }
 
 fn try_run(n: u64, list: &[u8], script: &[u8], work: &mut [u8]) -> Result<Done, Refusal> {
-    let given = checked(n, 16, list)?;
+    let given = checked(n, VARIABLES, list)?;
     refuse_if(records(work).len() < given.len(), 5)?;
     let steps = checked_script(n, script)?;
     run_in(given, steps, work)
@@ -40,7 +40,8 @@ pub fn run_in(given: Records, steps: &[[u8; STEP]], work: &mut [u8]) -> Result<D
     let (front, rest) = work.split_at_mut(given.len() * RECORD);
     front.copy_from_slice(given.as_flattened());
     rest.fill(0);
-    let mut state = State { records: records(work), count: given.len(), peak: given.len(), pending: [NONE; 16] };
+    let mut state =
+        State { records: records(work), count: given.len(), peak: given.len(), pending: [NONE; VARIABLES as usize] };
     for (place, step) in steps.iter().enumerate() {
         if let Err(number) = state.step(step) {
             work.fill(0);
@@ -55,7 +56,7 @@ struct State<'a> {
     records: &'a mut [[u8; RECORD]],
     count: usize,
     peak: usize,
-    pending: [u8; 16],
+    pending: Pending,
 }
 
 impl State<'_> {
@@ -140,7 +141,7 @@ impl State<'_> {
     }
 
     fn write(&mut self, place: usize, cube: Cube) {
-        self.records[place] = cube.record();
+        cube.store(&mut self.records[place]);
     }
 
     fn remove(&mut self, place: usize) {

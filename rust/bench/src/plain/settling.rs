@@ -1,6 +1,6 @@
 //! Settle: run in the work buffer, find the best polarity where there are few variables, burn the best of the three.
 
-use super::cube::{RECORD, records};
+use super::cube::{RECORD, VARIABLES, records};
 use super::lists::checked;
 use super::script::{checked_script, run_in};
 use super::vectors::{Way, write_cubes};
@@ -18,7 +18,7 @@ fn try_settle<W: Way>(
     work: &mut [u8],
     out: &mut [u8],
 ) -> Result<[u64; 6], Refusal> {
-    let given = checked(n, 16, list)?;
+    let given = checked(n, VARIABLES, list)?;
     refuse_if(records(work).len() < given.len(), 5)?;
     refuse_if(records(out).len() < given.len(), 5)?;
     let steps = checked_script(n, script)?;

@@ -106,7 +106,7 @@ pub fn write_form(n: u64, coefficients: &[u8], p: u64, out: &mut [u8], answer: &
 pub fn write_cubes(coefficients: &[u8], p: usize, out: &mut [u8]) {
     let nonzero = coefficients.iter().enumerate().filter(|&(_, &coefficient)| coefficient != 0);
     for ((s, _), record) in nonzero.zip(records(out)) {
-        *record = Cube { seen: s as u32, value: (s & !p) as u32 }.record();
+        Cube { seen: s as u32, value: (s & !p) as u32 }.store(record);
     }
 }
 

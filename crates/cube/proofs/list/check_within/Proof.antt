@@ -21,7 +21,7 @@ new-requires-2 c κs = search needs
 returns-2 : tie.Need-returns-2
 returns-2 c =
     let a = c .before .before .before .before .args in
-    records-cut cubes (good (a .n)) 2 3 4 mostRecords (a .list .now) _ (check-records (a .limit) (a .n) (a .list .now) (omega arith)) _ (c .new2 .ensures) (omega arith)
+    records-cut cubes (good (a .n)) 2 3 4 mostRecords (a .list .now) _ (check-records cubes (a .limit) (a .n) (a .list .now) (omega arith)) _ (c .new2 .ensures) (omega arith)
 
 new-requires-3 : tie.Need-new-requires-3
 new-requires-3 c κs = search needs
@@ -29,7 +29,7 @@ new-requires-3 c κs = search needs
 returns-3 : tie.Need-returns-3
 returns-3 c =
     let a = c .before .before .before .before .before .args in
-    records-many cubes (good (a .n)) 2 3 4 mostRecords (a .list .now) _ (check-records (a .limit) (a .n) (a .list .now) (omega arith)) (omega arith) _ (c .new3 .ensures) (omega arith)
+    records-many cubes (good (a .n)) 2 3 4 mostRecords (a .list .now) _ (check-records cubes (a .limit) (a .n) (a .list .now) (omega arith)) (omega arith) _ (c .new3 .ensures) (omega arith)
 
 first-bad-requires : tie.Need-first-bad-requires
 first-bad-requires c κs = search needs
@@ -40,12 +40,12 @@ new-requires-4 c κs = search needs
 returns-4 : tie.Need-returns-4
 returns-4 c =
     let a = c .before .before .before .before .before .before .before .args in
-    records-bad cubes (good (a .n)) 2 3 4 mostRecords (a .list .now) _ (check-records (a .limit) (a .n) (a .list .now) (omega arith)) (omega arith) (omega arith) _ (c .before .before .first-bad .ensures) _ (c .new4 .ensures) (omega arith)
+    records-bad cubes (good (a .n)) 2 3 4 mostRecords (a .list .now) _ (check-records cubes (a .limit) (a .n) (a .list .now) (omega arith)) (omega arith) (omega arith) _ (c .before .before .first-bad .ensures) _ (c .new4 .ensures) (omega arith)
 
 returns-5 : tie.Need-returns-5
 returns-5 c =
     let a = c .before .before .before .before .before .before .args in
-    records-good cubes (good (a .n)) 2 3 4 mostRecords (a .list .now) _ (check-records (a .limit) (a .n) (a .list .now) (omega arith)) (omega arith) (omega arith) _ (c .before .first-bad .ensures) (omega arith)
+    records-good cubes (good (a .n)) 2 3 4 mostRecords (a .list .now) _ (check-records cubes (a .limit) (a .n) (a .list .now) (omega arith)) (omega arith) (omega arith) _ (c .before .first-bad .ensures) (omega arith)
 
 pub check-within-spec : {M : Type 1} → statement M
 check-within-spec =

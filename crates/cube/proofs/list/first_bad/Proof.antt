@@ -14,10 +14,13 @@ use Rattle.cube.proofs.list.first_bad.Statement.{statement}
 use Rattle.cube.proofs.list.first_bad.Tie as tie
 
 abbrev Inv-loop : tie.InvT-loop
-Inv-loop n list count i₀ i = Looking cubes (good n) list i
+Inv-loop n list count below i₀ i = Looking cubes (good n) list i
 
 abbrev μ-loop : tie.MeasureT-loop
-μ-loop n list count i₀ i = length list / recordWidth - i
+μ-loop n list count below i₀ i = length list / recordWidth - i
+
+variables-below-requires : tie.Need-variables-below-requires Inv-loop μ-loop
+variables-below-requires c κs = search needs
 
 loop-holds : tie.Need-loop-holds Inv-loop μ-loop
 loop-holds c = search looking-none
@@ -56,6 +59,7 @@ first-bad-spec =
     (tie.spec
     Inv-loop
     μ-loop
+    variables-below-requires
     loop-holds
     good-from-requires
     add-i

@@ -1,6 +1,6 @@
 -- `list::good_from` meets its contract.
 -- Assumes nothing.
-use mathlib.Core.Path.{sym, _∙_}
+use mathlib.Core.Path.{refl, sym, _∙_}
 use borrow.Author.Needs.{needs}
 use Rattle.records.proofs.Striding.{stride-all, stride-one}
 use Rattle.cube.specs.Cubes.{good}
@@ -15,19 +15,16 @@ stride-good-requires c κs = search needs
 returns : tie.Need-returns
 returns c = stride-all cubes (good _) _ stride _ (sym (c .before .stride-good .ensures) ∙ c .if1 .taken)
 
-record-at-requires : tie.Need-record-at-requires
-record-at-requires c κs = search needs
-
-is-good-requires : tie.Need-is-good-requires
-is-good-requires c κs = search needs
+good-at-requires : tie.Need-good-at-requires
+good-at-requires c κs = search needs
 
 cast-result : tie.Need-cast-result
 cast-result c = search needs
 
 returns-2 : tie.Need-returns-2
 returns-2 c =
-    let c₂ = c .before .before in
-    stride-one cubes (good _) _ stride _ (sym (c₂ .before .stride-good .ensures) ∙ c₂ .if1 .left) _ (c .before .record-at .ensures) _ (c .is-good .ensures)
+    let c₁ = c .before in
+    stride-one cubes (good _) _ stride _ (sym (c₁ .before .stride-good .ensures) ∙ c₁ .if1 .left) _ refl _ (c .good-at .ensures)
 
 pub good-from-spec : {M : Type 1} → statement M
-good-from-spec = tie.close (tie.spec stride-good-requires returns record-at-requires is-good-requires cast-result returns-2)
+good-from-spec = tie.close (tie.spec stride-good-requires returns good-at-requires cast-result returns-2)

@@ -1,5 +1,6 @@
 -- `list::stride_good` meets its contract: the loop keeps `InStride`.
 -- Assumes nothing.
+use mathlib.Core.Path.{refl}
 use Prim.Native.Nat.{_-_}
 use native.Mathlib.Omega.{arith}
 use borrow.Author.Needs.{needs}
@@ -11,10 +12,10 @@ use Rattle.cube.proofs.list.stride_good.Statement.{statement}
 use Rattle.cube.proofs.list.stride_good.Tie as tie
 
 abbrev Inv-loop : tie.InvT-loop
-Inv-loop n list i all₀ k₀ all k = InStride cubes (good n) list stride i all k
+Inv-loop n below list i all₀ k₀ all k = InStride cubes (good n) list stride i all k
 
 abbrev μ-loop : tie.MeasureT-loop
-μ-loop n list i all₀ k₀ all k = stride - k
+μ-loop n below list i all₀ k₀ all k = stride - k
 
 sub-if1 : tie.Need-sub-if1 Inv-loop μ-loop
 sub-if1 c = search needs
@@ -25,14 +26,11 @@ returns c = stride-short cubes (good _) _ stride _ (omega (arith, c .if1 .taken)
 loop-holds : tie.Need-loop-holds Inv-loop μ-loop
 loop-holds c = search stride-none
 
-add-record-at : tie.Need-add-record-at Inv-loop μ-loop
-add-record-at c = search needs
+add-good-at : tie.Need-add-good-at Inv-loop μ-loop
+add-good-at c = search needs
 
-record-at-requires : tie.Need-record-at-requires Inv-loop μ-loop
-record-at-requires c κs = search needs
-
-is-good-requires : tie.Need-is-good-requires Inv-loop μ-loop
-is-good-requires c κs = search needs
+good-at-requires : tie.Need-good-at-requires Inv-loop μ-loop
+good-at-requires c κs = search needs
 
 add-k : tie.Need-add-k Inv-loop μ-loop
 add-k c = search needs
@@ -42,8 +40,8 @@ loop-less c = search needs
 
 loop-again : tie.Need-loop-again Inv-loop μ-loop
 loop-again c =
-    let c₂ = c .before .before in
-    stride-more cubes (good _) _ stride _ _ _ (c₂ .before .loop .inv) (c₂ .loop-test .taken) _ (c .before .record-at .ensures) _ (c .is-good .ensures)
+    let c₁ = c .before in
+    stride-more cubes (good _) _ stride _ _ _ (c₁ .before .loop .inv) (c₁ .loop-test .taken) _ refl _ (c .good-at .ensures)
 
 returns-2 : tie.Need-returns-2 Inv-loop μ-loop
 returns-2 c = stride-end cubes (good _) _ stride _ _ _ (c .before .loop .inv) (omega (arith, c .loop-test .left))
@@ -57,9 +55,8 @@ stride-good-spec =
     sub-if1
     returns
     loop-holds
-    add-record-at
-    record-at-requires
-    is-good-requires
+    add-good-at
+    good-at-requires
     add-k
     loop-less
     loop-again

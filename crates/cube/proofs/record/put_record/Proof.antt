@@ -1,4 +1,4 @@
--- `record::put_record` meets its contract: the number stored over a record's part of the list is the record stored.
+-- `record::put_record` meets its contract: what is stored over a record's part of the list is the record stored.
 -- Assumes nothing.
 use Rattle.cube.proofs.CubeRecord.{cube-stored}
 use borrow.Author.Needs.{needs}
@@ -11,20 +11,17 @@ mul-from c = search needs
 add-to : tie.Need-add-to
 add-to c = search needs
 
-sub-put-number4 : tie.Need-sub-put-number4
-sub-put-number4 c = search needs
+sub-put-in : tie.Need-sub-put-in
+sub-put-in c = search needs
 
-part-put-number4-start : tie.Need-part-put-number4-start
-part-put-number4-start c = search needs
+part-put-in-start : tie.Need-part-put-in-start
+part-put-in-start c = search needs
 
-part-put-number4-end : tie.Need-part-put-number4-end
-part-put-number4-end c = search needs
+part-put-in-end : tie.Need-part-put-in-end
+part-put-in-end c = search needs
 
-word-requires : tie.Need-word-requires
-word-requires c κs = search needs
-
-put-number4-requires : tie.Need-put-number4-requires
-put-number4-requires c κs = search needs
+put-in-requires : tie.Need-put-in-requires
+put-in-requires c κs = search needs
 
 same-length : tie.Need-same-length
 same-length c = search needs
@@ -38,10 +35,9 @@ put-record-spec =
     (tie.spec
     mul-from
     add-to
-    sub-put-number4
-    part-put-number4-start
-    part-put-number4-end
-    word-requires
-    put-number4-requires
+    sub-put-in
+    part-put-in-start
+    part-put-in-end
+    put-in-requires
     same-length
     returns)

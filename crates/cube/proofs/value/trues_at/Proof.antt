@@ -1,5 +1,6 @@
 -- `value::trues_at` meets its contract: the loop keeps `Counting`.
 -- Assumes nothing.
+use mathlib.Core.Path.{refl}
 use Prim.Native.Nat.{_-_, _/_}
 use native.Mathlib.Omega.{arith}
 use Rattle.bits.proofs.Bools.{one-lt}
@@ -21,26 +22,23 @@ abbrev μ-loop : tie.MeasureT-loop
 loop-holds : tie.Need-loop-holds Inv-loop μ-loop
 loop-holds c = search counting-none
 
-cube-at-requires : tie.Need-cube-at-requires Inv-loop μ-loop
-cube-at-requires c κs = search needs
-
-holds-at-requires : tie.Need-holds-at-requires Inv-loop μ-loop
-holds-at-requires c κs = search needs
+true-at-requires : tie.Need-true-at-requires Inv-loop μ-loop
+true-at-requires c κs = search needs
 
 loop-again : tie.Need-loop-again Inv-loop μ-loop
 loop-again c =
-    let s = c .before .before .before .before .before in
-    let at = c .before .before .before in
+    let s = c .before .before .before .before in
+    let at = c .before .before in
     let true-there = mask-at (s .args .n) (cubesOf (s .args .list .now)) (s .args .a) (at .loop .i) (s .pre .0) (s .pre .1)
-    _ (c .before .cube-at .ensures) (c .holds-at .result) (c .holds-at .ensures .fixed) in
-    counting-next cubes (λ c. holds (s .args .n) c (s .args .a)) _ _ _ (at .loop .inv) (c .before .before .loop-test .taken)
-    _ (c .before .cube-at .ensures) (c .holds-at .result) true-there
+    _ refl (c .true-at .result) (c .true-at .ensures .fixed) in
+    counting-next cubes (λ c. holds (s .args .n) c (s .args .a)) _ _ _ (at .loop .inv) (c .before .loop-test .taken)
+    _ refl (c .true-at .result) true-there
 
 cast-t : tie.Need-cast-t Inv-loop μ-loop
 cast-t c = search needs
 
 add-t : tie.Need-add-t Inv-loop μ-loop
-add-t c = omega (arith, one-lt (c .holds-at .result))
+add-t c = omega (arith, one-lt (c .true-at .result))
 
 add-i : tie.Need-add-i Inv-loop μ-loop
 add-i c = search needs
@@ -59,8 +57,7 @@ trues-at-spec =
     Inv-loop
     μ-loop
     loop-holds
-    cube-at-requires
-    holds-at-requires
+    true-at-requires
     cast-t
     add-t
     add-i

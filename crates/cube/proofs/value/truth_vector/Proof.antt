@@ -7,7 +7,7 @@ use native.Mathlib.Omega.{arith}
 use Rattle.records.specs.Answers.{accepted, counted}
 use Rattle.cube.specs.Calls.{checkList}
 use Rattle.bits.proofs.Bits.{shl-one}
-use Rattle.cube.specs.Lists.{vectorVariables}
+use Rattle.cube.specs.Lists.{cubes, vectorVariables}
 use Rattle.cube.proofs.Lists.{AcceptedList, check-accepts}
 use Rattle.cube.proofs.value.Returns.{vector-refused, vector-short, vector-done}
 use borrow.Author.Needs.{needs}
@@ -18,8 +18,8 @@ use Rattle.cube.proofs.value.truth_vector.Tie as tie
 told : (c : tie.After-enum-told) → checkList vectorVariables (c .before .before .before .before .before .args .n) (c .before .before .before .before .before .args .list .now) ≡ accepted (c .enum-told .given .0 .0 ∷ [])
 told c = sym (c .before .before .check-within .ensures) ∙ ap counted (c .enum-told .given .1)
 
-list-is : (c : tie.After-enum-told) → AcceptedList vectorVariables (c .before .before .before .before .before .args .n) (c .before .before .before .before .before .args .list .now)
-list-is c = check-accepts _ _ _ _ (told c)
+list-is : (c : tie.After-enum-told) → AcceptedList cubes vectorVariables (c .before .before .before .before .before .args .n) (c .before .before .before .before .before .args .list .now)
+list-is c = check-accepts _ _ _ _ _ (told c)
 
 power-is : (c : tie.After-enum-told) → (1 * 2 ^ (c .before .before .before .before .before .args .n)) % 2 ^ 64 ≡ 2 ^ (c .before .before .before .before .before .args .n)
 power-is c = shl-one _ 64 (omega (arith, list-is c .few))

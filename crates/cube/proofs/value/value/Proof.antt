@@ -7,7 +7,7 @@ use lib.Pow.{pow-mono}
 use Rattle.records.specs.Answers.{accepted, counted}
 use Rattle.cube.specs.Calls.{checkList}
 use Rattle.bits.proofs.Bits.{lt-of-shift, le-of-shift}
-use Rattle.cube.specs.Lists.{mostVariables}
+use Rattle.cube.specs.Lists.{cubes, mostVariables}
 use Rattle.cube.proofs.Lists.{AcceptedList, check-accepts}
 use Rattle.cube.proofs.value.Returns.{value-refused, value-far, value-bit}
 use borrow.Author.Needs.{needs}
@@ -18,8 +18,8 @@ use Rattle.cube.proofs.value.value.Tie as tie
 told : (c : tie.After-enum-told) → checkList mostVariables (c .before .before .before .before .args .n) (c .before .before .before .before .args .list .now) ≡ accepted (c .enum-told .given .0 .0 ∷ [])
 told c = sym (c .before .before .check .ensures) ∙ ap counted (c .enum-told .given .1)
 
-list-is : (c : tie.After-enum-told) → AcceptedList mostVariables (c .before .before .before .before .args .n) (c .before .before .before .before .args .list .now)
-list-is c = check-accepts _ _ _ _ (told c)
+list-is : (c : tie.After-enum-told) → AcceptedList cubes mostVariables (c .before .before .before .before .args .n) (c .before .before .before .before .args .list .now)
+list-is c = check-accepts _ _ _ _ _ (told c)
 
 check-requires : tie.Need-check-requires
 check-requires c κs = search needs

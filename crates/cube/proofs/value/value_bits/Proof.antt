@@ -1,10 +1,10 @@
 -- `value::value_bits` meets its contract.
 -- Assumes nothing.
 use Prim.Native.Nat.{_-_, _/_}
-use native.Mathlib.Omega.{arith}
 use lib.ListN.{length}
 use borrow.Author.Needs.{needs}
 use Rattle.cube.specs.Lists.{recordWidth}
+use Rattle.cube.proofs.CubeRecord.{masks-in}
 use Rattle.cube.proofs.value.Valuing.{Valuing, valuing-none, valuing-more, valuing-all}
 use Rattle.cube.proofs.value.value_bits.Statement.{statement}
 use Rattle.cube.proofs.value.value_bits.Tie as tie
@@ -18,8 +18,17 @@ abbrev μ-loop : tie.MeasureT-loop
 loop-holds : tie.Need-loop-holds Inv-loop μ-loop
 loop-holds c = valuing-none _
 
-cube-at-requires : tie.Need-cube-at-requires Inv-loop μ-loop
-cube-at-requires c κs = search needs
+mul-at : tie.Need-mul-at Inv-loop μ-loop
+mul-at c = search needs
+
+mask-at-requires : tie.Need-mask-at-requires Inv-loop μ-loop
+mask-at-requires c κs = search needs
+
+add-mask-at : tie.Need-add-mask-at Inv-loop μ-loop
+add-mask-at c = search needs
+
+mask-at-requires-2 : tie.Need-mask-at-requires-2 Inv-loop μ-loop
+mask-at-requires-2 c κs = search needs
 
 product-bits-requires : tie.Need-product-bits-requires Inv-loop μ-loop
 product-bits-requires c κs = search needs
@@ -35,8 +44,10 @@ loop-less c = search needs
 
 loop-again : tie.Need-loop-again Inv-loop μ-loop
 loop-again c =
-    let l = c .before .before .before .before in
-    valuing-more _ _ _ (l .loop .inv) (c .before .before .before .loop-test .taken) _ (c .before .before .cube-at .ensures) _ (c .before .product-bits .ensures) _ (c .sum .ensures)
+    let read = c .before .before in
+    let turn = read .before .before in
+    let inside = turn .loop-test .taken in
+    valuing-more _ _ _ (turn .before .loop .inv) inside _ (masks-in _ _ inside _ _ (read .before .mask-at .ensures) (read .mask-at2 .ensures)) _ (c .before .product-bits .ensures) _ (c .sum .ensures)
 
 returns : tie.Need-returns Inv-loop μ-loop
 returns c = valuing-all _ _ _ (c .before .loop .inv) (c .loop-test .left)
@@ -48,7 +59,10 @@ value-bits-spec =
     Inv-loop
     μ-loop
     loop-holds
-    cube-at-requires
+    mul-at
+    mask-at-requires
+    add-mask-at
+    mask-at-requires-2
     product-bits-requires
     sum-requires
     add-i

@@ -1,7 +1,6 @@
 -- `numbers::put_byte` meets its contract.
 -- Assumes nothing.
-use mathlib.Core.Path.{sym}
-use lib.Seq.{set-out}
+use Rattle.records.proofs.Widths.{sets-end, stored-one}
 use borrow.Author.Needs.{needs}
 use Rattle.records.proofs.numbers.put_byte.Statement.{statement}
 use Rattle.records.proofs.numbers.put_byte.Tie as tie
@@ -13,10 +12,10 @@ same-length : tie.Need-same-length
 same-length c = search needs
 
 returns : tie.Need-returns
-returns c = search needs
+returns c = search stored-one
 
 returns-2 : tie.Need-returns-2
-returns-2 c = sym (set-out _ _ _ (search needs))
+returns-2 c = search (needs, sets-end)
 
 pub put-byte-spec : {M : Type 1} → statement M
 put-byte-spec = tie.close (tie.spec slice-write-b same-length returns returns-2)

@@ -1,6 +1,7 @@
 -- `numbers::put_number2` meets its contract: two stores in a row are the number's bytes stored.
 -- Assumes nothing.
-use Rattle.records.proofs.Widths.{sets-end, stored-two}
+use native.Mathlib.Omega.{arith}
+use Rattle.records.proofs.Widths.{sets-end, stored-parts}
 use borrow.Author.Needs.{needs}
 use Rattle.records.proofs.numbers.put_number2.Statement.{statement}
 use Rattle.records.proofs.numbers.put_number2.Tie as tie
@@ -27,7 +28,7 @@ same-length : tie.Need-same-length
 same-length c = search needs
 
 returns-2 : tie.Need-returns-2
-returns-2 c = search stored-two
+returns-2 c = search (stored-parts 1 1 (omega arith))
 
 pub put-number2-spec : {M : Type 1} → statement M
 put-number2-spec =

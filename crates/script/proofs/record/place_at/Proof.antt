@@ -1,6 +1,6 @@
 -- `record::place_at` meets its contract.
 -- Assumes nothing.
-use Rattle.script.proofs.record.Reading.{place-in}
+use Rattle.records.proofs.Widths.{number-in}
 use borrow.Author.Needs.{needs}
 use Rattle.script.proofs.record.place_at.Statement.{statement}
 use Rattle.script.proofs.record.place_at.Tie as tie
@@ -24,7 +24,7 @@ cast-result : tie.Need-cast-result
 cast-result c = search needs
 
 returns : tie.Need-returns
-returns c = place-in _ _ _ (search needs) (c .number2-at .ensures)
+returns c = number-in 2 _ _ _ (c .number2-at .ensures)
 
 pub place-at-spec : {M : Type 1} → statement M
 place-at-spec =

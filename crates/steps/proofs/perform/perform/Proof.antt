@@ -6,10 +6,9 @@ use lib.ListN.{length}
 use denote.Ref.{now}
 use borrow.Author.Needs.{needs}
 use Rattle.records.proofs.Records.{held-place}
-use Rattle.cube.specs.Lists.{cubes, narrow, recordWidth}
+use Rattle.cube.specs.Lists.{cubes, recordWidth}
 use Rattle.cube.proofs.Lists.{lawful}
-use Rattle.steps.specs.Changes.{Narrow}
-use Rattle.steps.proofs.perform.Performing.{removed-held, drop-in, split-in, turn-in, made-refuse, made-drop, made-split, made-turn, narrow-fits, refuse-move, drop-move, split-move, turn-move, join-below, join-one, join-held, perform-join}
+use Rattle.steps.proofs.perform.Performing.{removed-held, drop-in, split-in, turn-in, made-refuse, made-drop, made-split, made-turn, refuse-move, drop-move, split-move, turn-move, join-below, join-one, join-held, perform-join}
 use Rattle.steps.proofs.perform.Placing.{still-place, join-place}
 use Rattle.steps.proofs.perform.perform.Statement.{statement}
 use Rattle.steps.proofs.perform.perform.Tie as tie
@@ -30,13 +29,13 @@ remove-requires : tie.Need-remove-requires
 remove-requires c κs =
     let told = c .before .before .before in
     let start = told .before .before .before in
-    let two = drop-in _ _ _ _ _ (start .pre .1 .0) (drop-move _ (told .enum-told .given .1)) in
+    let two = drop-in _ _ _ _ _ (start .pre .1) (drop-move _ (told .enum-told .given .1)) in
     (start .pre .0, omega (arith, two .first, two .second, c .before .before .larger .ensures, c .before .smaller .ensures))
 
 sub-remove : tie.Need-sub-remove
 sub-remove c =
     let told = c .before .before .before .before .before .before .before in
-    let two = drop-in _ _ _ _ _ (told .before .before .before .pre .1 .0) (drop-move _ (told .enum-told .given .1)) in
+    let two = drop-in _ _ _ _ _ (told .before .before .before .pre .1) (drop-move _ (told .enum-told .given .1)) in
     omega (arith, two .first)
 
 remove-requires-2 : tie.Need-remove-requires-2
@@ -44,7 +43,7 @@ remove-requires-2 c κs =
     let r = c .before .before .before in
     let told = r .before .before .before .before in
     let start = told .before .before .before in
-    let two = drop-in _ _ _ _ _ (start .pre .1 .0) (drop-move _ (told .enum-told .given .1)) in (
+    let two = drop-in _ _ _ _ _ (start .pre .1) (drop-move _ (told .enum-told .given .1)) in (
       removed-held _ lawful _ _ _ _ (start .pre .0) (r .remove .ensures),
       omega (arith, two .first, two .second, two .unlike, r .before .before .before .larger .ensures, r .before .before .smaller .ensures),
     )
@@ -52,7 +51,7 @@ remove-requires-2 c κs =
 sub-t20 : tie.Need-sub-t20
 sub-t20 c =
     let told = c .before .before .before .before .before .before .before .before .before .before in
-    let two = drop-in _ _ _ _ _ (told .before .before .before .pre .1 .0) (drop-move _ (told .enum-told .given .1)) in
+    let two = drop-in _ _ _ _ _ (told .before .before .before .pre .1) (drop-move _ (told .enum-told .given .1)) in
     omega (arith, two .first, two .second, two .unlike)
 
 enum-known-change-2 : tie.Need-enum-known-change-2
@@ -74,21 +73,21 @@ put-record-requires-2 : tie.Need-put-record-requires-2
 put-record-requires-2 c κs =
     let told = c .before .before in
     let pre = told .before .before .before .pre in
-    held-place cubes lawful _ _ (pre .0) _ (split-in _ _ _ _ _ (pre .1 .0) _ _ (split-move _ _ _ (told .change3 .given .1)) .inside)
+    held-place cubes lawful _ _ (pre .0) _ (split-in _ _ _ _ _ (pre .1) _ _ (split-move _ _ _ (told .change3 .given .1)) .inside)
 
 put-record-requires-3 : tie.Need-put-record-requires-3
 put-record-requires-3 c κs =
     let stored = c .before .before .before in
     let told = stored .before .before .before in
     still-place cubes _ _ _ _ _ (stored .put-record2 .ensures)
-    (split-in _ _ _ _ _ (told .before .before .before .pre .1 .0) _ _ (split-move _ _ _ (told .change3 .given .1)) .more)
+    (split-in _ _ _ _ _ (told .before .before .before .pre .1) _ _ (split-move _ _ _ (told .change3 .given .1)) .more)
 
 add-t32 : tie.Need-add-t32
 add-t32 c =
     let told = c .before .before .before .before .before .before .before .before .before in
     let start = told .before .before .before in
     let room : start .args .count < length (now (start .args .work)) / recordWidth =
-    split-in _ _ _ _ _ (start .pre .1 .0) _ _ (split-move _ _ _ (told .change3 .given .1)) .more in
+    split-in _ _ _ _ _ (start .pre .1) _ _ (split-move _ _ _ (told .change3 .given .1)) .more in
     omega arith
 
 enum-known-change-4 : tie.Need-enum-known-change-4
@@ -98,14 +97,14 @@ put-record-requires-4 : tie.Need-put-record-requires-4
 put-record-requires-4 c κs =
     let told = c .before .before in
     let pre = told .before .before .before .pre in
-    held-place cubes lawful _ _ (pre .0) _ (turn-in _ _ _ _ _ (pre .1 .0) _ _ (turn-move _ _ _ (told .change4 .given .1)) .first)
+    held-place cubes lawful _ _ (pre .0) _ (turn-in _ _ _ _ _ (pre .1) _ _ (turn-move _ _ _ (told .change4 .given .1)) .first)
 
 put-record-requires-5 : tie.Need-put-record-requires-5
 put-record-requires-5 c κs =
     let stored = c .before .before .before in
     let told = stored .before .before .before in
     let pre = told .before .before .before .pre in
-    let t = turn-in _ _ _ _ _ (pre .1 .0) _ _ (turn-move _ _ _ (told .change4 .given .1)) in
+    let t = turn-in _ _ _ _ _ (pre .1) _ _ (turn-move _ _ _ (told .change4 .given .1)) in
     let first = still-place cubes _ _ _ _ _ (stored .put-record4 .ensures) (held-place cubes lawful _ _ (pre .0) _ (t .first)) in
     let second = still-place cubes _ _ _ _ _ (stored .put-record4 .ensures) (held-place cubes lawful _ _ (pre .0) _ (t .second)) in
     search (first, second)
@@ -137,7 +136,7 @@ returns-4 c =
     let c₆ = c .before .before .before .before .before .before in
     let told = c₆ .before .before .before in
     let pre = told .before .before .before .pre in
-    made-split cubes lawful _ _ _ _ _ Narrow narrow narrow-fits (pre .1 .0) (pre .1 .1) _ _ (split-move _ _ _ (told .change3 .given .1)) (pre .0) _ _
+    made-split cubes lawful _ _ _ _ _ (pre .1) _ _ (split-move _ _ _ (told .change3 .given .1)) (pre .0) _ _
     (c₆ .put-record2 .ensures) (c .before .before .put-record3 .ensures)
 
 same-length-4 : tie.Need-same-length-4
@@ -148,7 +147,7 @@ returns-5 c =
     let c₆ = c .before .before .before .before .before .before in
     let told = c₆ .before .before .before in
     let pre = told .before .before .before .pre in
-    made-turn cubes lawful _ _ _ _ _ Narrow narrow narrow-fits (pre .1 .0) (pre .1 .1) _ _ (turn-move _ _ _ (told .change4 .given .1)) (pre .0) _ _
+    made-turn cubes lawful _ _ _ _ _ (pre .1) _ _ (turn-move _ _ _ (told .change4 .given .1)) (pre .0) _ _
     (c₆ .put-record4 .ensures) (c .before .before .put-record5 .ensures)
 
 pub perform-spec : {M : Type 1} → statement M

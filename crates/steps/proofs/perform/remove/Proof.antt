@@ -1,14 +1,10 @@
 -- `steps::perform::remove` meets its contract.
 -- Assumes nothing.
-use Prim.Native.Nat.{ℕ, _<_}
 use native.Mathlib.Omega.{arith}
-use lib.ListN.{getD}
-use denote.Ref.{now}
 use borrow.Author.Needs.{needs}
 use Rattle.records.proofs.Records.{held-place}
 use Rattle.cube.specs.Lists.{cubes}
 use Rattle.cube.proofs.Lists.{lawful}
-use Rattle.cube.proofs.CubeRecord.{narrow-read}
 use Rattle.steps.proofs.perform.Performing.{remove-done}
 use Rattle.steps.proofs.perform.Placing.{still-place}
 use Rattle.steps.proofs.perform.remove.Statement.{statement}
@@ -35,12 +31,7 @@ same-length : tie.Need-same-length
 same-length c = search needs
 
 returns : tie.Need-returns
-returns c =
-    let c₁₀ = c .before .before .before .before .before .before .before .before .before .before in
-    let c₁₁ = c₁₀ .before in
-    let small : (k : ℕ) → getD (now (c₁₁ .args .work)) k 0 < 256 =
-    λ k. omega (arith, c₁₀ .slice-known .given k) in
-    search (remove-done, narrow-read, lawful)
+returns c = search (remove-done, lawful)
 
 pub remove-spec : {M : Type 1} → statement M
 remove-spec =

@@ -48,7 +48,7 @@ loop-again c =
     let l = c .before .before .before .before .before .before .before .before in
     let pre = l .before .before .before .before .pre in
     reorder-more _ _ _ _ _ _ (l .loop .inv) (pre .1 .0) (omega (arith, whole-count _ _ (pre .0) _ (l .before .smaller .ensures))) _
-    (c .before .before .before .before .before .cube-at .ensures) (pre .1 .1 .0) (pre .1 .1 .1) _
+    (c .before .before .before .before .before .cube-at .ensures) (pre .1 .1 .0) _
     (l .before .before .masks-at .ensures) _
     (c .before .before .before .recoded .ensures) _ (c .before .before .put-cube .ensures)
 

@@ -2,7 +2,7 @@
 -- Assumes nothing.
 use Prim.Native.Nat.{_<_}
 use borrow.Author.Needs.{needs}
-use Rattle.steps.proofs.step.Stepping.{ready-good, look-good, not-letter, letter-variable, letter-order, letter-done, step-placed, step-narrow, step-done}
+use Rattle.steps.proofs.step.Stepping.{ready-good, look-good, not-letter, letter-variable, letter-order, letter-done, step-placed, step-done}
 use Rattle.steps.proofs.step.do_step.Statement.{statement}
 use Rattle.steps.proofs.step.do_step.Tie as tie
 
@@ -38,13 +38,7 @@ perform-requires c κs =
     let c₄ = c .before .before .before .before in
     let start = c₄ .before .before .before .before .before in
     let low : start .args .x .op < 5 = search not-letter in
-    let at = c .before .before .look2 .ensures in (
-      search needs,
-      (
-        step-placed _ _ _ _ (start .pre .0) _ (start .pre .1) low _ _ (c₄ .look .ensures) at _ (c .before .decide .ensures),
-        step-narrow _ _ _ _ (start .pre .0) _ (start .pre .1) low _ _ (c₄ .look .ensures) at _ (c .before .decide .ensures),
-      ),
-    )
+    (search needs, step-placed _ _ _ _ (start .pre .0) _ (start .pre .1) low _ _ (c₄ .look .ensures) (c .before .before .look2 .ensures) _ (c .before .decide .ensures))
 
 same-length-2 : tie.Need-same-length-2
 same-length-2 c = search needs

@@ -1,0 +1,5 @@
+pub mod NarrowRecord
+pub mod Converting
+pub mod Calls
+pub mod Determined
+pub mod Converted

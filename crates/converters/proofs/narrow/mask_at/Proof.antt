@@ -1,0 +1,39 @@
+-- `narrow::mask_at` meets its contract.
+-- Assumes nothing.
+use Rattle.records.proofs.Widths.{number-in}
+use borrow.Author.Needs.{needs}
+use Rattle.converters.proofs.narrow.mask_at.Statement.{statement}
+use Rattle.converters.proofs.narrow.mask_at.Tie as tie
+
+add-end : tie.Need-add-end
+add-end c = search needs
+
+sub-number2-at : tie.Need-sub-number2-at
+sub-number2-at c = search needs
+
+part-number2-at-start : tie.Need-part-number2-at-start
+part-number2-at-start c = search needs
+
+part-number2-at-end : tie.Need-part-number2-at-end
+part-number2-at-end c = search needs
+
+number2-at-requires : tie.Need-number2-at-requires
+number2-at-requires c κs = search needs
+
+cast-result : tie.Need-cast-result
+cast-result c = search needs
+
+returns : tie.Need-returns
+returns c = number-in 2 _ _ _ (c .number2-at .ensures)
+
+pub mask-at-spec : {M : Type 1} → statement M
+mask-at-spec =
+    tie.close
+    (tie.spec
+    add-end
+    sub-number2-at
+    part-number2-at-start
+    part-number2-at-end
+    number2-at-requires
+    cast-result
+    returns)

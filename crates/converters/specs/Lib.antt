@@ -1,0 +1,3 @@
+pub mod NarrowRecord
+pub mod Calls
+pub mod Undone
