@@ -41,6 +41,8 @@ int main(void)
     dm_settle(VARIABLES, list, sizeof list, script, sizeof script, work, sizeof work, out, sizeof out, answer);
     if (answer[0] != DM_ACCEPTED) {
         printf("refused %" PRIu64 " at %" PRIu64 "\n", answer[0], answer[1]);
+        if (answer[0] >= DM_DROP_UNEQUAL && answer[0] <= DM_TURN_AGREE)
+            fprintf(stderr, "differing variables of the two cubes before that step: %" PRIu64 "\n", answer[2]);
         return 1;
     }
     printf("in %" PRIu64 " peak %" PRIu64 " script %" PRIu64 " fixed %" PRIu64 " %" PRIu64 " out %" PRIu64 "\n",

@@ -31,7 +31,12 @@
  *
  *     answer[0]    0 when accepted, else the number of the refusal
  *     answer[1]    the place of the refusal; 0 when accepted
- *     answer[2..]  the values that stand with each call below; 0 for the rest, and when refused
+ *     answer[2..]  when accepted, the values that stand with each call below, and 0 for the rest;
+ *                  when refused, answer[2] is the number of differing variables, and the rest is 0
+ *
+ * The number of differing variables is that of the two cubes of the refused step, as they stood before it; it is 0 in
+ * every refusal but 16 to 19. A literal against its complement is one differing variable, and so is a literal against
+ * none.
  *
  *     DM_N                1   n above the call's limit                                    place 0
  *     DM_LIST_LENGTH      2   list length not a multiple of 8 (of 4 for an old list)      place 0
@@ -45,16 +50,19 @@
  *                             a used v at or above n, a used literal above 1              the lowest such step
  *     DM_PLACE           10   a used i or j not below the present count                   the step
  *     DM_SAME_PLACE      11   i equals j in a step with two cubes                         the step
- *     DM_CUBES           12   the cubes are not as the step needs                         the step
  *     DM_FULL            13   split with the count at the work buffer's capacity          the step
  *     DM_VECTOR          14   vector or coefficient length not 2^n                        2^n
  *                             else a byte above 1                                         the lowest such byte
  *     DM_POLARITY        15   polarity has a bit at or above n                            place 0
+ *     DM_DROP_UNEQUAL    16   drop of unequal cubes                                       the step
+ *     DM_JOIN_NOT_ONE    17   join, number of differing variables not one                 the step
+ *     DM_TURN_NOT_TWO    18   turn, number of differing variables not two                 the step
+ *     DM_TURN_AGREE      19   turn at a variable where the cubes agree, number two        the step
  *     DM_NARROW_N        20   n above 16, the variables of a narrow record                place 0
  *
  * What a refusal leaves behind: 1 to 9, 14, 15 and 20 are found before anything is written, and every buffer but `answer`
- * is as it was. 10 to 13 are found at a step (run and settle only): then every byte of `work` is zero, and `out` is as it
- * was. Lists, scripts, vectors and coefficients are only read.
+ * is as it was. 10, 11, 13 and 16 to 19 are found at a step (run and settle only): then every byte of `work` is zero, and
+ * `out` is as it was. Lists, scripts, vectors and coefficients are only read.
  */
 #ifndef DRUTHMOY_H
 #define DRUTHMOY_H
@@ -79,10 +87,13 @@ enum dm_refusal {
     DM_STEP = 9,
     DM_PLACE = 10,
     DM_SAME_PLACE = 11,
-    DM_CUBES = 12,
     DM_FULL = 13,
     DM_VECTOR = 14,
     DM_POLARITY = 15,
+    DM_DROP_UNEQUAL = 16,
+    DM_JOIN_NOT_ONE = 17,
+    DM_TURN_NOT_TWO = 18,
+    DM_TURN_AGREE = 19,
     DM_NARROW_N = 20
 };
 
@@ -144,9 +155,9 @@ void dm_best_polarity(uint64_t n,
 
 /* Runs a script on a list. answer[2]: the count of the result; answer[3]: the peak, the greatest count met.
  * Accepted: the result fills the front of work, and every other byte of work is zero.
- * Refused with 1 to 9: work is as it was. Refused with 10 to 13: every byte of work is zero.
+ * Refused with 1 to 9: work is as it was. Refused at a step, with 10, 11, 13 or 16 to 19: every byte of work is zero.
  * Refuses, in this order: 1, 2, 3, 4, 5 (capacity of work below the given count), 7, 8, 9; then steps in turn,
- * each 10, 11, 12, 13. */
+ * each 10, 11, then 16 to 19 (18 before 19), then 13. */
 void dm_run(uint64_t n,
             const uint8_t *list, size_t list_length,
             const uint8_t *script, size_t script_length,
@@ -158,8 +169,8 @@ void dm_run(uint64_t n,
  * answer[2]: given; answer[3]: peak; answer[4]: the script's result; answer[5], answer[6]: the best polarity and its
  * products, both UINT64_MAX where n is above 8; answer[7]: burned.
  * Accepted: the burned list fills the front of out, every other byte of out is zero, and every byte of work is zero.
- * Refused with 1 to 9: work and out are as they were. Refused with 10 to 13: every byte of work is zero, and out is as
- * it was.
+ * Refused with 1 to 9: work and out are as they were. Refused at a step, with 10, 11, 13 or 16 to 19: every byte of work
+ * is zero, and out is as it was.
  * Refuses as dm_run does; 5 tests work, then out, against the given count. */
 void dm_settle(uint64_t n,
                const uint8_t *list, size_t list_length,

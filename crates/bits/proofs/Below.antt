@@ -7,7 +7,7 @@ use mathlib.Core.List.{List, [], _∷_, _++_, map, List·Memᴰ, List·Memᴰ·h
 use Prim.Native.Nat.{ℕ, zero, suc, _+_, _-_, _*_, _/_, _%_, _^_, _≤_, _<_, zero-le, suc-le-suc}
 use native.Mathlib.Nat.{mod-lt, zero-lt-suc, zero-add, suc-add, add-zero, add-suc, add-assoc, zero-mul, suc-mul, add-mul, le-refl, le-of-suc-le-suc, not-suc-le-zero}
 use native.Mathlib.Decide.{ℕ-discrete}
-use native.Mathlib.Numerals.{add-one}
+use native.Mathlib.Numerals.{add-one, one-add}
 use native.Mathlib.Omega.{arith}
 use borrow.Author.Tests.{eqb-true, eq-eqb}
 use lib.Arith.{lt-one}
@@ -17,8 +17,10 @@ use lib.ListN.{length, getD, length-map}
 use lib.Seq.{ext-getD}
 use Rattle.bits.specs.Bits.{bit}
 use Rattle.bits.specs.Below.{allBelow, those, sumBelow, listBelow}
+use Rattle.bits.specs.Sums.{tally, oneIf}
 use Rattle.bits.proofs.Bools.{same-bool, all-at, all-true}
 use Rattle.bits.proofs.Bits.{bit-zero, bit-suc, half-lt, bit-ext-below}
+use Rattle.bits.proofs.Sums.{tally-all, map-same}
 
 -- two numbers below 2 ^ n are equal where their bits are
 pub eqb-bits : (n a b : ℕ) → a < 2 ^ n → b < 2 ^ n → allBelow n (λ k. eqb (bit a k) (bit b k)) ≡ eqb a b
@@ -240,3 +242,35 @@ module _ {A : Type 0} where
       ap (λ (k : ℕ). listBelow k f) (suc-add a m)
       ∙ ap (λ (l : List A). f 0 ∷ l) (listBelow-parts a m (λ k. f (suc k))
       ∙ ap (λ (l : List A). listBelow a (λ k. f (suc k)) ++ l) (listBelow-cong m (λ j. f (suc (a + j))) (λ j. f (suc a + j)) (λ j b. ap f (sym (suc-add a j)))))
+
+-- ---- a tally of those that pass a test is a sum
+
+pub tally-step : {A : Type 0} (w : A → Bool) (h : ℕ → A) (b : Bool) (k : ℕ) (l : List ℕ)
+    → tally w (map h (cond b (k ∷ l) l)) ≡ cond b (oneIf (w (h k))) 0 + tally w (map h l)
+unfolding tally
+tally-step w h true k l = refl
+tally-step w h false k l = sym (zero-add (tally w (map h l)))
+
+pub tally-those : {A : Type 0} (w : A → Bool) (h : ℕ → A) (f : ℕ → Bool) (m k : ℕ)
+    → tally w (map h (those f m k)) ≡ sumBelow m (λ t. cond (f (k + t)) (oneIf (w (h (k + t)))) 0)
+unfolding those tally sumBelow
+tally-those w h f zero k = refl
+tally-those w h f (suc m) k =
+    let F : ℕ → ℕ = λ t. cond (f t) (oneIf (w (h t))) 0 in
+    let G : ℕ → ℕ = λ t. F (k + t) in
+    tally-step w h (f k) k (those f m (suc k))
+    ∙ ap (λ (x : ℕ). F k + x)
+    (tally-those w h f m (suc k)
+    ∙ sum-cong m (λ t. F (suc k + t)) (λ t. G (1 + t)) (λ t b. let e : suc k + t ≡ k + (1 + t) = omega arith in ap F e))
+    ∙ sym (ap (λ (x : ℕ). sumBelow x G) (sym (one-add m)) ∙ sum-parts 1 m G
+    ∙ ap (λ (x : ℕ). x + sumBelow m (λ t. G (1 + t))) (zero-add (G 0) ∙ ap F (add-zero k)))
+
+-- how many they are
+pub those-count : (f : ℕ → Bool) (m k : ℕ) → length (those f m k) ≡ sumBelow m (λ t. oneIf (f (k + t)))
+those-count f m k =
+    sym (tally-all (those f m k)) ∙ ap (tally (λ j. true)) (map-same (those f m k)) ∙ tally-those (λ j. true) (λ j. j) f m k
+    ∙ sum-cong m _ _ (λ t l. one (f (k + t)))
+  where
+    one : (b : Bool) → cond b 1 0 ≡ oneIf b
+    one true = refl
+    one false = refl

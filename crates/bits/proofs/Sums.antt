@@ -14,6 +14,12 @@ use Rattle.bits.proofs.Bools.{xor-assoc, xor-comm, xor-false, xor-cance
 
 -- ---- counts and sums
 
+-- all pass where nothing is tested
+pub tally-all : {A : Type 0} (l : List A) → tally (λ x. true) l ≡ length l
+unfolding tally
+tally-all [] = refl
+tally-all (x ∷ l) = omega (arith, tally-all l)
+
 module _ {A : Type 0} (w : A → Bool) where
   -- the parity of how many pass is the sum
   pub tally-sum : (l : List A) → tally w l % 2 ≡ oneIf (sum w l)

@@ -1,17 +1,21 @@
 -- What the list of the variables in which two cubes differ says of the cubes.
 -- Assumes nothing.
-use mathlib.Core.Path.{_≡_, refl, sym, ap, subst}
+use mathlib.Core.Path.{_≡_, refl, sym, ap, _∙_, subst}
 use mathlib.Core.Logic.{_≢_, inl, inr}
-use mathlib.Core.Bool.{not}
+use mathlib.Core.Bool.{Bool, not}
 use mathlib.Core.List.{List, [], _∷_, List·Memᴰ, List·Memᴰ·head, List·Memᴰ·tail, List·Memᴰ·not-nil, List·Memᴰ·cases-cons, List·Memᴰ·eq-of-singleton}
 use Prim.Native.Nat.{ℕ, _<_}
+use native.Mathlib.Nat.{zero-add}
 use native.Mathlib.Decide.{ℕ-discrete}
 use native.Mathlib.Omega.{arith}
 use lib.Dec.{eqb}
-use borrow.Author.Tests.{eqb-false, ne-eqb, not-true}
+use lib.ListN.{length}
+use borrow.Author.Tests.{eqb-false, eq-eqb, ne-eqb, not-true}
 use Rattle.cube.specs.declared.Cube.{Cube}
-use Rattle.bits.proofs.Below.{those-bounds, those-all, those-ascend}
-use Rattle.cube.specs.Cubes.{code, apart}
+use Rattle.bits.specs.Sums.{oneIf}
+use Rattle.bits.proofs.Below.{those-bounds, those-all, those-ascend, those-count, sum-cong, sum-none}
+use Rattle.cube.specs.Cubes.{code, apart, differingNumber, Good}
+use Rattle.cube.proofs.Codes.{cube-ext}
 
 -- ---- two cubes, by where they differ
 
@@ -31,6 +35,21 @@ module _ (n : ℕ) (c d : Cube) where
         | yes e ↦ e
         | no e ↦ absurd (f (those-all (λ k. not (eqb (code c k) (code d k))) n 0 k (omega arith) (omega arith) (ap not (ne-eqb (code c k) (code d k) e))))
       ]
+
+  -- the list has as many as there are
+  pub apart-number : length (apart n c d) ≡ differingNumber n c d
+  unfolding apart differingNumber
+  apart-number =
+      those-count (λ k. not (eqb (code c k) (code d k))) n 0
+      ∙ sum-cong n _ _ (λ t l. ap (λ (k : ℕ). oneIf (not (eqb (code c k) (code d k)))) (zero-add t))
+
+  -- none of good cubes: they are equal
+  pub number-none : Good n c → Good n d → differingNumber n c d ≡ 0 → c ≡ d
+  number-none g h z = cube-ext n c d g h (λ k l. apart-out k l (λ m. empty (apart n c d) (apart-number ∙ z) k m))
+    where
+      empty : (l : List ℕ) → length l ≡ 0 → (k : ℕ) → List·Memᴰ k l → ⊥
+      empty [] e k m = List·Memᴰ·not-nil m
+      empty (x ∷ l) e k m = omega arith
 
   pub apart-none : apart n c d ≡ [] → (k : ℕ) → k < n → code c k ≡ code d k
   apart-none e k h = apart-out k h (λ t. List·Memᴰ·not-nil (subst (λ (l : List ℕ). List·Memᴰ k l) e t))
@@ -76,3 +95,8 @@ two-swap n c d p q t = record {
   at-q = t .at-p;
   elsewhere = λ k h f g. t .elsewhere k h g f;
 }
+
+-- a cube does not differ from itself
+pub number-same : (n : ℕ) (c : Cube) → differingNumber n c c ≡ 0
+unfolding differingNumber
+number-same n c = sum-none n _ (λ k l. ap (λ (b : Bool). oneIf (not b)) (eq-eqb (code c k) (code c k) refl))

@@ -1,6 +1,6 @@
 -- What the definitions mean, in document 01's words: theorems for readers.
 -- Assumes nothing.
-use mathlib.Core.Path.{_≡_, refl, ap}
+use mathlib.Core.Path.{_≡_, refl, sym, ap, _∙_, subst}
 use mathlib.Core.Bool.{true}
 use mathlib.Core.List.{List, []}
 use Prim.Native.Nat.{ℕ, _*_, _^_, _<_, zero-le}
@@ -14,10 +14,11 @@ use Rattle.bits.proofs.Bools.{all-at, all-true}
 use Rattle.bits.proofs.Sums.{tally-sum}
 use Rattle.records.specs.Records.{flat, records, image}
 use Rattle.cube.specs.declared.Cube.{Cube}
-use Rattle.cube.specs.Cubes.{code, Good, met, holds, one, apart, differing}
+use Rattle.cube.specs.Cubes.{code, Good, met, holds, one, differingNumber, differing}
 use Rattle.cube.specs.Lists.{cubes, recordWidth, trues, listValue}
 use Rattle.cube.proofs.Codes.{code-above, one-good, cube-ext}
 use Rattle.cube.proofs.Masks.{holds-mask, apart-count}
+use Rattle.cube.proofs.Apart.{apart-number, number-none, number-same}
 use Rattle.cube.proofs.Lists.{lawful, cubes-bytes}
 
 -- A list's value at an assignment is the EXOR of its products there.
@@ -53,8 +54,15 @@ pub equal-codes : (n : ℕ) (c d : Cube) → Good n c → Good n d → ((k : ℕ
 equal-codes = cube-ext
 
 -- The number of variables in which two good cubes differ is the count of ones of the set.
-pub number-differing : (n : ℕ) (c d : Cube) → Good n c → Good n d → length (apart n c d) ≡ ones (differing c d)
-number-differing = apart-count
+pub number-differing : (n : ℕ) (c d : Cube) → Good n c → Good n d → differingNumber n c d ≡ ones (differing c d)
+number-differing n c d g h = sym (apart-number n c d) ∙ apart-count n c d g h
+
+-- It is 0 exactly where they are equal.
+pub equal-none : (n : ℕ) (c d : Cube) → c ≡ d → differingNumber n c d ≡ 0
+equal-none n c d e = subst (λ (x : Cube). differingNumber n c x ≡ 0) e (number-same n c)
+
+pub none-equal : (n : ℕ) (c d : Cube) → Good n c → Good n d → differingNumber n c d ≡ 0 → c ≡ d
+none-equal = number-none
 
 -- A record there and back: what is read at a place of a written list is the cube written there ..
 pub record-back : (room : ℕ) (l : List Cube) (i : ℕ) → i < length l → cubes .read (image cubes room l) i ≡ getD l i one

@@ -7,7 +7,7 @@ use Prim.Native.Nat.{ℕ, zero, suc, _-_, _^_, _≤_, _<_, min}
 use lib.Dec.{eqb, ltb}
 use lib.Bits.{bitAnd, bitOr, bitXor}
 use Rattle.bits.specs.Bits.{bit, withBit, within}
-use Rattle.bits.specs.Below.{allBelow, those}
+use Rattle.bits.specs.Below.{allBelow, those, sumBelow}
 use Rattle.bits.specs.Sums.{oneIf}
 use Rattle.cube.specs.declared.Cube.{Cube}
 
@@ -72,6 +72,10 @@ pub record HoldsAt (c : Cube) (a : ℕ) (r : Bool) : Type 0 where
 -- the variables below n in which two cubes differ, ascending
 unfoldable pub apart : ℕ → Cube → Cube → List ℕ
 apart n c d = those (λ k. not (eqb (code c k) (code d k))) n 0
+
+-- "the number of differing variables" (document 02, Four): at how many variables below n the codes of two cubes differ
+unfoldable pub differingNumber : ℕ → Cube → Cube → ℕ
+differingNumber n c d = sumBelow n (λ k. oneIf (not (eqb (code c k) (code d k))))
 
 -- the bits in which the masks differ
 unfoldable pub differing : Cube → Cube → ℕ

@@ -1,4 +1,5 @@
--- The eight words of an answer: the number of the refusal, 0 when accepted; its place; the values in document 01's order, and zeros.
+-- The eight words of an answer: the number of the refusal, 0 when accepted; its place; the values in document 01's order, and zeros. A refusal has one value,
+-- its third answer (document 02, Four).
 -- Assumes nothing.
 use Prim.Native.Nat.{ℕ}
 use mathlib.Core.Bool.{cond}
@@ -14,7 +15,7 @@ eight number place v =
 
 unfoldable pub words : Outcome → List ℕ
 words (accepted values) = eight 0 0 values
-words (refused r) = eight (r .number) (r .place) []
+words (refused r) = eight (r .number) (r .place) (r .differing ∷ [])
 
 -- what stands for the best polarity and for its size where there is none
 abbrev pub allOnes : ℕ

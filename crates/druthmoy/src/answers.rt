@@ -1,4 +1,4 @@
-// Answers as eight words: the number of a refusal, its place, and six values.
+// Answers as eight words: the number of a refusal, its place, and six values; of a refusal the first value is its number of differing variables.
 use cube::Valued;
 use polarity::Best;
 use records::Counted;
@@ -20,13 +20,14 @@ ghost use Rattle.druthmoy.specs.Faces.{words, settledWords};
 // What stands for the best polarity and for its size where there is none.
 const ABSENT: u64 = u64::MAX;
 
-// A refusal: its number and its place.
+// A refusal: its number, its place and its third answer.
 fn put_refusal(answer: &mut [u64; 8], r: Refusal)
     ensures { λ _. ⌜ now (answer .exit) ≡ words (refused r) ⌝ }
 {
     let number = r.number as u64;
     let place = r.place as u64;
-    *answer = [number, place, 0, 0, 0, 0, 0, 0];
+    let differing = r.differing as u64;
+    *answer = [number, place, differing, 0, 0, 0, 0, 0];
 }
 
 // The values of an accepted call that has two, or one and 0.

@@ -1,15 +1,14 @@
 -- The list of a form: its products one by one, how many they are, and its cubes.
 -- Assumes nothing.
-use mathlib.Core.Path.{_≡_, refl, sym, ap, ap₂, _∙_, subst}
+use mathlib.Core.Path.{_≡_, refl, sym, ap, _∙_, subst}
 use mathlib.Core.Bool.{Bool, true, false, cond, Bool·beq}
-use mathlib.Core.List.{List, [], _∷_, map}
+use mathlib.Core.List.{_∷_, map}
 use Prim.Native.Nat.{ℕ, zero, suc, _+_, _-_, _%_, _^_, _<_, _≤_, min}
-use native.Mathlib.Nat.{add-zero, zero-add, le-refl, min-le-left, lt-of-le-of-lt}
-use native.Mathlib.Numerals.{one-add}
+use native.Mathlib.Nat.{zero-add, le-refl, min-le-left, lt-of-le-of-lt}
 use native.Mathlib.Omega.{arith}
 use lib.Bits.{bitAnd, bitXor, differ, and-le-l}
 use lib.Dec.{eqb, ltb}
-use lib.ListN.{length}
+use lib.ListN.{length, length-map}
 use lib.Pow.{suc-ones}
 use borrow.Author.Tests.{eqb-true, ne-eqb}
 use Rattle.bits.specs.Bits.{bit, within}
@@ -17,7 +16,7 @@ use Rattle.bits.specs.Below.{those, sumBelow}
 use Rattle.bits.specs.Sums.{tally, oneIf, All}
 use Rattle.bits.proofs.Bools.{all-at₂, all-at₃, all-ext, beq-eq}
 use Rattle.bits.proofs.Bits.{bit-lt, bit-and, bit-xor, bit-high}
-use Rattle.bits.proofs.Below.{eqb-bits, those-same, sum-parts, sum-cong, sum-none}
+use Rattle.bits.proofs.Below.{eqb-bits, those-same, sum-cong, sum-none, tally-step, tally-those, those-count}
 use Rattle.cube.specs.Cubes.{codeOf, code, met, holds, Good}
 use Rattle.cube.specs.Lists.{trues, listValue}
 use Rattle.polarity.specs.Forms.{parityWithin, valueBack, product, formFrom, countsOf}
@@ -35,33 +34,7 @@ all-those P h f (suc m) k a = go (f k) (all-those P h f m (suc k) (λ s l u. a s
     go true r = (a k (le-refl k) (omega arith), r)
     go false r = r
 
--- a tally of them is a sum
-tally-step : {A : Type 0} (w : A → Bool) (h : ℕ → A) (b : Bool) (k : ℕ) (l : List ℕ)
-    → tally w (map h (cond b (k ∷ l) l)) ≡ cond b (oneIf (w (h k))) 0 + tally w (map h l)
-unfolding tally
-tally-step w h true k l = refl
-tally-step w h false k l = sym (zero-add (tally w (map h l)))
-
-pub tally-those : {A : Type 0} (w : A → Bool) (h : ℕ → A) (f : ℕ → Bool) (m k : ℕ)
-    → tally w (map h (those f m k)) ≡ sumBelow m (λ t. cond (f (k + t)) (oneIf (w (h (k + t)))) 0)
-unfolding those tally sumBelow
-tally-those w h f zero k = refl
-tally-those w h f (suc m) k =
-    let F : ℕ → ℕ = λ t. cond (f t) (oneIf (w (h t))) 0 in
-    let G : ℕ → ℕ = λ t. F (k + t) in
-    tally-step w h (f k) k (those f m (suc k))
-    ∙ ap (λ (x : ℕ). F k + x)
-    (tally-those w h f m (suc k)
-    ∙ sum-cong m (λ t. F (suc k + t)) (λ t. G (1 + t)) (λ t b. let e : suc k + t ≡ k + (1 + t) = omega arith in ap F e))
-    ∙ sym (ap (λ (x : ℕ). sumBelow x G) (sym (one-add m)) ∙ sum-parts 1 m G
-    ∙ ap (λ (x : ℕ). x + sumBelow m (λ t. G (1 + t))) (zero-add (G 0) ∙ ap F (add-zero k)))
-
 -- ---- how many products
-
-length-all : {A : Type 0} (l : List A) → length l ≡ tally (λ x. true) l
-unfolding tally
-length-all [] = refl
-length-all (x ∷ l) = ap suc (length-all l) ∙ sym (one-add (tally (λ y. true) l))
 
 -- no product but that of the empty set is without literals
 module _ (f : ℕ → Bool) (p m : ℕ) where
@@ -87,13 +60,8 @@ module _ (f : ℕ → Bool) (p m : ℕ) where
 pub form-length : (n p : ℕ) (c : ℕ → ℕ) → length (formFrom n p c) ≡ sumBelow (2 ^ n) (λ s. oneIf (nonzero (c s)))
 unfolding formFrom
 form-length n p c =
-    length-all (map (product p) (those (λ s. nonzero (c s)) (2 ^ n) 0))
-    ∙ tally-those (λ d. true) (product p) (λ s. nonzero (c s)) (2 ^ n) 0
-    ∙ sum-cong (2 ^ n) (λ t. cond (nonzero (c (0 + t))) 1 0) (λ s. oneIf (nonzero (c s))) (λ t b. ap (λ (x : ℕ). cond (nonzero (c x)) 1 0) (zero-add t) ∙ one (nonzero (c t)))
-  where
-    one : (b : Bool) → cond b 1 0 ≡ oneIf b
-    one true = refl
-    one false = refl
+    length-map (those (λ s. nonzero (c s)) (2 ^ n) 0) (product p) ∙ those-count (λ s. nonzero (c s)) (2 ^ n) 0
+    ∙ sum-cong (2 ^ n) _ _ (λ t b. ap (λ (s : ℕ). oneIf (nonzero (c s))) (zero-add t))
 
 module _ (n p : ℕ) (c : ℕ → ℕ) (bits : (s : ℕ) → c s < 2) where
   form-products : length (formFrom n p c) ≡ sumBelow (2 ^ n) c

@@ -15,14 +15,14 @@ use lib.ListN.{length}
 use Rattle.bits.specs.Bits.{bit, within}
 use Rattle.bits.specs.Below.{sumBelow, those}
 use Rattle.bits.specs.Sums.{tally, oneIf, All}
-use Rattle.bits.proofs.Below.{sum-cong, sum-plus, sum-parity, sum-none}
-use Rattle.bits.proofs.Sums.{tally-ext, all-each}
+use Rattle.bits.proofs.Below.{sum-cong, sum-plus, sum-parity, sum-none, tally-those}
+use Rattle.bits.proofs.Sums.{tally-all, tally-ext, all-each}
 use Rattle.cube.specs.declared.Cube.{Cube}
 use Rattle.cube.specs.Cubes.{code, Good, holds}
 use Rattle.cube.specs.Lists.{trues, listValue}
 use Rattle.cube.proofs.Codes.{good-seen}
 use Rattle.polarity.specs.Forms.{parityWithin, coefficient, product, formFrom, formList}
-use Rattle.polarity.proofs.Forms.{tally-those, product-holds, form-value}
+use Rattle.polarity.proofs.Forms.{product-holds, form-value}
 use Rattle.polarity.proofs.Theorems.{form-unique}
 use Rattle.polarity.proofs.Uniqueness.{form-is-only}
 
@@ -77,11 +77,6 @@ by-sets m w (c ∷ l) h =
     apart true x y = refl
     apart false x y = refl
 
-all-pass : {A : Type 0} (l : List A) → tally (λ x. true) l ≡ length l
-unfolding tally
-all-pass [] = refl
-all-pass (x ∷ l) = omega (arith, all-pass l)
-
 -- ---- a list without the forbidden literals
 
 module _ (n p : ℕ) (low : p < 2 ^ n) where
@@ -129,12 +124,12 @@ module _ (n p : ℕ) (low : p < 2 ^ n) where
     no-longer : length (formFrom n p odd) ≤ length l
     unfolding formFrom
     no-longer =
-        let many : tally (λ c. true) (formFrom n p odd) ≡ length (formFrom n p odd) = all-pass (formFrom n p odd) in
+        let many : tally (λ c. true) (formFrom n p odd) ≡ length (formFrom n p odd) = tally-all (formFrom n p odd) in
         let sets : tally (λ c. true) (formFrom n p odd) ≡ sumBelow (2 ^ n) (λ t. cond (not (eqb (odd (0 + t)) 0)) 1 0) =
         tally-those (λ c. true) (product p) (λ s. not (eqb (odd s) 0)) (2 ^ n) 0 in
         let fewer : sumBelow (2 ^ n) (λ t. cond (not (eqb (odd (0 + t)) 0)) 1 0) ≤ sumBelow (2 ^ n) (λ t. with-set l t) =
         sum-le (2 ^ n) (λ t. cond (not (eqb (odd (0 + t)) 0)) 1 0) (λ t. with-set l t) (λ t. at-most (0 + t) t (zero-add t)) in
-        let whole : sumBelow (2 ^ n) (λ t. with-set l t) ≡ length l = by-sets (2 ^ n) (λ s. true) l below ∙ all-pass l in
+        let whole : sumBelow (2 ^ n) (λ t. with-set l t) ≡ length l = by-sets (2 ^ n) (λ s. true) l below ∙ tally-all l in
         omega arith
       where
         one-most : (b : Bool) (x : ℕ) → cond b 1 0 ≤ suc x

@@ -1,6 +1,6 @@
 -- A chain of tests and the reasons that it goes by: it refuses by the first that is wrong, and goes on where none is. For every chain, of every call.
 -- Assumes nothing.
-use mathlib.Core.Path.{_≡_, refl, sym, _∙_}
+use mathlib.Core.Path.{_≡_, refl, sym, ap, _∙_}
 use mathlib.Core.Logic.{inl, inr}
 use mathlib.Core.Bool.{Bool, true, false, true≢false}
 use mathlib.Core.List.{List, [], _∷_, _++_}
@@ -14,7 +14,7 @@ use Rattle.bits.specs.Sums.{firstBad}
 use Rattle.bits.proofs.Sums.{all-get, first-le, first-fails, first-lowest, first-none}
 use Rattle.records.specs.Answers.{Outcome, accepted, refused, refusal, unless, unlessAt, andThen}
 use Rattle.records.proofs.Answers.{and-then, and-not}
-use Rattle.promises.specs.Refusals.{Lowest, Reason, at, lowest, reasonNumber, Wrong, NoneWrong, FirstWrong}
+use Rattle.promises.specs.Refusals.{Lowest, Reason, at, lowest, reasonNumber, Wrong, NoneWrong, FirstWrong, beforeSteps}
 
 -- ---- reasons
 
@@ -43,14 +43,14 @@ not-none [] number place f none = f
 not-none (x ∷ xs) number place (inl f) none = none .0 place (f .1)
 not-none (x ∷ xs) number place (inr f) none = not-none xs number place (f .1) (none .1)
 
--- its number is that of one of them, and those are above 0
+-- its number is that of one of them, and those are numbers of what is found before the first step
 abbrev pub Numbered : List Reason → Type 0
 Numbered [] = Unit {0}
-Numbered (x ∷ xs) = (1 ≤ reasonNumber x) × Numbered xs
+Numbered (x ∷ xs) = (beforeSteps (reasonNumber x) ≡ true) × Numbered xs
 
-pub first-number : (xs : List Reason) → Numbered xs → (number place : ℕ) → FirstWrong xs number place → 1 ≤ number
+pub first-number : (xs : List Reason) → Numbered xs → (number place : ℕ) → FirstWrong xs number place → beforeSteps number ≡ true
 first-number [] h number place f = absurd f
-first-number (x ∷ xs) h number place (inl f) = omega (arith, h .0, f .0)
+first-number (x ∷ xs) h number place (inl f) = ap beforeSteps (f .0) ∙ h .0
 first-number (x ∷ xs) h number place (inr f) = first-number xs (h .1) number place (f .1)
 
 pub numbered-both : (xs ys : List Reason) → Numbered xs → Numbered ys → Numbered (xs ++ ys)

@@ -4,37 +4,48 @@
 -- Assumes nothing.
 use mathlib.Core.Path.{_≡_, refl, sym, ap, _∙_, subst}
 use mathlib.Core.Logic.{_⊎_, inl, inr}
+use mathlib.Core.Bool.{Bool, true, false, cond, true≢false}
 use mathlib.Core.List.{List, [], _∷_}
-use Prim.Native.Nat.{ℕ}
-use lib.ListN.{length}
+use Prim.Native.Nat.{ℕ, zero, suc, _≤_}
+use native.Mathlib.Omega.{arith}
+use lib.ListN.{length, getD}
 use Rattle.records.specs.declared.Refusal.{Refusal}
 use Rattle.records.specs.Records.{zeros}
 use Rattle.records.specs.Answers.{Outcome, accepted, refused, refusal}
 use Rattle.records.proofs.Answers.{not-both, refused-same}
 use Rattle.cube.specs.declared.Cube.{Cube}
 use Rattle.cube.specs.Lists.{cubesOf, cubeCapacity}
+use Rattle.steps.specs.declared.StepRefusal.{StepRefusal}
+use Rattle.steps.specs.Steps.{Step, drop}
+use Rattle.steps.specs.Effects.{byCubes, byStep, differingOf}
+use Rattle.steps.proofs.Inversion.{step-refused, step-number, step-third}
 use Rattle.script.specs.Run.{Ran, stopped, ended}
 use Rattle.script.specs.Scripts.{stepsOf}
-use Rattle.script.specs.Calls.{runOf, ranOutcome, ranWork}
-use Rattle.script.proofs.Refusals.{stopped-steps, stopped-place, stopped-number}
+use Rattle.script.specs.Calls.{runOf, atStep, ofStep, ranOutcome, ranWork}
+use Rattle.script.proofs.Refusals.{stopped-steps, refused-stops}
 use Rattle.settling.specs.Calls.{ranSettled, ranBurned}
 use Rattle.promises.specs.Calls.{Call, check, value, truthVector, coefficients, vectorBack, writeForm, bestPolarity, run, settle, wideFromNarrow, narrowFromWide, answers, lent, leaves, Called}
-use Rattle.promises.specs.Refusals.{NoneWrong, FirstWrong, reasons, RefusedBefore, Stopped, RefusedAtStep, in-run, in-settle}
-use Rattle.promises.specs.Accepted.{goesOn, goesOnLeaving, ScriptEnds}
-use Rattle.promises.proofs.Chains.{first-only, not-none}
+use Rattle.promises.specs.Refusals.{NoneWrong, FirstWrong, reasons, beforeSteps, RefusedBefore, StepStops, Stopped, RefusedAtStep, in-run, in-settle}
+use Rattle.promises.specs.Accepted.{goesOn, goesOnLeaving, ScriptStops, ScriptEnds}
+use Rattle.promises.proofs.Chains.{first-only, first-number, not-none}
+use Rattle.promises.proofs.Numbers.{numbered}
 use Rattle.promises.proofs.Judging.{Outcomes, judged}
 use Rattle.promises.proofs.Judging as judging
 
 -- ---- the steps
 
-stops : (n : ℕ) (list script work : List ℕ) (r : Refusal) → runOf n list script (length work) ≡ stopped (r .number) (r .place) → Stopped n list script work r
+stops : (n : ℕ) (list script work : List ℕ) (r : Refusal) → runOf n list script (length work) ≡ stopped (ofStep r) (r .place) → Stopped n list script work r
 unfolding runOf
-stops n list script work r e = record {
-  at-step = stopped-place n (cubeCapacity (length work)) (stepsOf script) (cubesOf list) (r .number) (r .place) e;
-  least = stopped-number n (cubeCapacity (length work)) (stepsOf script) (cubesOf list) (r .number) (r .place) e .0;
-  most = stopped-number n (cubeCapacity (length work)) (stepsOf script) (cubesOf list) (r .number) (r .place) e .1;
-  steps = stopped-steps n (cubeCapacity (length work)) (stepsOf script) (cubesOf list) (r .number) (r .place) e;
-}
+stops n list script work r e =
+    let cap : ℕ = cubeCapacity (length work) in
+    let x : Step = getD (stepsOf script) (r .place) (drop 0 0) in
+    let t : StepStops n list script work (ofStep r) (r .place) = stopped-steps n cap (stepsOf script) (cubesOf list) (ofStep r) (r .place) e in
+    record {
+      steps = t;
+      why = step-refused n cap x (t .between) (ofStep r) (t .here);
+      number = step-number n cap x (t .between) (ofStep r) (t .here);
+      third = step-third n cap x (t .between) (ofStep r) (t .here);
+    }
 
 -- a call that went on and was refused has a script, and was refused at a step of it
 at-step : (c : Call) (r : Refusal) (buffers : List (List ℕ)) → NoneWrong (reasons c) → goesOn c ≡ refused r → buffers ≡ goesOnLeaving c → RefusedAtStep r buffers c
@@ -53,16 +64,46 @@ at-step (run n list script work) r buffers none e f = go (runOf n list script (l
     go : (ran : Ran Cube) → runOf n list script (length work) ≡ ran → ranOutcome ran ≡ refused r → buffers ≡ ranWork (length work) ran ∷ []
         → RefusedAtStep r buffers (run n list script work)
     go (ended l peak) is e f = absurd (not-both e)
-    go (stopped number step) is e f =
-        in-run n list script work none (stops n list script work r (is ∙ ap (λ (q : Refusal). stopped (q .number) (q .place)) (refused-same e))) f
+    go (stopped why step) is e f =
+        in-run n list script work none (stops n list script work r (is ∙ ap (λ (q : Refusal). stopped (ofStep q) (q .place)) (refused-same e))) f
 at-step (settle n list script work out) r buffers none e f = go (runOf n list script (length work)) refl e f
   where
     go : (ran : Ran Cube) → runOf n list script (length work) ≡ ran → ranSettled n (cubesOf list) ran ≡ refused r
         → buffers ≡ zeros (length work) ∷ ranBurned n (cubesOf list) ran out ∷ []
         → RefusedAtStep r buffers (settle n list script work out)
     go (ended l peak) is e f = absurd (not-both e)
-    go (stopped number step) is e f =
-        in-settle n list script work out none (stops n list script work r (is ∙ ap (λ (q : Refusal). stopped (q .number) (q .place)) (refused-same e))) f
+    go (stopped why step) is e f =
+        in-settle n list script work out none (stops n list script work r (is ∙ ap (λ (q : Refusal). stopped (ofStep q) (q .place)) (refused-same e))) f
+
+-- its number, and its third answer where the cubes are as the step needs
+record StepTold (r : Refusal) : Type 0 where
+  number-is : byStep (r .number) ≡ true
+  third-else : byCubes (r .number) ≡ false → r .differing ≡ 0
+
+stop-told : (n : ℕ) (list script work : List ℕ) (r : Refusal) → Stopped n list script work r → StepTold r
+stop-told n list script work r s =
+    let many : ℕ = differingOf n (getD (stepsOf script) (r .place) (drop 0 0)) (s .steps .between) in
+    record { number-is = s .number; third-else = λ e. s .third ∙ ap (λ (b : Bool). cond b many 0) e }
+
+step-told : {r : Refusal} {buffers : List (List ℕ)} {c : Call} → RefusedAtStep r buffers c → StepTold r
+step-told (in-run n list script work none s e) = stop-told n list script work _ s
+step-told (in-settle n list script work out none s e) = stop-told n list script work _ s
+
+-- where nothing is wrong and a step of the script is refused, the call is
+refuses : (c : Call) (why : StepRefusal) (k : ℕ) → ScriptStops c why k → goesOn c ≡ refused (atStep why k)
+unfolding goesOn ScriptStops runOf
+refuses (check n list) why k s = absurd s
+refuses (value n list a) why k s = absurd s
+refuses (truthVector n list out) why k s = absurd s
+refuses (coefficients n vector p out) why k s = absurd s
+refuses (vectorBack n vector p out) why k s = absurd s
+refuses (writeForm n vector p out) why k s = absurd s
+refuses (bestPolarity n vector) why k s = absurd s
+refuses (run n list script work) why k s = ap ranOutcome (refused-stops n (cubeCapacity (length work)) (stepsOf script) (cubesOf list) why k s)
+refuses (settle n list script work out) why k s =
+    ap (ranSettled n (cubesOf list)) (refused-stops n (cubeCapacity (length work)) (stepsOf script) (cubesOf list) why k s)
+refuses (wideFromNarrow n list out) why k s = absurd s
+refuses (narrowFromWide n list out) why k s = absurd s
 
 -- where nothing is wrong and the script, if there is one, ends, the call is accepted
 accepts : (c : Call) → ScriptEnds c → (v : List ℕ) × (goesOn c ≡ accepted v)
@@ -91,8 +132,8 @@ module _ (c : Call) (o : Outcome) (buffers : List (List ℕ)) (called : Called c
   wrong-refused number place f = go (judged c)
     where
       go : Outcomes c → (o ≡ refused (refusal number place)) × (buffers ≡ lent c)
-      go (judging.wrong r g e k) =
-          let same = first-only (reasons c) (r .number) number (r .place) place g f in
+      go (judging.wrong m p g e k) =
+          let same = first-only (reasons c) m number p place g f in
           (called .answer ∙ e ∙ (λ i. refused (refusal (same .0 i) (same .1 i))), called .left ∙ k)
       go (judging.right none e k) = absurd (not-none (reasons c) number place f none)
 
@@ -102,17 +143,46 @@ module _ (c : Call) (o : Outcome) (buffers : List (List ℕ)) (called : Called c
   refused-call r is = go (judged c)
     where
       go : Outcomes c → RefusedBefore r buffers c ⊎ RefusedAtStep r buffers c
-      go (judging.wrong q g e k) =
-          let same : q ≡ r = refused-same (sym e ∙ sym (called .answer) ∙ is) in
-          inl (record { wrong = subst (λ (x : Refusal). FirstWrong (reasons c) (x .number) (x .place)) same g; nothing-written = called .left ∙ k })
+      go (judging.wrong m p g e k) =
+          let same : refusal m p ≡ r = refused-same (sym e ∙ sym (called .answer) ∙ is) in
+          inl (record {
+            wrong = subst (λ (x : Refusal). FirstWrong (reasons c) (x .number) (x .place)) same g;
+            number = ap (λ (x : Refusal). beforeSteps (x .number)) (sym same) ∙ first-number (reasons c) (numbered c) m p g;
+            third = sym (ap (λ (x : Refusal). x .differing) same);
+            nothing-written = called .left ∙ k;
+          })
       go (judging.right none e k) = inr (at-step c r buffers none (sym e ∙ sym (called .answer) ∙ is) (called .left ∙ k))
+
+  -- Every refusal is by 1 to 9, 14, 15 or 20, found before the first step, or by 10, 11, 13 or one of 16 to 19, found at a step. So none is 0.
+  pub refused-number : (r : Refusal) → o ≡ refused r → (beforeSteps (r .number) ≡ true) ⊎ (byStep (r .number) ≡ true)
+  refused-number r is = go (refused-call r is)
+    where
+      go : RefusedBefore r buffers c ⊎ RefusedAtStep r buffers c → (beforeSteps (r .number) ≡ true) ⊎ (byStep (r .number) ≡ true)
+      go (inl b) = inl (b .number)
+      go (inr s) = inr (step-told s .number-is)
+
+  pub refused-above-0 : (r : Refusal) → o ≡ refused r → 1 ≤ r .number
+  refused-above-0 r is = go (r .number) (refused-number r is)
+    where
+      go : (k : ℕ) → (beforeSteps k ≡ true) ⊎ (byStep k ≡ true) → 1 ≤ k
+      go zero (inl e) = absurd (true≢false (sym e))
+      go zero (inr e) = absurd (true≢false (sym e))
+      go (suc k) e = omega arith
+
+  -- The third answer is 0 in every refusal but 16 to 19.
+  pub third-zero : (r : Refusal) → o ≡ refused r → byCubes (r .number) ≡ false → r .differing ≡ 0
+  third-zero r is no₁ = go (refused-call r is)
+    where
+      go : RefusedBefore r buffers c ⊎ RefusedAtStep r buffers c → r .differing ≡ 0
+      go (inl b) = b .third
+      go (inr s) = step-told s .third-else no₁
 
   -- Of an accepted call nothing is wrong ..
   pub accepted-not-wrong : (v : List ℕ) → o ≡ accepted v → NoneWrong (reasons c)
   accepted-not-wrong v is = go (judged c)
     where
       go : Outcomes c → NoneWrong (reasons c)
-      go (judging.wrong q g e k) = absurd (not-both (sym is ∙ called .answer ∙ e))
+      go (judging.wrong m p g e k) = absurd (not-both (sym is ∙ called .answer ∙ e))
       go (judging.right none e k) = none
 
   -- .. and where nothing is, the call answers and leaves what document 01 says of an accepted one, or is refused at a step; ..
@@ -120,9 +190,13 @@ module _ (c : Call) (o : Outcome) (buffers : List (List ℕ)) (called : Called c
   not-wrong-goes-on fine = go (judged c)
     where
       go : Outcomes c → (o ≡ goesOn c) × (buffers ≡ goesOnLeaving c)
-      go (judging.wrong q g e k) = absurd (not-none (reasons c) (q .number) (q .place) g fine)
+      go (judging.wrong m p g e k) = absurd (not-none (reasons c) m p g fine)
       go (judging.right none e k) = (called .answer ∙ e, called .left ∙ k)
 
-  -- .. it is accepted where the script, if the call has one, ends.
+  -- .. refused exactly by the step that is refused, and with the third answer of that step, ..
+  pub not-wrong-stops : NoneWrong (reasons c) → (why : StepRefusal) (k : ℕ) → ScriptStops c why k → o ≡ refused (atStep why k)
+  not-wrong-stops fine why k s = not-wrong-goes-on fine .0 ∙ refuses c why k s
+
+  -- .. and it is accepted where the script, if the call has one, ends.
   pub not-wrong-accepted : NoneWrong (reasons c) → ScriptEnds c → (v : List ℕ) × (o ≡ accepted v)
   not-wrong-accepted fine s = let a = accepts c s in (a .0, not-wrong-goes-on fine .0 ∙ a .1)

@@ -217,7 +217,7 @@ module _ (n : ℕ) (list script work work′ : List ℕ) (count peak : ℕ)
     where
       go : (ran : Ran Cube) → runOf n list script (length work) ≡ ran → accepted (count ∷ peak ∷ []) ≡ ranOutcome ran → work′ ∷ [] ≡ ranWork (length work) ran ∷ []
           → (m : List Cube) × (runOf n list script (length work) ≡ ended m peak) × (count ≡ length m) × (work′ ≡ image cubes (length work) m)
-      go (stopped number step) is e f = absurd (not-both e)
+      go (stopped why step) is e f = absurd (not-both e)
       go (ended m q) is e f = let t = two-values e in (m, is ∙ ap (ended m) (sym (t .1)), t .0, only f)
 
   -- .. and it has the given list's value at every assignment.

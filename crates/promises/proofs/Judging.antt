@@ -88,7 +88,7 @@ after-vector n l ys o rest j = judge-and (vectorReasons n l) ys (checkVector n l
 
 -- a call is refused before the first step and leaves its buffers as they were, or goes on
 pub data Outcomes (c : Call) : Type 0 where
-  wrong : (r : Refusal) → FirstWrong (reasons c) (r .number) (r .place) → answers c ≡ refused r → leaves c ≡ lent c → Outcomes c
+  wrong : (number place : ℕ) → FirstWrong (reasons c) number place → answers c ≡ refused (refusal number place) → leaves c ≡ lent c → Outcomes c
   right : NoneWrong (reasons c) → answers c ≡ goesOn c → leaves c ≡ goesOnLeaving c → Outcomes c
 
 -- by what it tests before the first step
@@ -96,7 +96,7 @@ by-tests : (c : Call) (o : Outcome) (v : List ℕ) → Judged (reasons c) o (acc
     → ((r : Refusal) → o ≡ refused r → (answers c ≡ refused r) × (leaves c ≡ lent c))
     → (o ≡ accepted v → (answers c ≡ goesOn c) × (leaves c ≡ goesOnLeaving c))
     → Outcomes c
-by-tests c o v (chains.wrong number place f e) no₁ yes₁ = let t = no₁ (refusal number place) e in wrong (refusal number place) f (t .0) (t .1)
+by-tests c o v (chains.wrong number place f e) no₁ yes₁ = let t = no₁ (refusal number place) e in wrong number place f (t .0) (t .1)
 by-tests c o v (chains.right none e) no₁ yes₁ = let t = yes₁ e in right none (t .0) (t .1)
 
 one-buffer : {b d : List ℕ} → b ≡ d → b ∷ [] ≡ d ∷ []

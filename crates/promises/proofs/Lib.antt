@@ -1,4 +1,5 @@
 pub mod Chains
+pub mod Numbers
 pub mod Judging
 pub mod Contracts
 pub mod DemandOne

@@ -16,8 +16,10 @@ use Rattle.polarity.specs.Vectors.{byteAt, coefficientVector, vectorBack}
 use Rattle.script.specs.Run.{ended}
 use Rattle.script.specs.Calls.{runOf, ranOutcome, ranWork}
 use Rattle.settling.specs.Calls.{ranSettled, ranBurned}
+use Rattle.steps.specs.declared.StepRefusal.{StepRefusal}
 use Rattle.promises.specs.Calls.{Call}
 use Rattle.promises.specs.Calls as call
+use Rattle.promises.specs.Refusals.{StepStops}
 
 unfoldable pub goesOn : Call → Outcome
 goesOn (call.check n list) = accepted (length (cubesOf list) ∷ [])
@@ -46,12 +48,27 @@ goesOnLeaving (call.settle n list script work out) = zeros (length work) ∷ ran
 goesOnLeaving (call.wideFromNarrow n list out) = written cubes 0 (narrowCubesOf list) out ∷ []
 goesOnLeaving (call.narrowFromWide n list out) = written narrowCubes 0 (cubesOf list) out ∷ []
 
--- the script, of a call that has one, ends: no step of it is refused
+-- the script ends: no step of it is refused
 pub record EndOfScript (n : ℕ) (list script work : List ℕ) : Type 0 where
   pub result : List Cube
   pub peak : ℕ
   pub is : runOf n list script (length work) ≡ ended result peak
 
+-- a step of the script is refused
+unfoldable pub ScriptStops : Call → StepRefusal → ℕ → Type 0
+ScriptStops (call.check n list) why k = ⊥
+ScriptStops (call.value n list a) why k = ⊥
+ScriptStops (call.truthVector n list out) why k = ⊥
+ScriptStops (call.coefficients n vector p out) why k = ⊥
+ScriptStops (call.vectorBack n vector p out) why k = ⊥
+ScriptStops (call.writeForm n vector p out) why k = ⊥
+ScriptStops (call.bestPolarity n vector) why k = ⊥
+ScriptStops (call.run n list script work) why k = StepStops n list script work why k
+ScriptStops (call.settle n list script work out) why k = StepStops n list script work why k
+ScriptStops (call.wideFromNarrow n list out) why k = ⊥
+ScriptStops (call.narrowFromWide n list out) why k = ⊥
+
+-- no step of it is
 unfoldable pub ScriptEnds : Call → Type 0
 ScriptEnds (call.check n list) = Unit {0}
 ScriptEnds (call.value n list a) = Unit {0}

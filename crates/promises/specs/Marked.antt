@@ -90,11 +90,11 @@ sameCubes (c ∷ cs) [] = false
 sameCubes (c ∷ cs) (d ∷ ds) = eqb (c .seen) (d .seen) && (eqb (c .value) (d .value) && sameCubes cs ds)
 
 abbrev pub afterIs : After Cube → List Cube → Bool
-afterIs (stop number) l = false
+afterIs (stop why) l = false
 afterIs (next m) l = sameCubes m l
 
 abbrev pub ranIs : ℕ → List Cube → Ran Cube → List Cube → Bool
-ranIs n given (stopped number s) l = false
+ranIs n given (stopped why s) l = false
 ranIs n given (ended result peak) l = sameCubes (burnedList n result given) l
 
 unfoldable pub right : Row → Bool

@@ -1,10 +1,13 @@
--- What each call refuses, in its order. Document 01, "Refusal numbers and places": its table, and its paragraph "Order".
+-- What each call refuses, in its order. Document 01, "Refusal numbers and places": its table, and its paragraph "Order"; document 02, Four: "16 (drop
+-- of unequal cubes), 17 (join, number not one), 18 (turn, number not two), 19 (turn at a variable where the cubes agree, number two), 18 before 19", and "the
+-- number of differing variables as a third answer".
 -- Assumes nothing.
 use mathlib.Core.Path.{_≡_}
 use mathlib.Core.Logic.{_⊎_, _≢_}
-use mathlib.Core.Bool.{Bool, true, false}
+use mathlib.Core.Bool.{Bool, true, false, _&&_, _||_}
 use mathlib.Core.List.{List, [], _∷_, _++_}
 use Prim.Native.Nat.{ℕ, _*_, _/_, _%_, _^_, _≤_, _<_}
+use lib.Dec.{eqb, leb}
 use lib.ListN.{length, getD}
 use Rattle.records.specs.declared.Refusal.{Refusal}
 use Rattle.records.specs.Records.{Codec, listOf, zeros}
@@ -14,8 +17,12 @@ use Rattle.cube.specs.Lists.{mostVariables, vectorVariables, mostRecords, recor
 use Rattle.converters.specs.NarrowRecord.{narrowWidth, narrowCubes, narrowCubesOf, narrowVariables}
 use Rattle.polarity.specs.Forms.{formFrom}
 use Rattle.polarity.specs.Vectors.{byteAt, isBit}
+use Rattle.steps.specs.declared.StepRefusal.{StepRefusal}
+use Rattle.steps.specs.Steps.{drop}
+use Rattle.steps.specs.Effects.{StepRefused, byStep, thirdAnswer}
 use Rattle.script.specs.Run.{Refused}
 use Rattle.script.specs.Scripts.{stepRecords, stepWidth, mostSteps, fits, stepsOf}
+use Rattle.script.specs.Calls.{ofStep}
 use Rattle.promises.specs.Calls.{Call, check, value, truthVector, coefficients, vectorBack, writeForm, bestPolarity, run, settle, wideFromNarrow, narrowFromWide, lent}
 
 -- ---- a reason to refuse
@@ -115,17 +122,29 @@ reasons (narrowFromWide n list out) =
 
 -- ---- a refused call
 
--- found before the first step: the first in order that is wrong; "A refusal found before the first step writes nothing"
+-- the numbers that are found before the first step, all others at one: 1 to 9, 14, 15 and 20
+abbrev pub beforeSteps : ℕ → Bool
+beforeSteps number = (leb 1 number && leb number 9) || (eqb number 14 || (eqb number 15 || eqb number 20))
+
+-- found before the first step: the first in order that is wrong; "A refusal found before the first step writes nothing", and "the third answer is 0"
 pub record RefusedBefore (r : Refusal) (buffers : List (List ℕ)) (c : Call) : Type 0 where
   pub wrong : FirstWrong (reasons c) (r .number) (r .place)
+  pub number : beforeSteps (r .number) ≡ true
+  pub third : r .differing ≡ 0
   pub nothing-written : buffers ≡ lent c
 
--- at a step: the place is that step, the steps before it were done, this one is refused by 10, 11, 12 or 13
+-- step k of a call's script is refused: the steps before it are done, and it is refused in the list that they leave
+abbrev pub StepStops : (n : ℕ) (list script work : List ℕ) → StepRefusal → ℕ → Type 0
+StepStops n list script work why k = Refused n (cubeCapacity (length work)) (stepsOf script) (cubesOf list) why k
+
+-- at a step: the place is that step
 pub record Stopped (n : ℕ) (list script work : List ℕ) (r : Refusal) : Type 0 where
-  pub at-step : r .place < length (stepsOf script)
-  pub least : 10 ≤ r .number
-  pub most : r .number ≤ 13
-  pub steps : Refused n (cubeCapacity (length work)) 0 (length (cubesOf list)) (stepsOf script) (cubesOf list) (r .number) (r .place)
+  pub steps : StepStops n list script work (ofStep r) (r .place)
+  -- why, in the list as it stands before that step; its number is 10, 11, 13 or one of 16 to 19
+  pub why : StepRefused n (cubeCapacity (length work)) (getD (stepsOf script) (r .place) (drop 0 0)) (steps .between) (ofStep r)
+  pub number : byStep (r .number) ≡ true
+  -- the third answer: at 16 to 19 the number of variables below n in which the step's two cubes have different codes there, else 0
+  pub third : r .differing ≡ thirdAnswer n (getD (stepsOf script) (r .place) (drop 0 0)) (steps .between) (r .number)
 
 -- found at a step, where nothing before the steps was wrong: "leaves every byte of the work buffer zero and the output untouched"
 pub data RefusedAtStep (r : Refusal) (buffers : List (List ℕ)) : Call → Type 0 where

@@ -7,6 +7,8 @@ use Rattle.bits.specs.Outcomes.{Determined}
 use Rattle.bits.proofs.Determined.{same}
 use Rattle.records.proofs.Refusal.new.Kinds as new-kinds
 use Rattle.records.proofs.Refusal.new.Reads as new-reads
+use Rattle.records.proofs.Refusal.with_differing.Kinds as with-differing-kinds
+use Rattle.records.proofs.Refusal.with_differing.Reads as with-differing-reads
 use Rattle.records.proofs.clear.Kinds as clear-kinds
 use Rattle.records.proofs.clear.Reads as clear-reads
 use Rattle.records.proofs.fill.Kinds as fill-kinds
@@ -22,6 +24,9 @@ use Rattle.records.proofs.numbers.put_number4.Reads as put-number4-read
 
 pub new-determined : Determined 0 new-kinds.ps new-kinds.r new-reads.Learnt
 new-determined κs a z z′ ws ws′ p q = (same p q, refl)
+
+pub with-differing-determined : Determined 0 with-differing-kinds.ps with-differing-kinds.r with-differing-reads.Learnt
+with-differing-determined κs a z z′ ws ws′ p q = (same p q, refl)
 
 pub clear-determined : Determined 1 clear-kinds.ps clear-kinds.r clear-reads.Learnt
 clear-determined κs a z z′ ws ws′ p q = (refl, ap (λ (b : List ℕ). (b, tt)) (same p q))

@@ -1,4 +1,5 @@
--- What a call answers: document 01's values, or a refusal with its number and its place. Document 01, "Refusal numbers and places".
+-- What a call answers: document 01's values, or a refusal with its number, its place and its third answer. Document 01, "Refusal numbers and places";
+-- document 02, Four: "give the number of differing variables as a third answer".
 -- Assumes nothing.
 use Prim.Native.Nat.{ℕ}
 use mathlib.Core.Path.{_≡_}
@@ -11,9 +12,13 @@ use Rattle.records.specs.declared.Refusal.{Refusal}
 use Rattle.records.specs.declared.Counted.{Counted}
 use Rattle.records.specs.declared.Counted.the-variants as counted-is
 
--- the one way to make a refusal
+-- the one way to make a refusal with the number of differing variables
+abbrev pub refusalWith : ℕ → ℕ → ℕ → Refusal
+refusalWith number place differing = record { number = number; place = place; differing = differing }
+
+-- and a plain one: "In every other refusal the third answer is 0" (document 02, Four)
 abbrev pub refusal : ℕ → ℕ → Refusal
-refusal number place = record { number = number; place = place }
+refusal number place = refusalWith number place 0
 
 -- accepted, with the values in document 01's order; or refused
 pub data Outcome : Type 0 where

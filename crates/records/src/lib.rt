@@ -4,12 +4,14 @@ pub mod numbers;
 ghost use mathlib.Core.Path.{_≡_};
 ghost use lib.ListN.{length};
 ghost use Rattle.records.specs.Records.{zeros, filledBy};
-ghost use Rattle.records.specs.Answers.{refusal};
+ghost use Rattle.records.specs.Answers.{refusal, refusalWith};
 
-// Why a call is refused: document 01's number, and the place.
+// Why a call is refused: the number, the place, and a third answer: the number of differing variables, where the two cubes of a step are not
+// as it needs; else 0.
 pub struct Refusal {
     pub number: u8,
     pub place: usize,
+    pub differing: u32,
 }
 
 // What most calls answer: a count, or a refusal.
@@ -19,11 +21,26 @@ pub enum Counted {
 }
 
 impl Refusal {
-    // The one way to make a refusal.
+    // The one way to make a plain refusal, whose third answer is 0.
     pub fn new(number: u8, place: usize) -> Refusal
         ensures { λ r. ⌜ r ≡ refusal number place ⌝ }
     {
-        Refusal { number, place }
+        Refusal {
+            number,
+            place,
+            differing: 0,
+        }
+    }
+
+    // The one way to make a refusal with a number of differing variables.
+    pub fn with_differing(number: u8, place: usize, differing: u32) -> Refusal
+        ensures { λ r. ⌜ r ≡ refusalWith number place differing ⌝ }
+    {
+        Refusal {
+            number,
+            place,
+            differing,
+        }
     }
 }
 

@@ -18,7 +18,7 @@ use Rattle.cube.specs.Lists.{cubes, cubesOf, cubeCapacity, recordWidth, mostVar
 use Rattle.cube.specs.Calls.{checkList}
 use Rattle.cube.proofs.Lists.{AcceptedList, check-accepts}
 use Rattle.script.specs.Run.{Ran, stopped, ended}
-use Rattle.script.specs.Calls.{checkScript, checkRun, runOf, ranOutcome, runOutcome, ranWork, workAfter, runAfter}
+use Rattle.script.specs.Calls.{checkScript, checkRun, runOf, ofStep, ranOutcome, runOutcome, ranWork, workAfter, runAfter}
 use Rattle.script.proofs.Scripts.{AcceptedScript, script-accepts}
 
 -- ---- the checks before any step
@@ -74,7 +74,7 @@ pub record RunEnded (n : ℕ) (list script : List ℕ) (room : ℕ) (v : List �
 -- one refused at a step
 pub record RunStopped (n : ℕ) (list script : List ℕ) (room : ℕ) (r : Refusal) : Type 0 where
   pub checks : Accepts (checkRun n list script room)
-  pub ran : runOf n list script room ≡ stopped (r .number) (r .place)
+  pub ran : runOf n list script room ≡ stopped (ofStep r) (r .place)
 
 module _ (n : ℕ) (list script : List ℕ) (room : ℕ) where
   pub run-accepted : (v : List ℕ) → runOutcome n list script room ≡ accepted v → RunEnded n list script room v
@@ -84,7 +84,7 @@ module _ (n : ℕ) (list script : List ℕ) (room : ℕ) where
       go (passed (checkRun n list script room) (b .values) (b .first)) (runOf n list script room) refl (b .second)
     where
       go : Accepts (checkRun n list script room) → (t : Ran Cube) → runOf n list script room ≡ t → ranOutcome t ≡ accepted v → RunEnded n list script room v
-      go p (stopped number step) is e = absurd (not-both (sym e))
+      go p (stopped why step) is e = absurd (not-both (sym e))
       go p (ended l peak) is e = record { checks = p; result = l; peak = peak; ran = is; values = sym (accepted-values e) }
 
   -- refused before the first step, or at a step
@@ -96,8 +96,8 @@ module _ (n : ℕ) (list script : List ℕ) (room : ℕ) where
           → (checkRun n list script room ≡ refused r) ⊎ RunStopped n list script room r
       go (refused q) t eo et e = inl (eo ∙ e)
       go (accepted v) (ended l peak) eo et e = absurd (not-both e)
-      go (accepted v) (stopped number step) eo et e =
-          inr (record { checks = passed _ v eo; ran = et ∙ ap (λ (q : Refusal). stopped (q .number) (q .place)) (refused-same e) })
+      go (accepted v) (stopped why step) eo et e =
+          inr (record { checks = passed _ v eo; ran = et ∙ ap (λ (q : Refusal). stopped (ofStep q) (q .place)) (refused-same e) })
 
 -- the other way, from the checks and the run: what the call answers and leaves
 module _ (n : ℕ) (list script work : List ℕ) where

@@ -9,6 +9,7 @@ use native.Mathlib.Omega.{arith}
 use lib.ListN.{length}
 use Rattle.bits.specs.Sums.{sum, All}
 use Rattle.bits.proofs.Sums.{sum-map, all-map, map-same, map-map}
+use Rattle.steps.specs.declared.StepRefusal.{StepRefusal}
 use Rattle.steps.specs.Moves.{After, stop, next}
 use Rattle.script.specs.Run.{Ran, stopped, ended, onward, stepsFrom, undoBy, finishBy, runBy}
 
@@ -20,7 +21,7 @@ ended-list e = cc
 pub ended-peak : {A : Type 0} {l m : List A} {p q : ℕ} → ended l p ≡ ended m q → p ≡ q
 ended-peak e = cc
 
-pub not-ended : {A : Type 0} {r s p : ℕ} {m : List A} → stopped r s ≡ ended m p → ⊥
+pub not-ended : {A : Type 0} {r : StepRefusal} {s p : ℕ} {m : List A} → stopped r s ≡ ended m p → ⊥
 not-ended e = let z : _≡_ {A = ℕ} 0 1 = cc in omega arith
 
 -- a step that was done, and the steps after it

@@ -1,4 +1,4 @@
--- The call `run`: what it answers, and what it leaves in the work buffer. Document 01, "Refusal numbers and places".
+-- The call `run`: what it answers, and what it leaves in the work buffer. Document 01, "Refusal numbers and places"; document 02, Four.
 -- Assumes nothing.
 use Rattle.cube.specs.declared.Cube.{Cube}
 use Prim.Native.Nat.{ℕ, _/_, _%_}
@@ -6,9 +6,12 @@ use mathlib.Core.List.{List, [], _∷_}
 use lib.Dec.{leb, eqb}
 use lib.ListN.{length}
 use Rattle.records.specs.Records.{listOf, image, zeros}
-use Rattle.records.specs.Answers.{Outcome, accepted, refused, refusal, unless, unlessAt, andThen}
+use Rattle.records.specs.declared.Refusal.{Refusal}
+use Rattle.records.specs.Answers.{Outcome, accepted, refused, refusalWith, unless, unlessAt, andThen}
 use Rattle.cube.specs.Lists.{mostVariables, cubes, cubesOf, cubeCapacity}
 use Rattle.cube.specs.Calls.{checkList}
+use Rattle.steps.specs.declared.StepRefusal.{StepRefusal}
+use Rattle.steps.specs.Moves.{stepRefusalWith}
 use Rattle.script.specs.declared.Finished.{Finished}
 use Rattle.script.specs.declared.Finished.the-variants as finished-is
 use Rattle.script.specs.Run.{Ran, stopped, ended, run}
@@ -29,12 +32,20 @@ checkRun n list script room =
     (unless (leb (length (cubesOf list)) (cubeCapacity room)) 5 0
     (checkScript n script))
 
--- "then steps in turn, each 10, 11, 12, 13": the run of an accepted list and script
+-- "then steps in turn", each 10, 11, 16 to 19 (document 02, Four), 13: the run of an accepted list and script
 unfoldable pub runOf : ℕ → List ℕ → List ℕ → ℕ → Ran Cube
 runOf n list script room = run n (cubeCapacity room) (stepsOf script) (cubesOf list)
 
+-- a step's refusal, with the step as its place
+abbrev pub atStep : StepRefusal → ℕ → Refusal
+atStep why step = refusalWith (why .number) step (why .differing)
+
+-- and back
+abbrev pub ofStep : Refusal → StepRefusal
+ofStep r = stepRefusalWith (r .number) (r .differing)
+
 abbrev pub ranOutcome : Ran Cube → Outcome
-ranOutcome (stopped number step) = refused (refusal number step)
+ranOutcome (stopped why step) = refused (atStep why step)
 ranOutcome (ended l peak) = accepted (length l ∷ peak ∷ [])
 
 -- "run, count and peak"
@@ -43,7 +54,7 @@ runOutcome n list script room = andThen (checkRun n list script room) (ranOutcom
 
 -- "One found at a step leaves every byte of the work buffer zero"; "An accepted run fills the front of the work buffer with its list and clears the rest"
 abbrev pub ranWork : ℕ → Ran Cube → List ℕ
-ranWork room (stopped number step) = zeros room
+ranWork room (stopped why step) = zeros room
 ranWork room (ended l peak) = image cubes room l
 
 -- "A refusal found before the first step writes nothing"

@@ -8,7 +8,8 @@ use mathlib.Core.List.{List}
 use lib.ListN.{length}
 use Rattle.records.specs.Records.{records, image, zeros}
 use Rattle.cube.specs.Lists.{cubes}
-use Rattle.steps.specs.Moves.{After, stop, next}
+use Rattle.steps.specs.declared.StepRefusal.{StepRefusal}
+use Rattle.steps.specs.Moves.{stepRefusal, After, stop, next}
 use Rattle.steps.specs.Steps.{Step, step}
 use Rattle.steps.specs.Calls.{Ready}
 use Rattle.script.specs.declared.Finished.{Finished}
@@ -20,29 +21,29 @@ use Rattle.script.specs.Calls.{ranWork, ranOutcome, runOf, finished}
 
 -- so many records, the greatest count met so far, and what is pending
 abbrev pub standing : ℕ → ℕ → List ℕ → Progress
-standing count peak pending = record { done = true; number = 0; place = 0; count = count; peak = peak; pending = pending }
+standing count peak pending = record { done = true; why = stepRefusal 0; place = 0; count = count; peak = peak; pending = pending }
 
--- refused by a number at a step
-abbrev pub halted : ℕ → ℕ → Progress
-halted number step = record { done = false; number = number; place = step; count = 0; peak = 0; pending = nonePending }
+-- refused at a step
+abbrev pub halted : StepRefusal → ℕ → Progress
+halted why step = record { done = false; why = why; place = step; count = 0; peak = 0; pending = nonePending }
 
 -- where a run stands with so many records and the greatest count met so far
 abbrev pub at : ℕ → ℕ → Standing
-at count peak = record { done = true; number = 0; count = count; peak = peak }
+at count peak = record { done = true; why = stepRefusal 0; count = count; peak = peak }
 
 -- one step more
 abbrev pub advanced : Standing → After Cube → Standing
-advanced p (stop number) = record { done = false; number = number; count = 0; peak = 0 }
+advanced p (stop why) = record { done = false; why = why; count = 0; peak = 0 }
 advanced p (next l) = at (length l) (max (p .peak) (length l))
 
 -- and the work buffer after it
 abbrev pub workAdvanced : List ℕ → After Cube → List ℕ
-workAdvanced work (stop number) = zeros (length work)
+workAdvanced work (stop why) = zeros (length work)
 workAdvanced work (next l) = image cubes (length work) l
 
 -- all steps, with what is pending after them
 abbrev pub progressOf : Ran Cube → List ℕ → Progress
-progressOf (stopped number step) pending = halted number step
+progressOf (stopped why step) pending = halted why step
 progressOf (ended l peak) pending = standing (length l) peak pending
 
 -- the steps xs done from `first` records on: the answer r, and the work buffer after it

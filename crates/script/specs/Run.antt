@@ -1,17 +1,18 @@
 -- A run of a script, and the undoing of its L steps, for any kind of record A and of step X, by what one step does; and for cubes. Document 01, "The steps
 -- of a script".
 -- Assumes nothing.
-use Prim.Native.Nat.{ℕ, suc, _+_, _<_, max}
+use Prim.Native.Nat.{ℕ, suc, _<_, max}
 use mathlib.Core.Path.{_≡_}
 use mathlib.Core.List.{List, [], _∷_, map}
 use lib.ListN.{length, getD, take}
 use Rattle.cube.specs.declared.Cube.{Cube}
+use Rattle.steps.specs.declared.StepRefusal.{StepRefusal}
 use Rattle.steps.specs.Moves.{After, stop, next}
 use Rattle.steps.specs.Steps.{Step, drop, join, split, turn, L, step, exchanged}
 
--- stopped by a number at a step, or ended with a list and the peak
+-- stopped by a refusal at a step, or ended with a list and the peak
 pub data Ran (A : Type 0) : Type 0 where
-  stopped : ℕ → ℕ → Ran A
+  stopped : StepRefusal → ℕ → Ran A
   ended : List A → ℕ → Ran A
 
 -- what follows step s
@@ -39,17 +40,15 @@ finishBy un (ended l peak) = ended (un l) peak
 abbrev pub runBy : {A X : Type 0} → (X → List A → After A) → (X → List A → List A) → List X → List A → Ran A
 runBy σ un xs l = finishBy (undoBy un xs) (stepsFrom σ 0 (length l) xs l)
 
--- the steps xs from the list l, numbered from s on, are refused by r at step k: "then steps in turn"
-pub record RefusedBy {A X : Type 0} (σ : X → List A → After A) (none : X) (s q : ℕ) (xs : List X) (l : List A) (r k : ℕ) : Type 0 where
-  pub place : ℕ
-  pub number : k ≡ s + place
-  pub within : place < length xs
+-- the steps xs from the list l are refused at step k: "then steps in turn"
+pub record RefusedBy {A X : Type 0} (σ : X → List A → After A) (none : X) (xs : List X) (l : List A) (r : StepRefusal) (k : ℕ) : Type 0 where
+  pub within : k < length xs
+  -- the steps before it are done, and leave a list
   pub between : List A
   pub peak : ℕ
-  -- the steps before it are done
-  pub before : stepsFrom σ s q (take place xs) l ≡ ended between peak
+  pub before : stepsFrom σ 0 (length l) (take k xs) l ≡ ended between peak
   -- the step there is refused
-  pub here : σ (getD xs place none) between ≡ stop r
+  pub here : σ (getD xs k none) between ≡ stop r
 
 -- ---- cubes
 
@@ -70,5 +69,5 @@ finish xs r = finishBy (undo xs) r
 unfoldable pub run : ℕ → ℕ → List Step → List Cube → Ran Cube
 run n cap xs l = runBy (step n cap) unstep xs l
 
-abbrev pub Refused : (n cap s q : ℕ) (xs : List Step) (l : List Cube) (r k : ℕ) → Type 0
+abbrev pub Refused : (n cap : ℕ) (xs : List Step) (l : List Cube) (r : StepRefusal) (k : ℕ) → Type 0
 Refused n cap = RefusedBy (step n cap) (drop 0 0)

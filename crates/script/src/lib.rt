@@ -5,6 +5,7 @@ pub mod run;
 
 use cube::list::MOST_VARIABLES;
 use records::Refusal;
+use steps::StepRefusal;
 
 // What a run answers: the count and the peak, or a refusal.
 pub enum Finished {
@@ -12,18 +13,18 @@ pub enum Finished {
     Refused(Refusal),
 }
 
-// Where a run stands after a step: the count and the peak; or the number that the step is refused by.
+// Where a run stands after a step: the count and the peak; or why the step is refused.
 pub struct Standing {
     pub done: bool,
-    pub number: u8,
+    pub why: StepRefusal,
     pub count: usize,
     pub peak: usize,
 }
 
-// How far the steps went: where the run stands, with the count, the peak and an order pending for each variable; or to a refusal.
+// How far the steps went: where the run stands, with the count, the peak and an order pending for each variable; or to a refusal, and its place.
 pub struct Progress {
     pub done: bool,
-    pub number: u8,
+    pub why: StepRefusal,
     pub place: usize,
     pub count: usize,
     pub peak: usize,

@@ -7,6 +7,7 @@ use cube::list::MOST_VARIABLES;
 use records::Counted;
 use records::Refusal;
 use steps::StepRecord;
+use steps::StepRefusal;
 use steps::Stepped;
 use steps::perform::larger;
 ghost use mathlib.Core.Path.{_≡_};
@@ -58,11 +59,11 @@ pub fn advance(work: &mut [u8], n: usize, cap: usize, x: StepRecord, at: Standin
     ensures { λ _. ⌜ now (work .exit) ≡ workAdvanced (now (work .entry)) (step n cap (meaning x) (records cubes (at .count) (now (work .entry)))) ⌝ }
 {
     match steps::step::do_step(work, n, at.count, cap, x) {
-        Stepped::Refused(number) => {
+        Stepped::Refused(why) => {
             records::clear(work);
             Standing {
                 done: false,
-                number,
+                why,
                 count: 0,
                 peak: 0,
             }
@@ -71,7 +72,7 @@ pub fn advance(work: &mut [u8], n: usize, cap: usize, x: StepRecord, at: Standin
             let peak = larger(at.peak, count);
             Standing {
                 done: true,
-                number: 0,
+                why: StepRefusal::NONE,
                 count,
                 peak,
             }
@@ -79,13 +80,13 @@ pub fn advance(work: &mut [u8], n: usize, cap: usize, x: StepRecord, at: Standin
     }
 }
 
-// How far a run went that was refused by a number at step k.
-fn halted(number: u8, k: usize) -> Progress
-    ensures { λ r. ⌜ r ≡ Progress·halted number k ⌝ }
+// How far a run went that was refused at step k.
+fn halted(why: StepRefusal, k: usize) -> Progress
+    ensures { λ r. ⌜ r ≡ Progress·halted why k ⌝ }
 {
     Progress {
         done: false,
-        number,
+        why,
         place: k,
         count: 0,
         peak: 0,
@@ -104,7 +105,7 @@ fn run_steps(work: &mut [u8], n: usize, first: usize, cap: usize, script: &[u8])
     let mut pending = NONE_PENDING;
     let mut at = Standing {
         done: true,
-        number: 0,
+        why: StepRefusal::NONE,
         count: first,
         peak: first,
     };
@@ -113,7 +114,7 @@ fn run_steps(work: &mut [u8], n: usize, first: usize, cap: usize, script: &[u8])
         let x = check::step_at(script, k);
         let next = advance(work, n, cap, x, at);
         if !next.done {
-            return halted(next.number, k);
+            return halted(next.why, k);
         }
         at = next;
         if 5 <= x.op {
@@ -124,7 +125,7 @@ fn run_steps(work: &mut [u8], n: usize, first: usize, cap: usize, script: &[u8])
     }
     Progress {
         done: true,
-        number: 0,
+        why: StepRefusal::NONE,
         place: 0,
         count: at.count,
         peak: at.peak,
@@ -176,10 +177,11 @@ fn run_accepted(n: usize, list: &[u8], script: &[u8], work: &mut [u8]) -> Finish
         undo(work, n, p.count, pending);
         return Finished::Done(p.count, p.peak);
     }
-    Finished::Refused(Refusal::new(p.number, p.place))
+    let why = p.why;
+    Finished::Refused(Refusal::with_differing(why.number, p.place, why.differing))
 }
 
-// The run of a checked list that the work buffer has room for: refusals 7, 8 and 9, then 10 to 13 at a step; or the count and the peak.
+// The run of a checked list that the work buffer has room for: refusals 7, 8 and 9, then 10, 11, 16 to 19 and 13 at a step; or the count and the peak.
 pub fn run_checked(n: usize, list: &[u8], script: &[u8], work: &mut [u8]) -> Finished
     requires { ⌜ Accepts (checkList mostVariables n (now list)) ⌝ }
     requires { ⌜ length (cubesOf (now list)) ≤ cubeCapacity (length (now work)) ⌝ }
@@ -192,7 +194,7 @@ pub fn run_checked(n: usize, list: &[u8], script: &[u8], work: &mut [u8]) -> Fin
     }
 }
 
-// Runs a script on a list: refusals 1 to 5, 7, 8, 9 before anything is written, then 10 to 13 at a step; or the count and the peak.
+// Runs a script on a list: refusals 1 to 5, 7, 8, 9 before anything is written, then 10, 11, 16 to 19 and 13 at a step; or the count and the peak.
 pub fn run(n: usize, list: &[u8], script: &[u8], work: &mut [u8]) -> Finished
     ensures { λ r. ⌜ finished r ≡ runOutcome n (now (list .entry)) (now (script .entry)) (length (now (work .entry))) ⌝ }
     ensures { λ _. ⌜ now (work .exit) ≡ runAfter n (now (list .entry)) (now (script .entry)) (now (work .entry)) ⌝ }

@@ -30,7 +30,7 @@ use Rattle.polarity.proofs.Theorems.{form-is-good}
 use Rattle.steps.specs.Steps.{Allowed, meaning}
 use Rattle.script.specs.Run.{Ran, stopped, ended}
 use Rattle.script.specs.Scripts.{stepRecords, fits, stepsOf}
-use Rattle.script.specs.Calls.{checkScript, runOf}
+use Rattle.script.specs.Calls.{checkScript, runOf, ofStep}
 use Rattle.script.proofs.Scripts.{meaning-fits}
 use Rattle.script.proofs.Scripts.{AcceptedScript, script-accepts}
 use Rattle.script.proofs.Value.{run-value, run-good}
@@ -100,7 +100,7 @@ module _ (n : ℕ) (list script : List ℕ) (work out : ℕ) where
     where
       go : (ran : Ran Cube) → runOf n list script work ≡ ran → (u : List ℕ) → checkSettle n list script work out ≡ accepted u
           → ranSettled n (cubesOf list) ran ≡ accepted v → Ended n list script work out
-      go (stopped number step) f u e k = absurd (not-both (sym k))
+      go (stopped why step) f u e k = absurd (not-both (sym k))
       go (ended result peak) f u e k = record { values = u; checked = e; result = result; peak = peak; ran = f }
 
   -- What settle answers are the counts of the script's end, and of the list that is burned.
@@ -172,7 +172,7 @@ module _ (n : ℕ) (list script : List ℕ) (work : ℕ) (out : List ℕ) (e : E
 pub record StoppedAt (n : ℕ) (list script : List ℕ) (work out : ℕ) (r : Refusal) : Type 0 where
   pub values : List ℕ
   pub checked : checkSettle n list script work out ≡ accepted values
-  pub found : runOf n list script work ≡ stopped (r .number) (r .place)
+  pub found : runOf n list script work ≡ stopped (ofStep r) (r .place)
 
 -- A refusal was found before the first step, or at one.
 pub settle-refuses : (n : ℕ) (list script : List ℕ) (work out : ℕ) (r : Refusal) → settleOutcome n list script work out ≡ refused r
@@ -184,8 +184,8 @@ settle-refuses n list script work out r = first (checkSettle n list script work 
         → andThen o (ranSettled n (cubesOf list) ran) ≡ refused r → (checkSettle n list script work out ≡ refused r) ⊎ StoppedAt n list script work out r
     first (refused q) e ran f h = inl (e ∙ h)
     first (accepted v) e (ended result peak) f h = absurd (not-both h)
-    first (accepted v) e (stopped number step) f h =
-        inr (record { values = v; checked = e; found = f ∙ ap (λ (q : Refusal). stopped (q .number) (q .place)) (refused-same h) })
+    first (accepted v) e (stopped why step) f h =
+        inr (record { values = v; checked = e; found = f ∙ ap (λ (q : Refusal). stopped (ofStep q) (q .place)) (refused-same h) })
 
 -- ---- the buffers
 

@@ -1,17 +1,16 @@
 -- The call `settle`: what it answers, and what it leaves in its buffers. Document 01, "Settling" and "Refusal numbers and places".
 -- Assumes nothing.
 use Prim.Native.Nat.{ℕ}
-use mathlib.Core.Path.{_≡_}
 use mathlib.Core.List.{List, [], _∷_, _++_}
 use lib.Dec.{leb}
 use lib.ListN.{length}
 use Rattle.records.specs.Records.{image, zeros}
-use Rattle.records.specs.Answers.{Outcome, accepted, refused, refusal, unless, andThen}
+use Rattle.records.specs.Answers.{Outcome, accepted, refused, unless, andThen}
 use Rattle.cube.specs.declared.Cube.{Cube}
 use Rattle.cube.specs.Lists.{mostVariables, cubes, cubesOf, cubeCapacity}
 use Rattle.cube.specs.Calls.{checkList}
 use Rattle.script.specs.Run.{Ran, stopped, ended}
-use Rattle.script.specs.Calls.{checkScript, runOf}
+use Rattle.script.specs.Calls.{checkScript, runOf, atStep}
 use Rattle.settling.specs.declared.Fixed.{Fixed}
 use Rattle.settling.specs.declared.Fixed.the-variants as fixed-is
 use Rattle.settling.specs.declared.Settled.{Settled}
@@ -33,7 +32,7 @@ fixedValues fixed-is.Absent = []
 
 -- "The counts are: given, peak, script's result, best polarity and its size .., burned"
 abbrev pub ranSettled : ℕ → List Cube → Ran Cube → Outcome
-ranSettled n given (stopped number step) = refused (refusal number step)
+ranSettled n given (stopped why step) = refused (atStep why step)
 ranSettled n given (ended result peak) =
     accepted (length given ∷ peak ∷ length result ∷ (fixedValues (fixedOf n given) ++ (length (burnedList n result given) ∷ [])))
 
@@ -50,7 +49,7 @@ settleWork n list script work out = settleWorkBy (checkSettle n list script (len
 
 -- "The winner fills the front of the output buffer; every other byte of it is zero"; a refusal leaves "the output untouched"
 abbrev pub ranBurned : ℕ → List Cube → Ran Cube → List ℕ → List ℕ
-ranBurned n given (stopped number step) out = out
+ranBurned n given (stopped why step) out = out
 ranBurned n given (ended result peak) out = image cubes (length out) (burnedList n result given)
 
 abbrev pub settleOutBy : Outcome → ℕ → List Cube → Ran Cube → List ℕ → List ℕ

@@ -8,6 +8,7 @@ use native.Mathlib.Nat.{lt-of-lt-of-le}
 use native.Mathlib.Omega.{arith}
 use lib.ListN.{length, getD}
 use Rattle.bits.specs.Sums.{_⊕_, sum, All}
+use Rattle.steps.specs.declared.StepRefusal.{StepRefusal}
 use Rattle.steps.specs.Moves.{Move, refuse, drops, joins, splits, turns, After, stop, next, applied, mapMove}
 use Rattle.steps.specs.Changes.{Placed}
 use Rattle.steps.proofs.Places.{length-drop-at, length-join-at, length-split-at, length-turn-at, all-drop, all-join, all-split, all-turn, drop-map, join-map, split-map, turn-map, sum-drop, sum-join, sum-split, sum-turn}
@@ -49,10 +50,10 @@ module _ {A : Type 0} where
   pub next-same : {r s : List A} → next r ≡ next s → r ≡ s
   next-same e = cc
 
-  pub stop-same : {r s : ℕ} → _≡_ {A = After A} (stop r) (stop s) → r ≡ s
+  pub stop-same : {r s : StepRefusal} → _≡_ {A = After A} (stop r) (stop s) → r ≡ s
   stop-same e = cc
 
-  pub not-stopped : {r : ℕ} {s : List A} → stop r ≡ next s → ⊥
+  pub not-stopped : {r : StepRefusal} {s : List A} → stop r ≡ next s → ⊥
   not-stopped e = let z : _≡_ {A = ℕ} 0 1 = cc in omega arith
 
 -- a move of the list l at the places i and j, with so much room, not refused, that leaves the list m
@@ -90,7 +91,7 @@ module _ {A : Type 0} (d : A) (l m : List A) (room i j : ℕ) where
 module _ {A : Type 0} where
   pub placed-more : (count cap room i j : ℕ) (m : Move A) → cap ≤ room → Placed count cap i j m → Placed count room i j m
   unfolding Placed
-  placed-more count cap room i j (refuse number) h p = p
+  placed-more count cap room i j (refuse r) h p = p
   placed-more count cap room i j drops h p = p
   placed-more count cap room i j (joins y) h p = p
   placed-more count cap room i j (splits y z) h p = record { inside = p .inside; more = lt-of-lt-of-le (p .more) h }
@@ -106,7 +107,7 @@ pub record SoundBy {A : Type 0} (Fine : A → Type 0) (Fair : (A → Bool) → T
   pub balanced : (w : A → Bool) → Fair w → Balanced w a b m
 
 module _ {A : Type 0} (Fine : A → Type 0) (Fair : (A → Bool) → Type 0) where
-  pub refuse-sound : (count room i j : ℕ) (a b : A) (r : ℕ) → SoundBy Fine Fair count room i j a b (refuse r)
+  pub refuse-sound : (count room i j : ℕ) (a b : A) (r : StepRefusal) → SoundBy Fine Fair count room i j a b (refuse r)
   unfolding Placed Writes
   refuse-sound count room i j a b r = record { places = tt {0}; good = tt {0}; balanced = λ w fair. tt {0} }
 

@@ -16,8 +16,8 @@ use Rattle.cube.proofs.Codes.{code-lt}
 use Rattle.cube.proofs.Apart.{apart-one, Two, apart-two, two-swap}
 use Rattle.orders.specs.Codes.{third}
 use Rattle.orders.proofs.Codes.{third-lt, Permutes}
-use Rattle.steps.specs.Moves.{Move, refuse, joins, turns, applied, mapMove}
-use Rattle.steps.specs.Steps.{Step, drop, join, split, turn, L, cubeAt, thirdAt, atTwoPlaces, dropped, dropMove, joined, joinMove, turned, turnMove, step}
+use Rattle.steps.specs.Moves.{stepRefusal, Move, refuse, joins, turns, applied, mapMove}
+use Rattle.steps.specs.Steps.{Step, drop, join, split, turn, L, cubeAt, thirdAt, atTwoPlaces, unfitBy, dropped, dropMove, joined, joinMove, turned, turnMove, step}
 use Rattle.steps.proofs.Linear.{moved, code-moved, code-moved-other, moved-put-same, moved-put-other}
 use Rattle.steps.proofs.Places.{two-tests, get-map}
 use Rattle.steps.proofs.Balanced.{mapAfter, applied-map}
@@ -103,8 +103,8 @@ module _ (σ : ℕ → ℕ) (s : Permutes σ) (u : ℕ) where
         go (p ∷ q ∷ []) e = pick (eqb v p) (eqb v q)
           where
             pick : (x y : Bool) → cond x (turns (thirdAt (moved σ u a) (moved σ u b) p) (thirdAt (moved σ u b) (moved σ u a) q))
-                (cond y (turns (thirdAt (moved σ u a) (moved σ u b) q) (thirdAt (moved σ u b) (moved σ u a) p)) (refuse 12))
-                ≡ mapMove (moved σ u) (cond x (turns (thirdAt a b p) (thirdAt b a q)) (cond y (turns (thirdAt a b q) (thirdAt b a p)) (refuse 12)))
+                (cond y (turns (thirdAt (moved σ u a) (moved σ u b) q) (thirdAt (moved σ u b) (moved σ u a) p)) (unfitBy 19 (p ∷ q ∷ [])))
+                ≡ mapMove (moved σ u) (cond x (turns (thirdAt a b p) (thirdAt b a q)) (cond y (turns (thirdAt a b q) (thirdAt b a p)) (unfitBy 19 (p ∷ q ∷ []))))
             pick true y = thirds p q (apart-two n a b p q e)
             pick false true = thirds q p (two-swap n a b p q (apart-two n a b p q e))
             pick false false = refl
@@ -119,8 +119,8 @@ module _ (σ : ℕ → ℕ) (s : Permutes σ) (u : ℕ) where
   two-moved l i j f h =
       ap (λ (k : ℕ). atTwoPlaces k i j (f (cubeAt (map (moved σ u) l) i) (cubeAt (map (moved σ u) l) j))) (length-map l (moved σ u))
       ∙ two-tests (length l) i j
-      (λ x y. cond x (cond y (refuse 11) (f (cubeAt (map (moved σ u) l) i) (cubeAt (map (moved σ u) l) j))) (refuse 10)
-      ≡ mapMove (moved σ u) (cond x (cond y (refuse 11) (f (cubeAt l i) (cubeAt l j))) (refuse 10)))
+      (λ x y. cond x (cond y (refuse (stepRefusal 11)) (f (cubeAt (map (moved σ u) l) i) (cubeAt (map (moved σ u) l) j))) (refuse (stepRefusal 10))
+      ≡ mapMove (moved σ u) (cond x (cond y (refuse (stepRefusal 11)) (f (cubeAt l i) (cubeAt l j))) (refuse (stepRefusal 10))))
       (λ y h. refl) (λ h e. refl)
       (λ p. ap₂ f (get-map (moved σ u) l i one one (p .first)) (get-map (moved σ u) l j one one (p .second)) ∙ h (cubeAt l i) (cubeAt l j))
 

@@ -87,13 +87,13 @@ module _ (n count cap i j : ℕ) (a b : Cube) where
     pub drop-sound : Sound n count cap i j a b (dropMove n count i j a b)
     unfolding Placed Writes
     drop-sound =
-        drop-by count i j (Sound n count cap i j a b) n a b (λ r t. refuse-sound (Good n) (Linear n) count cap i j a b r)
+        drop-by n a b (Sound n count cap i j a b) count i j (λ r t. refuse-sound (Good n) (Linear n) count cap i j a b r)
         (λ p e. record { places = p; good = tt {0}; balanced = λ w lin. ap w (cube-ext n a b g h (apart-none n a b e)) })
 
     pub join-sound : Sound n count cap i j a b (joinMove n count i j a b)
     unfolding Placed Writes
     join-sound =
-        join-by count i j (Sound n count cap i j a b) n a b (λ r t. refuse-sound (Good n) (Linear n) count cap i j a b r)
+        join-by n a b (Sound n count cap i j a b) count i j (λ r t. refuse-sound (Good n) (Linear n) count cap i j a b r)
         (λ p v e.
         let t = apart-one n a b v e in
         record { places = p; good = third-good n v a b g (t .0); balanced = λ w lin. join-weight n w lin a b v g h (t .0) (t .1) (t .2) })
@@ -101,7 +101,7 @@ module _ (n count cap i j : ℕ) (a b : Cube) where
     pub turn-sound : (v : ℕ) → Sound n count cap i j a b (turnMove n count v i j a b)
     unfolding Placed Writes
     turn-sound v =
-        turn-by count i j (Sound n count cap i j a b) n a b v (λ r t. refuse-sound (Good n) (Linear n) count cap i j a b r)
+        turn-by n a b (Sound n count cap i j a b) count i j v (λ r t. refuse-sound (Good n) (Linear n) count cap i j a b r)
         (λ p u e.
         let t = two-of n a b v u e in
         record {

@@ -25,7 +25,7 @@ use Rattle.steps.proofs.step.do_step.Reads as do-step-reads
 
 -- the change that a move is, read back
 changeOf : Move Cube → Change
-changeOf (refuse number) = change-is.Refuse number
+changeOf (refuse why) = change-is.Refuse why
 changeOf drops = change-is.Drop
 changeOf (joins c) = change-is.Join c
 changeOf (splits c d) = change-is.Split c d
@@ -33,7 +33,7 @@ changeOf (turns c d) = change-is.Turn c d
 
 change-known : (change : Change) → changeOf (moveOf change) ≡ change
 unfolding changeOf moveOf
-change-known (change-is.Refuse number) = refl
+change-known (change-is.Refuse why) = refl
 change-known change-is.Drop = refl
 change-known (change-is.Join c) = refl
 change-known (change-is.Split c d) = refl

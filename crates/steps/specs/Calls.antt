@@ -29,12 +29,12 @@ pub record Known (n : ℕ) (x : StepRecord) : Type 0 where
 
 -- the answer of a step, on any kind of record
 abbrev pub stepped : {A : Type 0} → After A → Stepped
-stepped (stop number) = stepped-is.Refused number
+stepped (stop why) = stepped-is.Refused why
 stepped (next l) = stepped-is.Count (length l)
 
 -- the buffer after it: the next list and zeros after it; refused, it is as it was
 abbrev pub steppedBy : {A : Type 0} → Codec A → List ℕ → After A → List ℕ
-steppedBy C work (stop number) = work
+steppedBy C work (stop why) = work
 steppedBy C work (next l) = image C (length work) l
 
 abbrev pub workStepped : List ℕ → After Cube → List ℕ

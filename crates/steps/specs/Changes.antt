@@ -23,7 +23,7 @@ use Rattle.steps.specs.Calls.{stepped, steppedBy}
 
 -- the move that a change is
 unfoldable pub moveOf : Change → Move Cube
-moveOf (change-is.Refuse number) = refuse number
+moveOf (change-is.Refuse why) = refuse why
 moveOf change-is.Drop = drops
 moveOf (change-is.Join c) = joins c
 moveOf (change-is.Split c d) = splits c d
@@ -40,7 +40,7 @@ pub record OnePlace (count room i : ℕ) : Type 0 where
 
 -- the places of a move are places of the list, and where it adds a record there is room
 unfoldable pub Placed : {A : Type 0} → ℕ → ℕ → ℕ → ℕ → Move A → Type 0
-Placed count room i j (refuse number) = Unit {0}
+Placed count room i j (refuse why) = Unit {0}
 Placed count room i j drops = TwoPlaces count i j
 Placed count room i j (joins x) = TwoPlaces count i j
 Placed count room i j (splits x y) = OnePlace count room i

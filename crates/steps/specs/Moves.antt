@@ -1,21 +1,30 @@
--- A step is a decision, and then a change of the list: what is written where, for any kind of record. Document 01, "The steps of a script".
+-- A step is a decision, and then a change of the list: what is written where, for any kind of record. Document 01, "The steps of a script"; document 02, Four.
 -- Assumes nothing.
 use Prim.Native.Nat.{ℕ, min, max}
 use mathlib.Core.List.{List, [], _∷_, _++_}
 use lib.ListN.{set}
 use Rattle.records.specs.Places.{removeAt}
+use Rattle.steps.specs.declared.StepRefusal.{StepRefusal}
 
--- what is decided: refused by a number; both removed; one record for two; two for one; two for two
+-- why a step is refused: a number, and "the number of differing variables as a third answer" (document 02, Four)
+abbrev pub stepRefusalWith : ℕ → ℕ → StepRefusal
+stepRefusalWith number differing = record { number = number; differing = differing }
+
+-- "In every other refusal the third answer is 0"
+abbrev pub stepRefusal : ℕ → StepRefusal
+stepRefusal number = stepRefusalWith number 0
+
+-- what is decided: refused; both removed; one record for two; two for one; two for two
 pub data Move (A : Type 0) : Type 0 where
-  refuse : ℕ → Move A
+  refuse : StepRefusal → Move A
   drops : Move A
   joins : A → Move A
   splits : A → A → Move A
   turns : A → A → Move A
 
--- what comes of it: refused by a number, or the next list
+-- what comes of it: refused, or the next list
 pub data After (A : Type 0) : Type 0 where
-  stop : ℕ → After A
+  stop : StepRefusal → After A
   next : List A → After A
 
 module _ {A : Type 0} (d : A) where

@@ -1,4 +1,4 @@
--- The five steps of a script on a list of cubes. Document 01, "The steps of a script"; 000's rules S1 to S6, 1S, 2S and definition 4.1.
+-- The five steps of a script on a list of cubes. Document 01, "The steps of a script"; document 02, Four; 000's rules S1 to S6, 1S, 2S and definition 4.1.
 -- Assumes nothing.
 use Prim.Native.Nat.{ℕ, zero, suc, _<_}
 use mathlib.Core.Bool.{cond, _&&_}
@@ -10,7 +10,7 @@ use Rattle.cube.specs.Cubes.{code, put, one, apart}
 use Rattle.orders.specs.Codes.{third, lower, higher, exchange}
 use Rattle.orders.specs.Orders.{codeAfter}
 use Rattle.steps.specs.declared.StepRecord.{StepRecord}
-use Rattle.steps.specs.Moves.{Move, refuse, drops, joins, splits, turns, After, next, applied}
+use Rattle.steps.specs.Moves.{stepRefusal, stepRefusalWith, Move, refuse, drops, joins, splits, turns, After, next, applied}
 
 pub data Step : Type 0 where
   drop : ℕ → ℕ → Step
@@ -51,21 +51,25 @@ thirdAt c d v = put c v (third (code c v) (code d v))
 
 -- 10: "a used i or j not below the present count"; 11: "i equals j in a step with two cubes"
 abbrev pub atTwoPlaces : {A : Type 0} → ℕ → ℕ → ℕ → Move A → Move A
-atTwoPlaces count i j m = cond (ltb i count && ltb j count) (cond (eqb i j) (refuse 11) m) (refuse 10)
+atTwoPlaces count i j m = cond (ltb i count && ltb j count) (cond (eqb i j) (refuse (stepRefusal 11)) m) (refuse (stepRefusal 10))
 
--- drop needs "equal cubes": by the variables in which they differ
+-- the cubes are not as the step needs: with the number of the variables in which they differ (document 02, Four)
+abbrev pub unfitBy : ℕ → List ℕ → Move Cube
+unfitBy number vs = refuse (stepRefusalWith number (length vs))
+
+-- drop needs "equal cubes": by the variables in which they differ; 16: "drop of unequal cubes"
 abbrev pub dropped : List ℕ → Move Cube
 dropped [] = drops
-dropped (v ∷ vs) = refuse 12
+dropped (v ∷ vs) = unfitBy 16 (v ∷ vs)
 
 unfoldable pub dropMove : ℕ → ℕ → ℕ → ℕ → Cube → Cube → Move Cube
 dropMove n count i j a b = atTwoPlaces count i j (dropped (apart n a b))
 
--- join needs cubes that "differ in exactly one variable": "i gets the third there"
+-- join needs cubes that "differ in exactly one variable": "i gets the third there"; 17: "join, number not one"
 abbrev pub joined : Cube → Cube → List ℕ → Move Cube
-joined a b [] = refuse 12
+joined a b [] = unfitBy 17 []
 joined a b (v ∷ []) = joins (thirdAt a b v)
-joined a b (v ∷ u ∷ vs) = refuse 12
+joined a b (v ∷ u ∷ vs) = unfitBy 17 (v ∷ u ∷ vs)
 
 unfoldable pub joinMove : ℕ → ℕ → ℕ → ℕ → Cube → Cube → Move Cube
 joinMove n count i j a b = atTwoPlaces count i j (joined a b (apart n a b))
@@ -73,15 +77,16 @@ joinMove n count i j a b = atTwoPlaces count i j (joined a b (apart n a b))
 -- split: 10, then 13: "split with the count at capacity"
 unfoldable pub splitMove : ℕ → ℕ → ℕ → ℕ → Cube → Move Cube
 splitMove count cap v i a =
-    cond (ltb i count) (cond (ltb count cap) (splits (put a v (lower (code a v))) (put a v (higher (code a v)))) (refuse 13)) (refuse 10)
+    cond (ltb i count) (cond (ltb count cap) (splits (put a v (lower (code a v))) (put a v (higher (code a v)))) (refuse (stepRefusal 13))) (refuse (stepRefusal 10))
 
--- turn needs cubes that "differ in exactly two variables, v one of them": "i gets the third at v; j gets the third at the other variable"
+-- turn needs cubes that "differ in exactly two variables, v one of them": "i gets the third at v; j gets the third at the other variable"; 18: "turn, number
+-- not two"; 19: "turn at a variable where the cubes agree, number two"
 abbrev pub turned : Cube → Cube → ℕ → List ℕ → Move Cube
-turned a b v [] = refuse 12
-turned a b v (p ∷ []) = refuse 12
+turned a b v [] = unfitBy 18 []
+turned a b v (p ∷ []) = unfitBy 18 (p ∷ [])
 turned a b v (p ∷ q ∷ []) =
-    cond (eqb v p) (turns (thirdAt a b p) (thirdAt b a q)) (cond (eqb v q) (turns (thirdAt a b q) (thirdAt b a p)) (refuse 12))
-turned a b v (p ∷ q ∷ r ∷ vs) = refuse 12
+    cond (eqb v p) (turns (thirdAt a b p) (thirdAt b a q)) (cond (eqb v q) (turns (thirdAt a b q) (thirdAt b a p)) (unfitBy 19 (p ∷ q ∷ [])))
+turned a b v (p ∷ q ∷ r ∷ vs) = unfitBy 18 (p ∷ q ∷ r ∷ vs)
 
 unfoldable pub turnMove : ℕ → ℕ → ℕ → ℕ → ℕ → Cube → Cube → Move Cube
 turnMove n count v i j a b = atTwoPlaces count i j (turned a b v (apart n a b))
@@ -92,7 +97,7 @@ decision n count cap (drop i j) a b = dropMove n count i j a b
 decision n count cap (join i j) a b = joinMove n count i j a b
 decision n count cap (split v i) a b = splitMove count cap v i a
 decision n count cap (turn v i j) a b = turnMove n count v i j a b
-decision n count cap (L v x) a b = refuse 0
+decision n count cap (L v x) a b = refuse (stepRefusal 0)
 
 -- ---- L
 

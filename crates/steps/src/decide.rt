@@ -1,12 +1,16 @@
 // Decisions, on values alone: from the count, the places and the cubes at them, what a step does.
 use crate::Change;
 use crate::StepRecord;
+use crate::StepRefusal;
 use cube::Cube;
 ghost use mathlib.Core.Path.{_≡_};
 ghost use Prim.Native.Nat.{_^_, _<_, _≤_};
+ghost use lib.Count.{ones};
 ghost use Rattle.cube.specs.Cubes.{code, withCode, Good, maskBits};
 ghost use Rattle.cube.specs.Lists.{mostVariables};
 ghost use Rattle.orders.specs.Codes.{thirdOf, lower, higher};
+ghost use Rattle.steps.specs.declared.Change.the-variants.{Refuse};
+ghost use Rattle.steps.specs.Moves.{stepRefusal, stepRefusalWith};
 ghost use Rattle.steps.specs.Steps.{dropMove, joinMove, splitMove, turnMove};
 ghost use Rattle.steps.specs.Calls.{Known};
 ghost use Rattle.steps.specs.Changes.{moveOf, placesNumber, Decided};
@@ -25,6 +29,26 @@ pub fn two_places(count: usize, i: usize, j: usize) -> u8
         return 11;
     }
     0
+}
+
+// Refused, whatever the cubes are: there is no number of differing variables.
+fn refuse(number: u8) -> Change
+    ensures { λ r. ⌜ r ≡ Refuse (stepRefusal number) ⌝ }
+{
+    Change::Refuse(StepRefusal {
+        number,
+        differing: 0,
+    })
+}
+
+// Refused for the set of the variables in which the cubes differ: their number is its count of ones.
+fn unfit(number: u8, set: u32) -> Change
+    ensures { λ r. ⌜ r ≡ Refuse (stepRefusalWith number (ones set)) ⌝ }
+{
+    Change::Refuse(StepRefusal {
+        number,
+        differing: u32::count_ones(set),
+    })
 }
 
 // The set of one variable.
@@ -62,22 +86,23 @@ fn higher(x: u8) -> u8
     2
 }
 
-// Drop: 10, 11; 12 unless the cubes are equal.
+// Drop: 10, 11; 16 unless the cubes are equal.
 fn decide_drop(n: usize, count: usize, i: usize, j: usize, a: Cube, b: Cube) -> Change
     requires { ⌜ Good n a × Good n b ⌝ }
     ensures { λ r. ⌜ moveOf r ≡ dropMove n count i j a b ⌝ }
 {
     let number = two_places(count, i, j);
     if number != 0 {
-        return Change::Refuse(number);
+        return refuse(number);
     }
-    if a.differing(b) != 0 {
-        return Change::Refuse(12);
+    let set = a.differing(b);
+    if set != 0 {
+        return unfit(16, set);
     }
     Change::Drop
 }
 
-// Join: 10, 11; 12 unless they differ in exactly one variable.
+// Join: 10, 11; 17 unless they differ in exactly one variable.
 fn decide_join(n: usize, count: usize, i: usize, j: usize, a: Cube, b: Cube) -> Change
     requires { ⌜ Good n a × Good n b ⌝ }
     requires { ⌜ n ≤ mostVariables ⌝ }
@@ -85,11 +110,11 @@ fn decide_join(n: usize, count: usize, i: usize, j: usize, a: Cube, b: Cube) -> 
 {
     let number = two_places(count, i, j);
     if number != 0 {
-        return Change::Refuse(number);
+        return refuse(number);
     }
     let set = a.differing(b);
     if u32::count_ones(set) != 1 {
-        return Change::Refuse(12);
+        return unfit(17, set);
     }
     let v = u32::trailing_zeros(set);
     Change::Join(third_at(a, b, v))
@@ -101,16 +126,16 @@ fn decide_split(count: usize, cap: usize, v: u32, i: usize, a: Cube) -> Change
     ensures { λ r. ⌜ moveOf r ≡ splitMove count cap v i a ⌝ }
 {
     if count <= i {
-        return Change::Refuse(10);
+        return refuse(10);
     }
     if cap <= count {
-        return Change::Refuse(13);
+        return refuse(13);
     }
     let x = a.code_at(v);
     Change::Split(a.with_code(v, lower(x)), a.with_code(v, higher(x)))
 }
 
-// Turn: 10, 11; 12 unless they differ in exactly two variables, v one of them.
+// Turn: 10, 11; 18 unless they differ in exactly two variables; then 19 unless v is one of them.
 fn decide_turn(n: usize, count: usize, v: u32, i: usize, j: usize, a: Cube, b: Cube) -> Change
     requires { ⌜ Good n a × Good n b ⌝ }
     requires { ⌜ (v < n) × (n ≤ mostVariables) ⌝ }
@@ -118,14 +143,14 @@ fn decide_turn(n: usize, count: usize, v: u32, i: usize, j: usize, a: Cube, b: C
 {
     let number = two_places(count, i, j);
     if number != 0 {
-        return Change::Refuse(number);
+        return refuse(number);
     }
     let set = a.differing(b);
     if u32::count_ones(set) != 2 {
-        return Change::Refuse(12);
+        return unfit(18, set);
     }
     if bits::bit(set, v) == 0 {
-        return Change::Refuse(12);
+        return unfit(19, set);
     }
     let other = u32::trailing_zeros(set ^ only(v));
     Change::Turn(third_at(a, b, v), third_at(b, a, other))

@@ -6,9 +6,23 @@ pub mod step;
 
 use cube::Cube;
 
+// Why a step is refused: the number; and the number of differing variables, where its two cubes are not as it needs, else 0.
+pub struct StepRefusal {
+    pub number: u8,
+    pub differing: u32,
+}
+
+impl StepRefusal {
+    // No refusal: what stands in its place where a step is done.
+    pub const NONE: StepRefusal = StepRefusal {
+        number: 0,
+        differing: 0,
+    };
+}
+
 // What a step does to the records at its places.
 pub enum Change {
-    Refuse(u8),
+    Refuse(StepRefusal),
     Drop,
     Join(Cube),
     Split(Cube, Cube),
@@ -25,8 +39,8 @@ pub struct StepRecord {
     pub zero: u8,
 }
 
-// What one step answers: the count after it, or the number of its refusal.
+// What one step answers: the count after it, or why it is refused.
 pub enum Stepped {
     Count(usize),
-    Refused(u8),
+    Refused(StepRefusal),
 }

@@ -50,7 +50,7 @@ pub(crate) fn perform(work: &mut [u8], count: usize, i: usize, j: usize, change:
     ensures { λ r. ⌜ Done (now (work .entry)) (now (work .exit)) (applied one i j (records cubes count (now (work .entry))) (moveOf change)) r ⌝ }
 {
     match change {
-        Change::Refuse(number) => Stepped::Refused(number),
+        Change::Refuse(why) => Stepped::Refused(why),
         Change::Drop => {
             let first = larger(i, j);
             let second = smaller(i, j);

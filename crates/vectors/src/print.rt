@@ -32,9 +32,11 @@ pub(crate) fn wrong(p: usize) {
     text(b"\n");
 }
 
+// A refusal: its number, its place and its third answer.
 fn refused(r: Refusal) {
     number(b"= refused ", r.number as usize);
     number(b" at ", r.place);
+    number(b" differing ", r.differing as usize);
 }
 
 pub(crate) fn counted(answer: Counted) {

@@ -23,10 +23,12 @@ pub type Words = [u64; 8];
 struct Refusal {
     number: u64,
     place: usize,
+    /// The number of differing variables, where the cubes of a step are not as it needs.
+    differing: u32,
 }
 
 fn refusal<T>(number: u64, place: usize) -> Result<T, Refusal> {
-    Err(Refusal { number, place })
+    Err(Refusal { number, place, differing: 0 })
 }
 
 /// Refuses at place 0, where `broken` says so.
@@ -38,7 +40,9 @@ fn words<const N: usize>(outcome: Result<[u64; N], Refusal>) -> Words {
     let mut words = [0; 8];
     match outcome {
         Ok(values) => words[2..2 + N].copy_from_slice(&values),
-        Err(Refusal { number, place }) => words[..2].copy_from_slice(&[number, place as u64]),
+        Err(Refusal { number, place, differing }) => {
+            words[..3].copy_from_slice(&[number, place as u64, differing.into()])
+        }
     }
     words
 }

@@ -2,6 +2,7 @@
 //!
 //! Each case draws the refusals that it would like to meet; which of them the call answers, document 01's order decides.
 
+use crate::broken::AT_A_STEP;
 use crate::differ::{Call, Case};
 use crate::random::Random;
 use crate::scripts;
@@ -36,7 +37,7 @@ impl Faults {
     }
 
     fn at_a_step(&self) -> Option<u64> {
-        self.0.iter().copied().find(|number| (10..=13).contains(number))
+        self.0.iter().copied().find(|number| AT_A_STEP.contains(number))
     }
 }
 
@@ -88,7 +89,12 @@ fn bits_case(random: &mut Random, faults: &Faults, call: Call) -> Case {
 fn script_case(random: &mut Random, faults: &Faults, call: Call) -> Case {
     // Above 8 variables there is no polarity to find, and the model is fast.
     let wide = call == Call::Run || random.one_in(3);
-    let width = if wide { many_variables(random, VARIABLES) } else { few_variables(random) };
+    let width = match faults.at_a_step() {
+        // Cubes that differ in as many variables as there can be.
+        Some(16..=18) if random.one_in(6) => VARIABLES,
+        _ if wide => many_variables(random, VARIABLES),
+        _ => few_variables(random),
+    };
     let n = variables(random, faults, width, VARIABLES);
     let count = count(random, faults);
     let cubes = cubes(random, width, count);
@@ -151,7 +157,11 @@ fn few_variables(random: &mut Random) -> usize {
 }
 
 fn count(random: &mut Random, faults: &Faults) -> usize {
-    let least = if faults.has(4) || faults.has(5) || faults.at_a_step().is_some() { 1 } else { 0 };
+    let least = match faults.at_a_step() {
+        Some(16..=19) => 2,
+        Some(_) => 1,
+        None => usize::from(faults.has(4) || faults.has(5)),
+    };
     match random.below(100) {
         0 => RECORDS - if random.one_in(2) { 0 } else { random.below(20) },
         1..=4 => random.between(65, 512),
@@ -160,17 +170,21 @@ fn count(random: &mut Random, faults: &Faults) -> usize {
     }
 }
 
-/// Cubes with equal and near ones among them, as steps need them, and with literals at the last variable.
+/// Cubes with equal and near ones among them, as steps need them, and some that differ in any number of variables; with
+/// literals at the last variable.
 fn cubes(random: &mut Random, width: usize, count: usize) -> Vec<Cube> {
     let mut cubes: Vec<Cube> = Vec::new();
     for _ in 0..count {
-        let changes = random.below(4);
+        let changes = random.below(5);
         let mut cube = match cubes.len() {
             0 => vec![2; width],
             _ => cubes[random.below(cubes.len())].clone(),
         };
         if changes == 3 {
             cube.fill_with(|| random.below(3) as u8);
+        } else if changes == 4 {
+            let apart = if random.one_in(2) { width } else { random.below(width + 1) };
+            change(random, &mut cube, apart);
         } else if width > 0 {
             for _ in 0..changes {
                 let v = if random.one_in(4) { width - 1 } else { random.below(width) };
@@ -180,6 +194,15 @@ fn cubes(random: &mut Random, width: usize, count: usize) -> Vec<Cube> {
         cubes.push(cube);
     }
     cubes
+}
+
+/// Gives so many variables of a cube another code.
+fn change(random: &mut Random, cube: &mut Cube, apart: usize) {
+    let mut variables: Vec<usize> = (0..cube.len()).collect();
+    for _ in 0..apart {
+        let v = variables.swap_remove(random.below(variables.len()));
+        cube[v] = (cube[v] + random.pick(&[1, 2])) % 3;
+    }
 }
 
 /// The bytes of a list whose records have `record` bytes, damaged.
@@ -234,15 +257,20 @@ fn script_bytes(random: &mut Random, faults: &Faults, width: usize, cubes: &[Cub
         let steps = STEPS + random.between(1, 3);
         random.bytes(STEP * steps)
     } else {
-        encoded_script(&scripts::script(random, width, cubes, capacity, length, faults.at_a_step()))
+        // 9 is tested before any step is done, also where a step before it would be refused.
+        let before_9 = faults.has(9).then(|| random.pick(&AT_A_STEP));
+        let mistake = faults.at_a_step().or(before_9.filter(|_| random.one_in(2)));
+        encoded_script(&scripts::script(random, width, cubes, capacity, length, mistake))
     };
     if faults.has(9) {
-        if bytes.is_empty() {
+        let only_the_last = bytes.is_empty() || bytes.len() < STEP * STEPS && random.one_in(2);
+        if only_the_last {
             bytes.extend([1, 0, 0, 0, 1, 0, 0, 0]);
         }
+        let steps = bytes.len() / STEP;
         for _ in 0..random.between(1, 2) {
-            let place = random.below(bytes.len() / STEP);
-            spoil_step(random, width, &mut bytes[STEP * place..STEP * (place + 1)]);
+            let place = if only_the_last { steps - 1 } else { random.below(steps) };
+            spoil_step(random, width, &mut bytes[STEP * place..][..STEP]);
         }
     }
     if faults.has(7) {

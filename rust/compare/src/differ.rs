@@ -151,7 +151,7 @@ fn by_names(case: &Case) -> After {
     let mut answer = [0; 8];
     match named {
         Ok(values) => answer[2..2 + values.len()].copy_from_slice(&values),
-        Err(refusal) => answer[..2].copy_from_slice(&[refusal.reason.number(), refusal.place]),
+        Err(refusal) => answer[..3].copy_from_slice(&[refusal.reason.number(), refusal.place, refusal.differing]),
     }
     After { answer, work, out }
 }

@@ -7,8 +7,16 @@ use model::script::encoded_script;
 
 /// Calls each example; the answer must begin with the words that are said here, and the model must agree with all of it.
 pub fn all() -> Result<(), String> {
-    let parts =
-        [values_and_forms(), single_runs(), settled(), limits(), too_many_variables(), long_labels(), old_lists()];
+    let parts = [
+        values_and_forms(),
+        single_runs(),
+        refused_steps(),
+        settled(),
+        limits(),
+        too_many_variables(),
+        long_labels(),
+        old_lists(),
+    ];
     let examples: Vec<Example> = parts.into_iter().flatten().collect();
     for (case, expected) in &examples {
         let answer = compare(case)?;
@@ -42,10 +50,61 @@ fn single_runs() -> Vec<Example> {
         (run(2, &["1-", "01"], Turn { v: 1, i: 0, j: 1 }), vec![0, 0, 2, 2]),
         (run(2, &["1-", "-1", "11"], L { v: 0, literal: 1 }), vec![0, 0, 3, 3]),
         (run(2, &["11", "00", "-1"], Join { i: 2, j: 0 }), vec![0, 0, 2, 3]),
-        (run(1, &["0", "1"], Join { i: 1, j: 1 }), vec![11, 0]),
-        (run(1, &["0", "1"], Drop { i: 0, j: 1 }), vec![12, 0]),
-        (run(1, &["0", "1"], Drop { i: 2, j: 2 }), vec![10, 0]),
     ]
+}
+
+/// Refusals at a step, with the number of differing variables, run and settled; alone, and as the step after two that
+/// undo each other.
+fn refused_steps() -> Vec<Example> {
+    let (zeros, nones) = ("0".repeat(32), "-".repeat(32));
+    let same = L { v: 0, literal: 1 };
+    let mut examples = Vec::new();
+    let mut refused = |list: &[&str], step, number, differing| {
+        let (n, count) = (list[0].len() as u64, list.len());
+        for call in [Call::Run, Call::Settle] {
+            let on = |script: &[Step]| on_script(call, n, &records(list), script, count);
+            examples.push((on(&[step]), vec![number, 0, differing, 0, 0, 0, 0, 0]));
+            if n > 0 {
+                examples.push((on(&[same, same, step]), vec![number, 2, differing, 0, 0, 0, 0, 0]));
+            }
+        }
+    };
+    refused(&["0", "1"], Drop { i: 2, j: 2 }, 10, 0);
+    refused(&["0-1", "110"], Drop { i: 0, j: 2 }, 10, 0);
+    refused(&["0-1", "110"], Join { i: 2, j: 0 }, 10, 0);
+    refused(&["0-1", "110"], Turn { v: 1, i: 0, j: 2 }, 10, 0);
+    refused(&["0-1", "110"], Split { v: 1, i: 2 }, 10, 0);
+    refused(&["0-1", "110"], Split { v: 1, i: 1 }, 13, 0);
+    refused(&["0", "1"], Drop { i: 0, j: 0 }, 11, 0);
+    refused(&["0", "1"], Join { i: 1, j: 1 }, 11, 0);
+    refused(&["0", "1"], Turn { v: 0, i: 1, j: 1 }, 11, 0);
+
+    // A literal against its complement is one variable, and so is a literal against none.
+    refused(&["0", "1"], Drop { i: 0, j: 1 }, 16, 1);
+    refused(&["0", "-"], Drop { i: 0, j: 1 }, 16, 1);
+    refused(&["-", "1"], Drop { i: 1, j: 0 }, 16, 1);
+    refused(&["0-10", "1110"], Drop { i: 0, j: 1 }, 16, 2);
+    refused(&["0-10", "10-0"], Drop { i: 0, j: 1 }, 16, 3);
+    refused(&[&zeros, &nones], Drop { i: 0, j: 1 }, 16, 32);
+
+    refused(&["", ""], Join { i: 0, j: 1 }, 17, 0);
+    refused(&["0-1", "0-1"], Join { i: 0, j: 1 }, 17, 0);
+    refused(&["0-1", "-01"], Join { i: 1, j: 0 }, 17, 2);
+    refused(&["0-1", "-10"], Join { i: 0, j: 1 }, 17, 3);
+    refused(&[&zeros, &nones], Join { i: 0, j: 1 }, 17, 32);
+
+    refused(&["0-1", "0-1"], Turn { v: 0, i: 0, j: 1 }, 18, 0);
+    refused(&["0-1", "1-1"], Turn { v: 0, i: 0, j: 1 }, 18, 1);
+    refused(&["0-1", "110"], Turn { v: 2, i: 0, j: 1 }, 18, 3);
+    refused(&[&zeros, &nones], Turn { v: 31, i: 0, j: 1 }, 18, 32);
+    refused(&["0-1", "1-0"], Turn { v: 1, i: 0, j: 1 }, 19, 2);
+    refused(&["0-1", "--0"], Turn { v: 1, i: 1, j: 0 }, 19, 2);
+
+    // 18 before 19: where the cubes agree, and the number is not two.
+    refused(&["0-11", "0-11"], Turn { v: 1, i: 0, j: 1 }, 18, 0);
+    refused(&["0-11", "1-11"], Turn { v: 1, i: 0, j: 1 }, 18, 1);
+    refused(&["0-11", "1-00"], Turn { v: 1, i: 0, j: 1 }, 18, 3);
+    examples
 }
 
 fn settled() -> Vec<Example> {

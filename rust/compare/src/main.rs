@@ -3,6 +3,7 @@
 //! `compare [CALLS [SEED]]`: random calls a function (100,000 if not said) and where their generator starts. Prints what
 //! was compared. At the first difference it prints the whole case and exits with 1.
 
+mod broken;
 mod cases;
 mod converters;
 mod differ;
@@ -12,6 +13,7 @@ mod figures;
 mod random;
 mod random_calls;
 mod records;
+mod refused_steps;
 mod scripts;
 mod tally;
 
@@ -28,12 +30,13 @@ fn main() -> ExitCode {
     if cfg!(feature = "standin") {
         println!("STAND-IN: the calls are answered by the model itself; nothing below speaks of the library.\n");
     }
-    let parts: [Part; 8] = [
+    let parts: [Part; 9] = [
         ("the documents' examples and limits", &examples::all),
         ("the wrapper's records", &|| records::all(seed)),
         ("random calls", &|| random_calls::all(calls as usize, seed)),
         ("all functions of 4 variables", &exhaustive::functions_of_four),
         ("all short lists and scripts over 2 variables", &exhaustive::short_lists_and_scripts),
+        ("all steps on two cubes over up to 3 variables, and over 3 of 32", &exhaustive::steps_on_two_cubes),
         ("the converters: faults together, short lists there and back", &converters::all),
         ("published average of 5-variable functions", &|| figures::average_of_five(seed)),
         ("published sizes of rd53, rd73, rd84", &figures::ones_counters),

@@ -1,8 +1,10 @@
-//! The wrapper's cubes and steps against the model's: same bytes, same text.
+//! The wrapper's cubes, steps and reasons against the model's: same bytes, same text, same numbers.
 
 use crate::random::Random;
-use druthmoy::{Cube, Step};
+use druthmoy::{Cube, Reason, Step};
+use model::refusal::ORDERS;
 use model::{cube, script};
+use std::collections::BTreeSet;
 
 pub fn all(seed: u64) -> Result<(), String> {
     const EACH: usize = 100_000;
@@ -11,7 +13,19 @@ pub fn all(seed: u64) -> Result<(), String> {
         same_cube(&mut random)?;
         same_step(&mut random)?;
     }
+    same_reasons()?;
     println!("{EACH} cubes written out, read and as records of both widths; {EACH} steps as records");
+    Ok(())
+}
+
+/// The reasons are the numbers that the calls can answer, ascending, and each is found by its number.
+fn same_reasons() -> Result<(), String> {
+    let numbers: BTreeSet<u64> = ORDERS.iter().flat_map(|(_, numbers)| numbers.iter().copied()).collect();
+    let found: Vec<Option<Reason>> = numbers.iter().map(|&number| Reason::from_number(number)).collect();
+    if found != Reason::ALL.map(Some) || Reason::ALL.iter().any(|reason| !numbers.contains(&reason.number())) {
+        return Err(format!("the wrapper has {:?}, the calls answer {numbers:?}", Reason::ALL));
+    }
+    println!("{} reasons by their numbers", numbers.len());
     Ok(())
 }
 

@@ -7,7 +7,7 @@ use model::script::{self, Step, differing};
 /// How many partners are looked at for one step.
 const LOOKS: usize = 64;
 
-/// A script of `length` steps for a list; where `mistake` is one of 10 to 13, one of the steps is refused with it, if
+/// A script of `length` steps for a list; where `mistake` is a refusal at a step, one of the steps is refused with it, if
 /// the list allows that.
 pub fn script(
     random: &mut Random,
@@ -76,17 +76,23 @@ fn partner(random: &mut Random, list: &[Cube], variables: usize) -> Option<(usiz
         .map(|j| (i, j))
 }
 
+/// The same, with up to four places drawn for the first of them.
+fn partner_of_four(random: &mut Random, list: &[Cube], variables: usize) -> Option<(usize, usize)> {
+    (0..4).find_map(|_| partner(random, list, variables))
+}
+
 /// A well-formed step that the list refuses with this number, or nothing if none was found.
 fn refused(random: &mut Random, n: usize, list: &[Cube], capacity: usize, number: u64) -> Option<Step> {
-    (0..20).map(|_| any(random, n, list.len(), number)).find(|&step| {
+    (0..20).map(|_| any(random, n, list, number)).find(|&step| {
         let well_formed = script::decoded(n, &script::encoded(step)).is_some();
         well_formed
             && script::step(&mut list.to_vec(), step, capacity, 0).is_err_and(|refusal| refusal.number == number)
     })
 }
 
-/// A step that may be refused with this number on a list of `count` cubes.
-fn any(random: &mut Random, n: usize, count: usize, number: u64) -> Step {
+/// A step that may be refused with this number.
+fn any(random: &mut Random, n: usize, list: &[Cube], number: u64) -> Step {
+    let count = list.len();
     let beyond = random.pick(&[count, count + 1, count + 256, 65535]).min(65535);
     let inside = |random: &mut Random| random.below(count.max(1));
     let (mut i, mut j) = (inside(random), inside(random));
@@ -95,14 +101,20 @@ fn any(random: &mut Random, n: usize, count: usize, number: u64) -> Step {
         10 if random.one_in(2) => i = beyond,
         10 => j = beyond,
         11 => j = i,
+        16..=18 => {
+            let apart = random.below(n + 1);
+            let apart = random.pick(&[0, 1, 2, 3, n, n, apart, apart]);
+            (i, j) = partner_of_four(random, list, apart).unwrap_or((i, j));
+        }
+        19 => (i, j) = partner_of_four(random, list, 2).unwrap_or((i, j)),
         _ => {}
     }
     let v = random.below(n.max(1));
-    match random.below(4) {
-        _ if number == 13 => Step::Split { v, i },
-        0 => Step::Drop { i, j },
-        1 => Step::Join { i, j },
-        2 if number == 10 => Step::Split { v, i: beyond },
+    match (number, random.below(4)) {
+        (13, _) => Step::Split { v, i },
+        (16, _) | (10 | 11, 0) => Step::Drop { i, j },
+        (17, _) | (10 | 11, 1) => Step::Join { i, j },
+        (10, 2) => Step::Split { v, i: beyond },
         _ => Step::Turn { v, i, j },
     }
 }

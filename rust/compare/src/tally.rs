@@ -1,6 +1,7 @@
 //! How often each call answered each refusal number, and what the accepted scripts did.
 
 use crate::differ::{Call, Case};
+use crate::refused_steps::RefusedSteps;
 use model::cube::RECORD;
 use model::refusal::ORDERS;
 use std::collections::BTreeSet;
@@ -12,9 +13,7 @@ pub struct Tally {
     answers: [[u64; 21]; 11],
     /// Steps of accepted runs by operation.
     steps: [u64; 6],
-    /// Refusals at a step by whether steps were done before it.
-    at_the_first_step: u64,
-    at_a_later_step: u64,
+    refused_steps: RefusedSteps,
     /// Settled maps by what was burned: the script's result, the given list, the form.
     burned: [u64; 3],
     /// Accepted lists of 32 variables with a literal at the last of them.
@@ -46,13 +45,13 @@ impl Tally {
                     self.burned[candidate.expect("the last is always equal")] += 1;
                 }
             }
-            10..=13 if answer[1] == 0 => self.at_the_first_step += 1,
-            10..=13 => self.at_a_later_step += 1,
-            _ => {}
+            0 => {}
+            _ => self.refused_steps.add(case, answer),
         }
     }
 
-    /// The refusals that the documents give a call and that were not met, and those met that they do not give.
+    /// The refusals that the documents give a call and that were not met, and those met that they do not give; and what
+    /// is amiss with refused steps.
     pub fn amiss(&self) -> Vec<String> {
         let mut amiss = Vec::new();
         for ((name, numbers), answers) in ORDERS.iter().zip(&self.answers) {
@@ -66,6 +65,7 @@ impl Tally {
         if self.with_the_last_variable == 0 {
             amiss.push("no accepted list has a literal at variable 31".into());
         }
+        amiss.extend(self.refused_steps.amiss());
         amiss
     }
 }
@@ -91,7 +91,7 @@ impl fmt::Display for Tally {
         }
         let [_, drops, joins, splits, turns, ls] = self.steps;
         writeln!(f, "steps of accepted scripts: {drops} drops, {joins} joins, {splits} splits, {turns} turns, {ls} L")?;
-        writeln!(f, "refused at the first step: {}, at a later one: {}", self.at_the_first_step, self.at_a_later_step)?;
+        write!(f, "{}", self.refused_steps)?;
         let [script, given, form] = self.burned;
         writeln!(f, "burned: {script} times the script's result, {given} the given list, {form} the form")?;
         writeln!(f, "accepted lists with a literal at variable 31: {}", self.with_the_last_variable)?;

@@ -85,11 +85,12 @@ pub fn narrow_from_wide(n: u64, list: &[u8], out: &mut [u8]) -> Result<u64, Refu
     accepted(words::narrow_from_wide(n, list, out)).map(|[count, ..]| count)
 }
 
-/// The values of an accepted call.
+/// The values of an accepted call, or the refusal.
 fn accepted([number, place, values @ ..]: Words) -> Result<[u64; 6], Refusal> {
     if number == 0 {
         return Ok(values);
     }
-    let reason = Reason::from_number(number).expect("the library answers refusal numbers from 1 to 15, and 20");
-    Err(Refusal { reason, place })
+    let reason = Reason::from_number(number).expect("the library answers refusal numbers from 1 to 11 and 13 to 20");
+    let [differing, ..] = values;
+    Err(Refusal { reason, place, differing })
 }

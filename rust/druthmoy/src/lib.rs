@@ -15,6 +15,17 @@
 //! assert_eq!(burned.take(settled.burned as usize).collect::<Vec<_>>(), ["--", "00"]);
 //! ```
 //!
+//! A refusal at a step that has two cubes says in how many variables they differ:
+//!
+//! ```
+//! use druthmoy::{Cube, Reason, Refusal, Step, run};
+//!
+//! let list: Vec<u8> = ["1-0", "-10"].iter().flat_map(|text| text.parse::<Cube>().unwrap().record()).collect();
+//! let refusal = run(3, &list, &Step::Join { i: 0, j: 1 }.record(), &mut vec![0; list.len()]).unwrap_err();
+//! assert_eq!(refusal, Refusal { reason: Reason::JoinNotOne, place: 0, differing: 2 });
+//! assert_eq!(refusal.to_string(), "refused 17 at 0");
+//! ```
+//!
 //! An old list, of 4-byte records, is converted before it is used:
 //!
 //! ```

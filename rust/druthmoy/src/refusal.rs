@@ -29,20 +29,27 @@ pub enum Reason {
     PlaceOutside = 10,
     /// i equals j in a step with two cubes; the place is the step.
     SamePlace = 11,
-    /// The cubes are not as the step needs; the place is the step.
-    CubesUnfit = 12,
     /// Split with the count at capacity; the place is the step.
     Full = 13,
     /// Vector or coefficient length not 2^n, with 2^n as the place; else a byte above 1, the place is the lowest.
     BadVector = 14,
     /// Polarity has a bit at or above n.
     Polarity = 15,
+    /// Drop of unequal cubes; the place is the step.
+    DropUnequal = 16,
+    /// Join, number of differing variables not one; the place is the step.
+    JoinNotOne = 17,
+    /// Turn, number of differing variables not two; the place is the step.
+    TurnNotTwo = 18,
+    /// Turn at a variable where the cubes agree, number of differing variables two; the place is the step.
+    TurnAgree = 19,
     /// n above 16, the variables of a narrow record.
     TooManyForNarrow = 20,
 }
 
 impl Reason {
-    pub const ALL: [Reason; 16] = [
+    /// All reasons, by number.
+    pub const ALL: [Reason; 19] = [
         Reason::TooManyVariables,
         Reason::ListLength,
         Reason::TooManyRecords,
@@ -54,10 +61,13 @@ impl Reason {
         Reason::BadStep,
         Reason::PlaceOutside,
         Reason::SamePlace,
-        Reason::CubesUnfit,
         Reason::Full,
         Reason::BadVector,
         Reason::Polarity,
+        Reason::DropUnequal,
+        Reason::JoinNotOne,
+        Reason::TurnNotTwo,
+        Reason::TurnAgree,
         Reason::TooManyForNarrow,
     ];
 
@@ -70,11 +80,14 @@ impl Reason {
     }
 }
 
-/// A refusal: its reason, which has the number, and its place.
+/// A refusal: its reason, which has the number, its place and the number of differing variables.
 #[derive(Clone, Copy, Debug, PartialEq, Eq, Hash)]
 pub struct Refusal {
     pub reason: Reason,
     pub place: u64,
+    /// The number of variables in which the two cubes of the step differ, as they stood before it; 0 in every refusal
+    /// but 16 to 19.
+    pub differing: u64,
 }
 
 /// As the program prints it.

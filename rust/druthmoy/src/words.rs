@@ -1,4 +1,5 @@
-//! The calls over slices, with the eight words of an answer as they are: refusal number, place, values, zeros.
+//! The calls over slices, with the eight words of an answer as they are: refusal number, place, values, zeros. A refusal
+//! has one value, the number of differing variables.
 
 use crate::raw;
 

@@ -9,12 +9,12 @@ use crate::settling;
 /// The values that an accepted call answers, in document 01's order.
 pub type Outcome = Result<Vec<u64>, Refusal>;
 
-/// The eight words of an answer: refusal number, place, values, zeros.
+/// The eight words of an answer: refusal number, place, values, zeros. A refusal's value is its third answer.
 pub fn words(outcome: &Outcome) -> [u64; 8] {
     let mut words = [0; 8];
     match outcome {
         Ok(values) => words[2..2 + values.len()].copy_from_slice(values),
-        Err(refusal) => words[..2].copy_from_slice(&[refusal.number, refusal.place]),
+        Err(refusal) => words[..3].copy_from_slice(&[refusal.number, refusal.place, refusal.differing]),
     }
     words
 }

@@ -1,10 +1,12 @@
-//! "Refusal numbers and places".
+//! "Refusal numbers and places", and document 02, Four.
 
-/// A refusal: its number and its place.
+/// A refusal: its number, its place and the third answer.
 #[derive(Clone, Copy, Debug, PartialEq, Eq)]
 pub struct Refusal {
     pub number: u64,
     pub place: u64,
+    /// Document 02, Four: "the number of differing variables"; "in every other refusal the third answer is 0".
+    pub differing: u64,
 }
 
 /// Refuses with a number at place 0, where `broken` says so.
@@ -14,7 +16,12 @@ pub fn refuse_if(broken: bool, number: u64) -> Result<(), Refusal> {
 
 /// Refuses with a number and a place, where `broken` says so.
 pub fn refuse_at_if(broken: bool, number: u64, place: usize) -> Result<(), Refusal> {
-    if broken { Err(Refusal { number, place: place as u64 }) } else { Ok(()) }
+    if broken { Err(Refusal { number, place: place as u64, differing: 0 }) } else { Ok(()) }
+}
+
+/// Refuses a step, where `broken` says so, for these differing variables of its two cubes.
+pub fn refuse_cubes_if(broken: bool, number: u64, place: usize, differing: &[usize]) -> Result<(), Refusal> {
+    if broken { Err(Refusal { number, place: place as u64, differing: differing.len() as u64 }) } else { Ok(()) }
 }
 
 /// The numbers that each call can answer, in the order in which it tests them.
@@ -26,8 +33,8 @@ pub const ORDERS: [(&str, &[u64]); 11] = [
     ("vector", &[1, 14, 15, 5]),
     ("write_form", &[1, 14, 15, 5]),
     ("best_polarity", &[1, 14]),
-    ("run", &[1, 2, 3, 4, 5, 7, 8, 9, 10, 11, 12, 13]),
-    ("settle", &[1, 2, 3, 4, 5, 7, 8, 9, 10, 11, 12, 13]),
+    ("run", &[1, 2, 3, 4, 5, 7, 8, 9, 10, 11, 16, 17, 18, 19, 13]),
+    ("settle", &[1, 2, 3, 4, 5, 7, 8, 9, 10, 11, 16, 17, 18, 19, 13]),
     ("wide_from_narrow", &[1, 2, 3, 4, 5]),
     ("narrow_from_wide", &[1, 20, 2, 3, 4, 5]),
 ];

@@ -1,7 +1,7 @@
 //! "The steps of a script".
 
 use crate::cube::Cube;
-use crate::refusal::{Refusal, refuse_at_if};
+use crate::refusal::{Refusal, refuse_at_if, refuse_cubes_if};
 
 /// Bytes of a step.
 pub const STEP: usize = 8;
@@ -81,13 +81,13 @@ pub fn step(list: &mut Vec<Cube>, step: Step, capacity: usize, number: usize) ->
     refuse_at_if(i.is_some() && i == j, 11, number)?;
     match step {
         Step::Drop { i, j } => {
-            refuse_at_if(list[i] != list[j], 12, number)?;
+            refuse_cubes_if(list[i] != list[j], 16, number, &differing(&list[i], &list[j]))?;
             remove(list, i.max(j));
             remove(list, i.min(j));
         }
         Step::Join { i, j } => {
             let apart = differing(&list[i], &list[j]);
-            refuse_at_if(apart.len() != 1, 12, number)?;
+            refuse_cubes_if(apart.len() != 1, 17, number, &apart)?;
             let v = apart[0];
             list[i][v] = third(list[i][v], list[j][v]);
             remove(list, j);
@@ -102,7 +102,8 @@ pub fn step(list: &mut Vec<Cube>, step: Step, capacity: usize, number: usize) ->
         }
         Step::Turn { v, i, j } => {
             let apart = differing(&list[i], &list[j]);
-            refuse_at_if(apart.len() != 2 || !apart.contains(&v), 12, number)?;
+            refuse_cubes_if(apart.len() != 2, 18, number, &apart)?;
+            refuse_cubes_if(list[i][v] == list[j][v], 19, number, &apart)?;
             let w = *apart.iter().find(|&&k| k != v).unwrap();
             let (a, b) = (list[i].clone(), list[j].clone());
             list[i][v] = third(a[v], b[v]);

@@ -1,4 +1,5 @@
-//! The model against the examples that document 01 marks and against the program's printed examples.
+//! The model against the examples that document 01 marks, as document 02 amends them, and against the program's printed
+//! examples.
 
 use model::calls::{self, Outcome, words};
 use model::cube::{Cube, RECORD, encoded_list, encoded_narrow_list, read, truth_vector, value, written};
@@ -24,7 +25,18 @@ fn after(cubes: &[&str], step: Step) -> Vec<String> {
 }
 
 fn refused(number: u64, place: u64) -> Outcome {
-    Err(Refusal { number, place })
+    refused_for(number, place, 0)
+}
+
+/// Refused with this number of differing variables.
+fn refused_for(number: u64, place: u64, differing: u64) -> Outcome {
+    Err(Refusal { number, place, differing })
+}
+
+/// A run of one step, in a buffer that the list fills.
+fn run_of(cubes: &[&str], step: Step) -> Outcome {
+    let list = records(cubes);
+    calls::run(cubes[0].len() as u64, &list, &encoded_script(&[step]), &mut vec![7; list.len()])
 }
 
 #[test]
@@ -190,8 +202,80 @@ fn refusals_at_a_step_leave_the_work_buffer_zero() {
     assert_eq!(calls::settle(1, &records(&["0", "1"]), &join, &mut work, &mut out), refused(11, 1));
     assert_eq!((work, out), (vec![0; 19], vec![7; 17]));
 
-    let drop = encoded_script(&[Drop { i: 0, j: 1 }]);
-    assert_eq!(calls::run(1, &records(&["0", "1"]), &drop, &mut [7; 16]), refused(12, 0));
+    let (mut work, mut out) = (vec![7; 19], vec![7; 17]);
+    let drop = encoded_script(&[L { v: 0, literal: 1 }, Drop { i: 0, j: 1 }]);
+    assert_eq!(calls::settle(1, &records(&["0", "1"]), &drop, &mut work, &mut out), refused_for(16, 1, 1));
+    assert_eq!((work, out), (vec![0; 19], vec![7; 17]));
+}
+
+#[test]
+fn a_drop_of_unequal_cubes() {
+    assert_eq!(run_of(&["0", "1"], Drop { i: 0, j: 1 }), refused_for(16, 0, 1));
+    assert_eq!(run_of(&["0", "-"], Drop { i: 1, j: 0 }), refused_for(16, 0, 1));
+    assert_eq!(run_of(&["01", "0-"], Drop { i: 0, j: 1 }), refused_for(16, 0, 1));
+    assert_eq!(run_of(&["0-10", "1110"], Drop { i: 0, j: 1 }), refused_for(16, 0, 2));
+    assert_eq!(run_of(&["0-10", "10-0"], Drop { i: 0, j: 1 }), refused_for(16, 0, 3));
+}
+
+#[test]
+fn a_join_whose_number_is_not_one() {
+    assert_eq!(run_of(&["", ""], Join { i: 0, j: 1 }), refused_for(17, 0, 0));
+    assert_eq!(run_of(&["0-1", "0-1"], Join { i: 0, j: 1 }), refused_for(17, 0, 0));
+    assert_eq!(run_of(&["0-1", "1-0"], Join { i: 0, j: 1 }), refused_for(17, 0, 2));
+    assert_eq!(run_of(&["0-1", "-01"], Join { i: 0, j: 1 }), refused_for(17, 0, 2));
+    assert_eq!(run_of(&["0-1", "-10"], Join { i: 1, j: 0 }), refused_for(17, 0, 3));
+}
+
+#[test]
+fn a_turn_whose_number_is_not_two() {
+    assert_eq!(run_of(&["0-1", "0-1"], Turn { v: 0, i: 0, j: 1 }), refused_for(18, 0, 0));
+    assert_eq!(run_of(&["0-1", "1-1"], Turn { v: 0, i: 0, j: 1 }), refused_for(18, 0, 1));
+    assert_eq!(run_of(&["0-1", "--1"], Turn { v: 0, i: 0, j: 1 }), refused_for(18, 0, 1));
+    assert_eq!(run_of(&["0-1", "110"], Turn { v: 2, i: 0, j: 1 }), refused_for(18, 0, 3));
+}
+
+#[test]
+fn a_turn_at_a_variable_where_the_cubes_agree() {
+    assert_eq!(run_of(&["0-1", "1-0"], Turn { v: 1, i: 0, j: 1 }), refused_for(19, 0, 2));
+    assert_eq!(run_of(&["0-1", "--0"], Turn { v: 1, i: 1, j: 0 }), refused_for(19, 0, 2));
+    assert_eq!(run_of(&["0-1", "1-0"], Turn { v: 0, i: 0, j: 1 }), Ok(vec![2, 2]));
+}
+
+#[test]
+fn eighteen_is_before_nineteen() {
+    assert_eq!(run_of(&["0-11", "1-11"], Turn { v: 1, i: 0, j: 1 }), refused_for(18, 0, 1));
+    assert_eq!(run_of(&["0-11", "1-00"], Turn { v: 1, i: 0, j: 1 }), refused_for(18, 0, 3));
+}
+
+#[test]
+fn other_refusals_at_a_step_have_no_differing_variables() {
+    let cubes = ["0-1", "1-1", "110"];
+    for step in [Drop { i: 0, j: 3 }, Join { i: 3, j: 1 }, Turn { v: 1, i: 3, j: 3 }, Split { v: 0, i: 3 }] {
+        assert_eq!(run_of(&cubes, step), refused(10, 0));
+    }
+    for step in [Drop { i: 2, j: 2 }, Join { i: 2, j: 2 }, Turn { v: 1, i: 2, j: 2 }] {
+        assert_eq!(run_of(&cubes, step), refused(11, 0));
+    }
+    assert_eq!(run_of(&cubes, Split { v: 0, i: 2 }), refused(13, 0));
+}
+
+#[test]
+fn the_cubes_as_they_stood_before_the_step() {
+    // The split leaves 00- at place 0, which agrees with 100 in one variable more than 0-- does.
+    let given = records(&["0--", "100"]);
+    let drop = Drop { i: 0, j: 1 };
+    let mut work = [7; 3 * RECORD];
+    assert_eq!(calls::run(3, &given, &encoded_script(&[drop]), &mut work), refused_for(16, 0, 3));
+    let script = encoded_script(&[Split { v: 1, i: 0 }, drop]);
+    assert_eq!(calls::run(3, &given, &script, &mut work), refused_for(16, 1, 2));
+}
+
+#[test]
+fn all_of_thirty_two_variables_differ() {
+    let (zeros, nones) = ("0".repeat(32), "-".repeat(32));
+    assert_eq!(run_of(&[&zeros, &nones], Drop { i: 0, j: 1 }), refused_for(16, 0, 32));
+    assert_eq!(run_of(&[&zeros, &nones], Join { i: 0, j: 1 }), refused_for(17, 0, 32));
+    assert_eq!(run_of(&[&zeros, &nones], Turn { v: 31, i: 0, j: 1 }), refused_for(18, 0, 32));
 }
 
 #[test]
@@ -239,4 +323,5 @@ fn a_step_that_is_accepted_keeps_the_function() {
 fn words_of_an_answer() {
     assert_eq!(words(&Ok(vec![5, 6])), [0, 0, 5, 6, 0, 0, 0, 0]);
     assert_eq!(words(&refused(9, 3)), [9, 3, 0, 0, 0, 0, 0, 0]);
+    assert_eq!(words(&refused_for(18, 3, 5)), [18, 3, 5, 0, 0, 0, 0, 0]);
 }

@@ -12,6 +12,7 @@ use Rattle.cube.specs.declared.Cube.{Cube}
 use Rattle.cube.specs.Lists.{cubes}
 use Rattle.orders.specs.Orders.{noOrder, follow, letterOrder}
 use Rattle.steps.specs.declared.StepRecord.{StepRecord}
+use Rattle.steps.specs.declared.StepRefusal.{StepRefusal}
 use Rattle.steps.specs.declared.Stepped.{Stepped}
 use Rattle.steps.specs.declared.Stepped.the-variants as stepped-is
 use Rattle.steps.specs.Moves.{After, stop, next}
@@ -47,12 +48,12 @@ module _ (os : List ℕ) (x : StepRecord) where
 
 module _ (n cap : ℕ) (x : Step) (p : Standing) (b b₁ : List ℕ) (s : Stepped) (es : s ≡ stepped (step n cap x (records cubes (p .count) b)))
     (eb : b₁ ≡ workStepped b (step n cap x (records cubes (p .count) b))) where
-  pub advance-refused : (number : ℕ) → s ≡ stepped-is.Refused number → (b₂ : List ℕ) → b₂ ≡ zeros (length b₁)
-      → (advanced p (stop number) ≡ advanced p (step n cap x (records cubes (p .count) b))) × (b₂ ≡ workAdvanced b (step n cap x (records cubes (p .count) b)))
-  advance-refused number en b₂ ez = go (step n cap x (records cubes (p .count) b)) es eb
+  pub advance-refused : (why : StepRefusal) → s ≡ stepped-is.Refused why → (b₂ : List ℕ) → b₂ ≡ zeros (length b₁)
+      → (advanced p (stop why) ≡ advanced p (step n cap x (records cubes (p .count) b))) × (b₂ ≡ workAdvanced b (step n cap x (records cubes (p .count) b)))
+  advance-refused why en b₂ ez = go (step n cap x (records cubes (p .count) b)) es eb
     where
-      go : (e : After Cube) → s ≡ stepped e → b₁ ≡ workStepped b e → (advanced p (stop number) ≡ advanced p e) × (b₂ ≡ workAdvanced b e)
-      go (stop r) es eb = let same : number ≡ r = cc in (ap (λ (m : ℕ). advanced p (stop m)) same, ez ∙ ap (λ (t : List ℕ). zeros (length t)) eb)
+      go : (e : After Cube) → s ≡ stepped e → b₁ ≡ workStepped b e → (advanced p (stop why) ≡ advanced p e) × (b₂ ≡ workAdvanced b e)
+      go (stop r) es eb = let same : why ≡ r = cc in (ap (λ (w : StepRefusal). advanced p (stop w)) same, ez ∙ ap (λ (t : List ℕ). zeros (length t)) eb)
       go (next l) es eb = let z : _≡_ {A = ℕ} 0 1 = cc in absurd (omega arith)
 
   pub advance-done : (count : ℕ) → s ≡ stepped-is.Count count → (peak : ℕ) → peak ≡ max (p .peak) count
@@ -78,6 +79,6 @@ module _ (p q : Standing) where
   went (stop r) e f = absurd (true≢false (sym f ∙ ap (λ (t : Standing). t .done) e))
   went (next l) e f = record { list = l; is = refl; many = ap (λ (t : Standing). t .count) e }
 
-  pub halts : (e : After Cube) → q ≡ advanced p e → q .done ≡ false → e ≡ stop (q .number)
-  halts (stop r) e f = ap stop (sym (ap (λ (t : Standing). t .number) e))
+  pub halts : (e : After Cube) → q ≡ advanced p e → q .done ≡ false → e ≡ stop (q .why)
+  halts (stop r) e f = ap stop (sym (ap (λ (t : Standing). t .why) e))
   halts (next l) e f = absurd (true≢false (sym (ap (λ (t : Standing). t .done) e) ∙ f))

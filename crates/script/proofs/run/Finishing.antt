@@ -8,8 +8,8 @@ use native.Mathlib.Omega.{arith}
 use lib.ListN.{length, getD, length-map}
 use Rattle.bits.specs.Sums.{All}
 use Rattle.records.specs.declared.Refusal.{Refusal}
-use Rattle.records.specs.Records.{Holds, Held, records, listOf, image, filledBy}
-use Rattle.records.specs.Answers.{Outcome, accepted, refused, refusal, Accepts}
+use Rattle.records.specs.Records.{Holds, Held, records, image, filledBy}
+use Rattle.records.specs.Answers.{accepted, refused, Accepts}
 use Rattle.records.proofs.Records.{length-records, length-list, capacity-fits, held-fits, holds-records, image-holds}
 use Rattle.cube.specs.declared.Cube.{Cube}
 use Rattle.cube.specs.Cubes.{Good}
@@ -23,8 +23,8 @@ use Rattle.script.specs.declared.Finished.the-variants as finished-is
 use Rattle.script.specs.declared.Progress.{Progress}
 use Rattle.script.specs.Run.{Ran, stopped, ended, stepsFrom, undo, finish, run}
 use Rattle.script.specs.Pending.{nonePending, pend, restored}
-use Rattle.script.specs.Scripts.{stepRecords, stepsOf, fits}
-use Rattle.script.specs.Calls.{checkRun, runOf, ranOutcome, runOutcome, ranWork, runAfter, finished}
+use Rattle.script.specs.Scripts.{stepsOf, fits}
+use Rattle.script.specs.Calls.{checkRun, runOf, atStep, ranOutcome, runOutcome, ranWork, runAfter, finished}
 use Rattle.script.specs.Progress.{progressOf, Stepping, Answered}
 use Rattle.script.proofs.Pending.{undo-pending, pending-orders}
 use Rattle.script.proofs.Scripts.{script-fits}
@@ -74,11 +74,11 @@ module _ (n : ℕ) (list script work : List ℕ) (p : Accepts (checkRun n list s
       buffer-is = s .buffer ∙ ap₂ ranWork long from-list
 
       -- refused at a step
-      stopped-answer : (t : Ran Cube) → r ≡ progressOf t (pend nonePending xs) → r .done ≡ false → (refused (refusal (r .number) (r .place)) ≡ ranOutcome (finish xs t)) × (ranWork (length work) t ≡ ranWork (length work) (finish xs t))
-      stopped-answer (stopped number step) e f = (ap (λ (q : Progress). refused (refusal (q .number) (q .place))) e, refl)
+      stopped-answer : (t : Ran Cube) → r ≡ progressOf t (pend nonePending xs) → r .done ≡ false → (refused (atStep (r .why) (r .place)) ≡ ranOutcome (finish xs t)) × (ranWork (length work) t ≡ ranWork (length work) (finish xs t))
+      stopped-answer (stopped why step) e f = (ap (λ (q : Progress). refused (atStep (q .why) (q .place))) e, refl)
       stopped-answer (ended l peak) e f = absurd (true≢false (sym (ap (λ (q : Progress). q .done) e) ∙ f))
 
-      pub run-stopped : r .done ≡ false → (q : Refusal) → q ≡ refusal (r .number) (r .place) → Answered n list script work w₂ (finished-is.Refused q)
+      pub run-stopped : r .done ≡ false → (q : Refusal) → q ≡ atStep (r .why) (r .place) → Answered n list script work w₂ (finished-is.Refused q)
       run-stopped f q eq =
           let t = stopped-answer whole answer-is f in
           record {
@@ -94,7 +94,7 @@ module _ (n : ℕ) (list script work : List ℕ) (p : Accepts (checkRun n list s
         orders : r .pending ≡ pend nonePending xs
 
       last : (t : Ran Cube) → r ≡ progressOf t (pend nonePending xs) → r .done ≡ true → Last t
-      last (stopped number step) e f = absurd (true≢false (sym f ∙ ap (λ (q : Progress). q .done) e))
+      last (stopped why step) e f = absurd (true≢false (sym f ∙ ap (λ (q : Progress). q .done) e))
       last (ended l peak) e f = record {
         list-last = l;
         is = ap (ended l) (sym (ap (λ (q : Progress). q .peak) e));

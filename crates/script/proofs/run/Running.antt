@@ -109,10 +109,10 @@ module _ (n cap first : ℕ) (script work : List ℕ) where
           ∙ ap (onward k go-on) is
 
       -- a step that is refused
-      pub running-stop : q .done ≡ false → Stepping n cap first (stepsOf script) work b′ (halted (q .number) k)
+      pub running-stop : q .done ≡ false → Stepping n cap first (stepsOf script) work b′ (halted (q .why) k)
       running-stop f =
           let is = halts p q (step n cap (meaning x) (records cubes (p .count) b)) eq f in
-          let stops = onto (stop (q .number)) is in
+          let stops = onto (stop (q .why)) is in
           record {
             answer = sym (ap (λ (t : Ran Cube). progressOf t (pend nonePending (stepsOf script))) stops);
             buffer = eb ∙ ap (workAdvanced b) is ∙ ap zeros (r .long) ∙ sym (ap (ranWork (length work)) stops);

@@ -127,7 +127,7 @@ module _ (n : ℕ) (list script work out : List ℕ) where
           where
             go : (o : Outcome) → checkRun n list script (length work) ≡ o → (ran : Ran Cube) → runOf n list script (length work) ≡ ran
                 → refused r ≡ andThen o (ranOutcome ran) → work′ ≡ workAfter o work ran → SettleDone n list script work out (refused r) work′ out
-            go (accepted v) eo (stopped number step) et a w = by-parts (accepted v) (stopped number step) (same-check ∙ eo) et work′ out (refused r) a w refl
+            go (accepted v) eo (stopped why step) et a w = by-parts (accepted v) (stopped why step) (same-check ∙ eo) et work′ out (refused r) a w refl
             go (accepted v) eo (ended m p) et a w = absurd (not-both (sym a))
             go (refused q) eo ran et a w = by-parts (refused q) ran (same-check ∙ eo) et work′ out (refused r) a w refl
 
@@ -147,7 +147,7 @@ module _ (n : ℕ) (list script work out : List ℕ) where
             where
               go : (o : Outcome) → checkRun n list script (length work) ≡ o → (ran : Ran Cube) → runOf n list script (length work) ≡ ran
                   → accepted (count ∷ peak ∷ []) ≡ andThen o (ranOutcome ran) → work′ ≡ workAfter o work ran → Ran-to count peak work′
-              go (accepted v) eo (stopped number step) et a w = absurd (not-both a)
+              go (accepted v) eo (stopped why step) et a w = absurd (not-both a)
               go (accepted v) eo (ended m p) et a w = record {
                 values = v;
                 checked = eo;

@@ -23,9 +23,10 @@ use Rattle.cube.proofs.Masks.{differing-bit, apart-count}
 use Rattle.cube.proofs.Apart.{apart-none, apart-one, Two, apart-two, two-swap}
 use Rattle.orders.specs.Codes.{third, thirdOf, lower, higher}
 use Rattle.orders.proofs.Codes.{third-of-codes}
+use Rattle.steps.specs.declared.Change.{Change}
 use Rattle.steps.specs.declared.Change.the-variants as change-is
-use Rattle.steps.specs.Moves.{Move, refuse, drops, joins, splits, turns}
-use Rattle.steps.specs.Steps.{thirdAt, atTwoPlaces, dropped, dropMove, joined, joinMove, splitMove, turned, turnMove}
+use Rattle.steps.specs.Moves.{stepRefusal, stepRefusalWith, Move, refuse, drops, joins, splits, turns}
+use Rattle.steps.specs.Steps.{thirdAt, atTwoPlaces, unfitBy, dropped, dropMove, joined, joinMove, splitMove, turned, turnMove}
 use Rattle.steps.specs.Changes.{moveOf, placesNumber}
 use Rattle.steps.proofs.Places.{two-tests}
 
@@ -58,16 +59,17 @@ module _ (count i j : ℕ) where
   places-fine hi hj ne = simp (lt-ltb i count hi, lt-ltb j count hj, ne-eqb i j ne)
 
   module _ {A : Type 0} (p : ℕ) (e : p ≡ placesNumber count i j) (m : Move A) where
-    pub number-refused : (p ≡ 0 → ⊥) → refuse p ≡ atTwoPlaces count i j m
+    pub number-refused : (p ≡ 0 → ⊥) → refuse (stepRefusal p) ≡ atTwoPlaces count i j m
     unfolding placesNumber
     number-refused ne =
-        two-tests count i j (λ t u. p ≡ cond t (cond u 11 0) 10 → refuse p ≡ cond t (cond u (refuse 11) m) (refuse 10))
-        (λ u h q. ap refuse q) (λ h f q. ap refuse q) (λ two q. absurd (ne q)) e
+        two-tests count i j
+        (λ t u. p ≡ cond t (cond u 11 0) 10 → refuse (stepRefusal p) ≡ cond t (cond u (refuse (stepRefusal 11)) m) (refuse (stepRefusal 10)))
+        (λ u h q. ap (λ (k : ℕ). refuse (stepRefusal k)) q) (λ h f q. ap (λ (k : ℕ). refuse (stepRefusal k)) q) (λ two q. absurd (ne q)) e
 
     pub number-passed : p ≡ 0 → m ≡ atTwoPlaces count i j m
     unfolding placesNumber
     number-passed z =
-        two-tests count i j (λ t u. _≡_ {A = ℕ} 0 (cond t (cond u 11 0) 10) → m ≡ cond t (cond u (refuse 11) m) (refuse 10))
+        two-tests count i j (λ t u. _≡_ {A = ℕ} 0 (cond t (cond u 11 0) 10) → m ≡ cond t (cond u (refuse (stepRefusal 11)) m) (refuse (stepRefusal 10)))
         (λ u h q. absurd (omega arith)) (λ h f q. absurd (omega arith)) (λ two q. refl) (sym z ∙ e)
 
 -- ---- the set of the variables in which two good cubes differ
@@ -143,17 +145,17 @@ third-put c d x v u l e ne f =
 -- ---- the decisions at two places
 
 module _ (n count i j p : ℕ) (a b : Cube) (e : p ≡ placesNumber count i j) where
-  pub drop-places : (p ≡ 0 → ⊥) → moveOf (change-is.Refuse p) ≡ dropMove n count i j a b
+  pub drop-places : (p ≡ 0 → ⊥) → (c : Change) → c ≡ change-is.Refuse (stepRefusal p) → moveOf c ≡ dropMove n count i j a b
   unfolding moveOf dropMove
-  drop-places ne = number-refused count i j p e (dropped (apart n a b)) ne
+  drop-places ne c ec = ap moveOf ec ∙ number-refused count i j p e (dropped (apart n a b)) ne
 
-  pub join-places : (p ≡ 0 → ⊥) → moveOf (change-is.Refuse p) ≡ joinMove n count i j a b
+  pub join-places : (p ≡ 0 → ⊥) → (c : Change) → c ≡ change-is.Refuse (stepRefusal p) → moveOf c ≡ joinMove n count i j a b
   unfolding moveOf joinMove
-  join-places ne = number-refused count i j p e (joined a b (apart n a b)) ne
+  join-places ne c ec = ap moveOf ec ∙ number-refused count i j p e (joined a b (apart n a b)) ne
 
-  pub turn-places : (v : ℕ) → (p ≡ 0 → ⊥) → moveOf (change-is.Refuse p) ≡ turnMove n count v i j a b
+  pub turn-places : (v : ℕ) → (p ≡ 0 → ⊥) → (c : Change) → c ≡ change-is.Refuse (stepRefusal p) → moveOf c ≡ turnMove n count v i j a b
   unfolding moveOf turnMove
-  turn-places v ne = number-refused count i j p e (turned a b v (apart n a b)) ne
+  turn-places v ne c ec = ap moveOf ec ∙ number-refused count i j p e (turned a b v (apart n a b)) ne
 
   module _ (z : p ≡ 0) (g : Good n a) (h : Good n b) (s : ℕ) (es : s ≡ differing a b) where
     passed : {m r : Move Cube} → r ≡ m → r ≡ atTwoPlaces count i j m
@@ -162,15 +164,19 @@ module _ (n count i j p : ℕ) (a b : Cube) (e : p ≡ placesNumber count i j) w
     many : (l : List ℕ) → apart n a b ≡ l → length l ≡ ones s
     many l el = sym (ap length el) ∙ apart-count n a b g h ∙ ap ones (sym es)
 
+    -- the third answer is the set's count of ones
+    by-ones : (k : ℕ) (l : List ℕ) → apart n a b ≡ l → refuse (stepRefusalWith k (ones s)) ≡ unfitBy k l
+    by-ones k l el = ap (λ (m : ℕ). refuse (stepRefusalWith k m)) (sym (many l el))
+
     -- drop
 
-    pub drop-unlike : (s ≡ 0 → ⊥) → moveOf (change-is.Refuse 12) ≡ dropMove n count i j a b
+    pub drop-unlike : (s ≡ 0 → ⊥) → (c : Change) → c ≡ change-is.Refuse (stepRefusalWith 16 (ones s)) → moveOf c ≡ dropMove n count i j a b
     unfolding moveOf dropMove
-    drop-unlike ne = passed (go (apart n a b) refl)
+    drop-unlike ne c ec = ap moveOf ec ∙ passed (go (apart n a b) refl)
       where
-        go : (l : List ℕ) → apart n a b ≡ l → refuse 12 ≡ dropped l
+        go : (l : List ℕ) → apart n a b ≡ l → refuse (stepRefusalWith 16 (ones s)) ≡ dropped l
         go [] el = absurd (ne (es ∙ none-set n a b g h el))
-        go (v ∷ l) el = refl
+        go (v ∷ l) el = by-ones 16 (v ∷ l) el
 
     pub drop-equal : s ≡ 0 → moveOf change-is.Drop ≡ dropMove n count i j a b
     unfolding moveOf dropMove ones
@@ -182,14 +188,14 @@ module _ (n count i j p : ℕ) (a b : Cube) (e : p ≡ placesNumber count i j) w
 
     -- join
 
-    pub join-unlike : (ones s ≡ 1 → ⊥) → moveOf (change-is.Refuse 12) ≡ joinMove n count i j a b
+    pub join-unlike : (ones s ≡ 1 → ⊥) → (c : Change) → c ≡ change-is.Refuse (stepRefusalWith 17 (ones s)) → moveOf c ≡ joinMove n count i j a b
     unfolding moveOf joinMove
-    join-unlike ne = passed (go (apart n a b) refl)
+    join-unlike ne c ec = ap moveOf ec ∙ passed (go (apart n a b) refl)
       where
-        go : (l : List ℕ) → apart n a b ≡ l → refuse 12 ≡ joined a b l
-        go [] el = refl
+        go : (l : List ℕ) → apart n a b ≡ l → refuse (stepRefusalWith 17 (ones s)) ≡ joined a b l
+        go [] el = by-ones 17 [] el
         go (v ∷ []) el = absurd (ne (sym (many (v ∷ []) el)))
-        go (v ∷ u ∷ l) el = refl
+        go (v ∷ u ∷ l) el = by-ones 17 (v ∷ u ∷ l) el
 
     pub join-third : n ≤ mostVariables → ones s ≡ 1 → (v : ℕ) → v ≡ trailingZeros 32 s → (c : Cube) → c ≡ withCode a v (thirdOf (code a v) (code b v))
         → moveOf (change-is.Join c) ≡ joinMove n count i j a b
@@ -206,31 +212,33 @@ module _ (n count i j p : ℕ) (a b : Cube) (e : p ≡ placesNumber count i j) w
     -- turn
 
     module _ (v : ℕ) where
-      pub turn-unlike : (ones s ≡ 2 → ⊥) → moveOf (change-is.Refuse 12) ≡ turnMove n count v i j a b
+      pub turn-unlike : (ones s ≡ 2 → ⊥) → (c : Change) → c ≡ change-is.Refuse (stepRefusalWith 18 (ones s)) → moveOf c ≡ turnMove n count v i j a b
       unfolding moveOf turnMove
-      turn-unlike ne = passed (go (apart n a b) refl)
+      turn-unlike ne c ec = ap moveOf ec ∙ passed (go (apart n a b) refl)
         where
-          go : (l : List ℕ) → apart n a b ≡ l → refuse 12 ≡ turned a b v l
-          go [] el = refl
-          go (p ∷ []) el = refl
+          go : (l : List ℕ) → apart n a b ≡ l → refuse (stepRefusalWith 18 (ones s)) ≡ turned a b v l
+          go [] el = by-ones 18 [] el
+          go (p ∷ []) el = by-ones 18 (p ∷ []) el
           go (p ∷ q ∷ []) el = absurd (ne (sym (many (p ∷ q ∷ []) el)))
-          go (p ∷ q ∷ r ∷ l) el = refl
+          go (p ∷ q ∷ r ∷ l) el = by-ones 18 (p ∷ q ∷ r ∷ l) el
 
       -- v is in the set where it is p or q
       at-v : (u t : ℕ) → t ≡ bit s v → code b u ≢ code a u → v ≡ u → t ≡ 1
       at-v u t et ne e = et ∙ ap₂ bit es e ∙ bit-unlike n a b g h u ne
 
-      pub turn-elsewhere : (t : ℕ) → t ≡ bit s v → t ≡ 0 → moveOf (change-is.Refuse 12) ≡ turnMove n count v i j a b
+      pub turn-elsewhere : ones s ≡ 2 → (t : ℕ) → t ≡ bit s v → t ≡ 0 → (c : Change) → c ≡ change-is.Refuse (stepRefusalWith 19 (ones s))
+          → moveOf c ≡ turnMove n count v i j a b
       unfolding moveOf turnMove
-      turn-elsewhere t et q = passed (go (apart n a b) refl)
+      turn-elsewhere two t et q c ec = ap moveOf ec ∙ passed (go (apart n a b) refl)
         where
-          go : (l : List ℕ) → apart n a b ≡ l → refuse 12 ≡ turned a b v l
-          go [] el = refl
-          go (p ∷ []) el = refl
+          go : (l : List ℕ) → apart n a b ≡ l → refuse (stepRefusalWith 19 (ones s)) ≡ turned a b v l
+          go [] el = absurd (omega (arith, many [] el))
+          go (p ∷ []) el = absurd (omega (arith, many (p ∷ []) el))
           go (p ∷ r ∷ []) el =
               let w : Two n a b p r = apart-two n a b p r el in
-              simp (ne-eqb v p (λ e. omega (arith, at-v p t et (w .at-p) e)), ne-eqb v r (λ e. omega (arith, at-v r t et (w .at-q) e)))
-          go (p ∷ q ∷ r ∷ l) el = refl
+              by-ones 19 (p ∷ r ∷ []) el
+              ∙ sym (simp (ne-eqb v p (λ e. omega (arith, at-v p t et (w .at-p) e)), ne-eqb v r (λ e. omega (arith, at-v r t et (w .at-q) e))))
+          go (p ∷ q ∷ r ∷ l) el = absurd (omega (arith, many (p ∷ q ∷ r ∷ l) el))
 
       pub turn-both : n ≤ mostVariables → ones s ≡ 2 → (t : ℕ) → t ≡ bit s v → (t ≡ 0 → ⊥) → (m : ℕ) → m ≡ 2 ^ v → (u : ℕ) → u ≡ trailingZeros 32 (bitXor s m)
           → (c d : Cube) → c ≡ withCode a v (thirdOf (code a v) (code b v)) → d ≡ withCode b u (thirdOf (code b u) (code a u))
@@ -259,13 +267,13 @@ module _ (n count i j p : ℕ) (a b : Cube) (e : p ≡ placesNumber count i j) w
 -- ---- split
 
 module _ (count cap v i : ℕ) (a : Cube) where
-  pub split-place : count ≤ i → moveOf (change-is.Refuse 10) ≡ splitMove count cap v i a
+  pub split-place : count ≤ i → (c : Change) → c ≡ change-is.Refuse (stepRefusal 10) → moveOf c ≡ splitMove count cap v i a
   unfolding moveOf splitMove
-  split-place h = simp (le-ltb i count h)
+  split-place h c ec = ap moveOf ec ∙ sym (simp (le-ltb i count h))
 
-  pub split-full : i < count → cap ≤ count → moveOf (change-is.Refuse 13) ≡ splitMove count cap v i a
+  pub split-full : i < count → cap ≤ count → (c : Change) → c ≡ change-is.Refuse (stepRefusal 13) → moveOf c ≡ splitMove count cap v i a
   unfolding moveOf splitMove
-  split-full hi h = simp (lt-ltb i count hi, le-ltb count cap h)
+  split-full hi h c ec = ap moveOf ec ∙ sym (simp (lt-ltb i count hi, le-ltb count cap h))
 
   pub split-halves : i < count → count < cap → v < maskBits → (x y z : ℕ) → x ≡ code a v → y ≡ lower x → z ≡ higher x
       → (c d : Cube) → c ≡ withCode a v y → d ≡ withCode a v z → moveOf (change-is.Split c d) ≡ splitMove count cap v i a

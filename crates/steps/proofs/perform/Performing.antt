@@ -17,6 +17,7 @@ use Rattle.cube.proofs.Lists.{lawful}
 use Rattle.steps.specs.declared.Change.{Change}
 use Rattle.steps.specs.declared.Change.the-variants as change-is
 use Rattle.steps.specs.declared.Stepped.the-variants as stepped-is
+use Rattle.steps.specs.declared.StepRefusal.{StepRefusal}
 use Rattle.steps.specs.Moves.{Move, refuse, drops, joins, splits, turns, After, next, applied, dropAt, joinAt, splitAt, turnAt}
 use Rattle.steps.specs.Effects.{TwoPlaces}
 use Rattle.steps.specs.Changes.{moveOf, OnePlace, Placed, DoneBy}
@@ -165,10 +166,10 @@ module _ {A : Type 0} (C : Codec A) (K : Lawful C) (k i j : ℕ) (b : List ℕ) 
       → DoneBy C b b′ (applied (C .none) i j (records C k b) m) (stepped-is.Count count)
   made-next b′ l count p q r = subst (λ (e : After A). DoneBy C b b′ e (stepped-is.Count count)) (sym p) (record { answer = ap stepped-is.Count (sym r); buffer = q })
 
-  pub made-refuse : (number : ℕ) → m ≡ refuse number → DoneBy C b b (applied (C .none) i j (records C k b) m) (stepped-is.Refused number)
+  pub made-refuse : (why : StepRefusal) → m ≡ refuse why → DoneBy C b b (applied (C .none) i j (records C k b) m) (stepped-is.Refused why)
   unfolding applied
-  made-refuse number e =
-      subst (λ (t : Move A). DoneBy C b b (applied (C .none) i j (records C k b) t) (stepped-is.Refused number)) (sym e) (record { answer = refl; buffer = refl })
+  made-refuse why e =
+      subst (λ (t : Move A). DoneBy C b b (applied (C .none) i j (records C k b) t) (stepped-is.Refused why)) (sym e) (record { answer = refl; buffer = refl })
 
   pub made-drop : m ≡ drops → Held C k b → (hi lo : ℕ) → hi ≡ max i j → lo ≡ min i j
       → (b₁ b₂ : List ℕ) → b₁ ≡ image C (length b) (removeAt (C .none) (records C k b) hi) → b₂ ≡ image C (length b₁) (removeAt (C .none) (records C (k - 1) b₁) lo)
@@ -211,9 +212,9 @@ module _ {A : Type 0} (C : Codec A) (K : Lawful C) (k i j : ℕ) (b : List ℕ) 
 
 -- a change of cubes, as a move
 module _ (change : Change) where
-  pub refuse-move : (number : ℕ) → change ≡ change-is.Refuse number → moveOf change ≡ refuse number
+  pub refuse-move : (why : StepRefusal) → change ≡ change-is.Refuse why → moveOf change ≡ refuse why
   unfolding moveOf
-  refuse-move number e = ap moveOf e
+  refuse-move why e = ap moveOf e
 
   pub drop-move : change ≡ change-is.Drop → moveOf change ≡ drops
   unfolding moveOf

@@ -43,13 +43,27 @@ pub fn run_in(given: Records, steps: &[[u8; STEP]], work: &mut [u8]) -> Result<D
     let mut state =
         State { records: records(work), count: given.len(), peak: given.len(), pending: [NONE; VARIABLES as usize] };
     for (place, step) in steps.iter().enumerate() {
-        if let Err(number) = state.step(step) {
+        if let Err(StepRefusal { number, differing }) = state.step(step) {
             work.fill(0);
-            return refusal(number, place);
+            return Err(Refusal { number, place, differing });
         }
     }
     orders::undo(&mut state.records[..state.count], &state.pending);
     Ok(Done { count: state.count, peak: state.peak })
+}
+
+/// Why a step is refused: the number; and the number of differing variables, where its two cubes are not as it needs.
+struct StepRefusal {
+    number: u64,
+    differing: u32,
+}
+
+fn refuse<T>(number: u64) -> Result<T, StepRefusal> {
+    Err(StepRefusal { number, differing: 0 })
+}
+
+fn unfit<T>(number: u64, apart: u32) -> Result<T, StepRefusal> {
+    Err(StepRefusal { number, differing: apart.count_ones() })
 }
 
 struct State<'a> {
@@ -60,7 +74,7 @@ struct State<'a> {
 }
 
 impl State<'_> {
-    fn step(&mut self, step: &[u8; STEP]) -> Result<(), u64> {
+    fn step(&mut self, step: &[u8; STEP]) -> Result<(), StepRefusal> {
         let &[op, v, _, _, _, _, literal, _] = step;
         let (v, i, j) = (v as u32, place(step, 2), place(step, 4));
         match op {
@@ -76,21 +90,22 @@ impl State<'_> {
         }
     }
 
-    fn drop(&mut self, i: usize, j: usize) -> Result<(), u64> {
+    fn drop(&mut self, i: usize, j: usize) -> Result<(), StepRefusal> {
         let (a, b) = self.pair(i, j)?;
-        if a != b {
-            return Err(12);
+        let apart = a.differing(b);
+        if apart != 0 {
+            return unfit(16, apart);
         }
         self.remove(i.max(j));
         self.remove(i.min(j));
         Ok(())
     }
 
-    fn join(&mut self, i: usize, j: usize) -> Result<(), u64> {
+    fn join(&mut self, i: usize, j: usize) -> Result<(), StepRefusal> {
         let (a, b) = self.pair(i, j)?;
         let apart = a.differing(b);
         if apart.count_ones() != 1 {
-            return Err(12);
+            return unfit(17, apart);
         }
         let v = apart.trailing_zeros();
         self.write(i, a.put(v, third(a.code(v), b.code(v))));
@@ -98,12 +113,12 @@ impl State<'_> {
         Ok(())
     }
 
-    fn split(&mut self, v: u32, i: usize) -> Result<(), u64> {
+    fn split(&mut self, v: u32, i: usize) -> Result<(), StepRefusal> {
         if i >= self.count {
-            return Err(10);
+            return refuse(10);
         }
         if self.count == self.records.len() {
-            return Err(13);
+            return refuse(13);
         }
         let cube = self.read(i);
         let (lower, higher) = [(1, 2), (0, 2), (0, 1)][cube.code(v) as usize];
@@ -114,11 +129,14 @@ impl State<'_> {
         Ok(())
     }
 
-    fn turn(&mut self, v: u32, i: usize, j: usize) -> Result<(), u64> {
+    fn turn(&mut self, v: u32, i: usize, j: usize) -> Result<(), StepRefusal> {
         let (a, b) = self.pair(i, j)?;
         let apart = a.differing(b);
-        if apart.count_ones() != 2 || apart >> v & 1 == 0 {
-            return Err(12);
+        if apart.count_ones() != 2 {
+            return unfit(18, apart);
+        }
+        if apart >> v & 1 == 0 {
+            return unfit(19, apart);
         }
         let other = (apart & !(1 << v)).trailing_zeros();
         self.write(i, a.put(v, third(a.code(v), b.code(v))));
@@ -126,12 +144,12 @@ impl State<'_> {
         Ok(())
     }
 
-    fn pair(&self, i: usize, j: usize) -> Result<(Cube, Cube), u64> {
+    fn pair(&self, i: usize, j: usize) -> Result<(Cube, Cube), StepRefusal> {
         if i >= self.count || j >= self.count {
-            return Err(10);
+            return refuse(10);
         }
         if i == j {
-            return Err(11);
+            return refuse(11);
         }
         Ok((self.read(i), self.read(j)))
     }

@@ -8,8 +8,8 @@ use Rattle.script.proofs.run.advance.Tie as tie
 do-step-requires : tie.Need-do-step-requires
 do-step-requires c κs = search needs
 
-enum-known-number : tie.Need-enum-known-number
-enum-known-number c = search needs
+enum-known-why : tie.Need-enum-known-why
+enum-known-why c = search needs
 
 clear-requires : tie.Need-clear-requires
 clear-requires c κs = search needs
@@ -28,7 +28,7 @@ returns c =
     let c₅ = c .before .before .before .before .before in
     let c₉ = c₅ .before .before .before .before in
     let done = c₉ .do-step .ensures in
-    advance-refused _ _ _ (c₉ .before .before .before .args .at) _ _ _ (done .0) (done .1) _ (c₅ .number .given .1) _ (c .before .before .clear .ensures)
+    advance-refused _ _ _ (c₉ .before .before .before .args .at) _ _ _ (done .0) (done .1) _ (c₅ .why .given .1) _ (c .before .before .clear .ensures)
 
 same-length-2 : tie.Need-same-length-2
 same-length-2 c = search needs
@@ -44,7 +44,7 @@ advance-spec =
     tie.close
     (tie.spec
     do-step-requires
-    enum-known-number
+    enum-known-why
     clear-requires
     enum-known-count
     larger-requires

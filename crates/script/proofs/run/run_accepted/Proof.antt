@@ -37,15 +37,15 @@ returns c =
     let small : (i : ℕ) → getD (now (s .before .args .list)) i 0 < 256 = λ i. omega (arith, s .shared-slice-known .given i) in
     search run-done
 
-new-requires : tie.Need-new-requires
-new-requires c κs = search needs
+with-differing-requires : tie.Need-with-differing-requires
+with-differing-requires c κs = search needs
 
 same-length-2 : tie.Need-same-length-2
 same-length-2 c = search needs
 
 returns-2 : tie.Need-returns-2
 returns-2 c =
-    let s = c .before .before .before .before .before .before .before .before .before .before .before .before .before in
+    let s = c .before .before .before .before .before .before .before .before .before .before .before .before .before .before in
     let small : (i : ℕ) → getD (now (s .before .args .list)) i 0 < 256 = λ i. omega (arith, s .shared-slice-known .given i) in
     search run-stopped
 
@@ -59,6 +59,6 @@ run-accepted-spec =
     undo-requires
     same-length
     returns
-    new-requires
+    with-differing-requires
     same-length-2
     returns-2)

@@ -47,7 +47,9 @@ pended-requires : tie.Need-pended-requires Inv-loop μ-loop
 pended-requires c κs = search needs
 
 add-k : tie.Need-add-k Inv-loop μ-loop
-add-k c = search needs
+add-k c =
+    let loop = c .before .before .before .before .before .before .before .before .before .before in
+    search (needs, loop .before .before .before .good)
 
 loop-less : tie.Need-loop-less Inv-loop μ-loop
 loop-less c = search needs

@@ -6,11 +6,17 @@ use Rattle.steps.proofs.decide.Deciding.{split-place, split-full, split
 use Rattle.steps.proofs.decide.decide_split.Statement.{statement}
 use Rattle.steps.proofs.decide.decide_split.Tie as tie
 
+refuse-requires : tie.Need-refuse-requires
+refuse-requires c κs = search needs
+
 returns : tie.Need-returns
 returns c = search split-place
 
+refuse-requires-2 : tie.Need-refuse-requires-2
+refuse-requires-2 c κs = search needs
+
 returns-2 : tie.Need-returns-2
-returns-2 c = split-full _ _ _ _ _ (omega arith) (omega arith)
+returns-2 c = split-full _ _ _ _ _ (omega arith) (omega arith) _ (c .refuse2 .ensures)
 
 code-at-requires : tie.Need-code-at-requires
 code-at-requires c κs = search needs
@@ -37,7 +43,9 @@ pub decide-split-spec : {M : Type 1} → statement M
 decide-split-spec =
     tie.close
     (tie.spec
+    refuse-requires
     returns
+    refuse-requires-2
     returns-2
     code-at-requires
     lower-requires

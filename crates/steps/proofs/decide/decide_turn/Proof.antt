@@ -9,17 +9,26 @@ use Rattle.steps.proofs.decide.decide_turn.Tie as tie
 two-places-requires : tie.Need-two-places-requires
 two-places-requires c κs = search needs
 
+refuse-requires : tie.Need-refuse-requires
+refuse-requires c κs = search needs
+
 returns : tie.Need-returns
 returns c = search turn-places
 
 differing-requires : tie.Need-differing-requires
 differing-requires c κs = search needs
 
+unfit-requires : tie.Need-unfit-requires
+unfit-requires c κs = search needs
+
 returns-2 : tie.Need-returns-2
 returns-2 c = search turn-unlike
 
 bit-requires : tie.Need-bit-requires
 bit-requires c κs = search needs
+
+unfit-requires-2 : tie.Need-unfit-requires-2
+unfit-requires-2 c κs = search needs
 
 returns-3 : tie.Need-returns-3
 returns-3 c = search turn-elsewhere
@@ -48,10 +57,13 @@ decide-turn-spec =
     tie.close
     (tie.spec
     two-places-requires
+    refuse-requires
     returns
     differing-requires
+    unfit-requires
     returns-2
     bit-requires
+    unfit-requires-2
     returns-3
     only-requires
     third-at-requires
