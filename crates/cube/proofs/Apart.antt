@@ -14,7 +14,7 @@ use borrow.Author.Tests.{eqb-false, eq-eqb, ne-eqb, not-true}
 use Rattle.cube.specs.declared.Cube.{Cube}
 use Rattle.bits.specs.Sums.{oneIf}
 use Rattle.bits.proofs.Below.{those-bounds, those-all, those-ascend, those-count, sum-cong, sum-none}
-use Rattle.cube.specs.Cubes.{code, apart, differingNumber, Good}
+use Rattle.cube.specs.Cubes.{code, differAt, apart, differingNumber, Good}
 use Rattle.cube.proofs.Codes.{cube-ext}
 
 -- ---- two cubes, by where they differ
@@ -24,7 +24,7 @@ module _ (n : ℕ) (c d : Cube) where
   pub apart-in : (k : ℕ) → List·Memᴰ k (apart n c d) → (k < n) × (code d k ≢ code c k)
   unfolding apart
   apart-in k h =
-      let t = those-bounds (λ k. not (eqb (code c k) (code d k))) n 0 k h in
+      let t = those-bounds (differAt c d) n 0 k h in
       (omega (arith, t .1), λ e. eqb-false (code c k) (code d k) (not-true (eqb (code c k) (code d k)) (t .2)) (sym e))
 
   -- elsewhere they agree
@@ -33,15 +33,14 @@ module _ (n : ℕ) (c d : Cube) where
   apart-out k h f =
       elim (ℕ-discrete (code c k) (code d k)) [
         | yes e ↦ e
-        | no e ↦ absurd (f (those-all (λ k. not (eqb (code c k) (code d k))) n 0 k (omega arith) (omega arith) (ap not (ne-eqb (code c k) (code d k) e))))
+        | no e ↦ absurd (f (those-all (differAt c d) n 0 k (omega arith) (omega arith) (ap not (ne-eqb (code c k) (code d k) e))))
       ]
 
   -- the list has as many as there are
   pub apart-number : length (apart n c d) ≡ differingNumber n c d
   unfolding apart differingNumber
   apart-number =
-      those-count (λ k. not (eqb (code c k) (code d k))) n 0
-      ∙ sum-cong n _ _ (λ t l. ap (λ (k : ℕ). oneIf (not (eqb (code c k) (code d k)))) (zero-add t))
+      those-count (differAt c d) n 0 ∙ sum-cong n _ _ (λ t l. ap (λ (k : ℕ). oneIf (differAt c d k)) (zero-add t))
 
   -- none of good cubes: they are equal
   pub number-none : Good n c → Good n d → differingNumber n c d ≡ 0 → c ≡ d
@@ -73,7 +72,7 @@ module _ (n : ℕ) (c d : Cube) where
   apart-two p q e =
       let s = apart-in p (subst (λ (l : List ℕ). List·Memᴰ p l) (sym e) (List·Memᴰ·head refl)) in
       let t = apart-in q (subst (λ (l : List ℕ). List·Memᴰ q l) (sym e) (List·Memᴰ·tail (List·Memᴰ·head refl))) in
-      let less : p < q = those-ascend (λ k. not (eqb (code c k) (code d k))) n 0 p q [] e in
+      let less : p < q = those-ascend (differAt c d) n 0 p q [] e in
       record {
         p-lt = s .0;
         q-lt = t .0;

@@ -16,7 +16,7 @@ use Rattle.bits.proofs.Bools.{beq-eq, all-at₃, all-at, all-ext}
 use Rattle.bits.proofs.Bits.{bit-lt, bit-and, bit-or, bit-xor}
 use Rattle.bits.proofs.Below.{eqb-bits, those-cong, setBits, count-setBits, headOr, first-setBit}
 use Rattle.cube.specs.declared.Cube.{Cube}
-use Rattle.cube.specs.Cubes.{codeOf, code, Good, met, holds, apart, differing}
+use Rattle.cube.specs.Cubes.{codeOf, code, Good, met, holds, differAt, apart, differing}
 use Rattle.cube.proofs.Codes.{good-seen, good-value}
 
 -- ---- truth at an assignment
@@ -57,7 +57,7 @@ differ-bits s b t e hs hb ht he l m =
 
 module _ (n : ℕ) (c d : Cube) (g : Good n c) (h : Good n d) where
   -- a variable is in the set exactly where the codes differ
-  pub differing-bit : (k : ℕ) → not (eqb (code c k) (code d k)) ≡ not (eqb (bit (differing c d) k) 0)
+  pub differing-bit : (k : ℕ) → differAt c d k ≡ not (eqb (bit (differing c d) k) 0)
   unfolding code differing
   differing-bit k =
       differ-bits (bit (c .seen) k) (bit (c .value) k) (bit (d .seen) k) (bit (d .value) k)
@@ -65,7 +65,7 @@ module _ (n : ℕ) (c d : Cube) (g : Good n c) (h : Good n d) where
       ∙ ap (λ (x : ℕ). not (eqb x 0))
       (sym (bit-or (bitXor (c .seen) (d .seen)) (bitXor (c .value) (d .value)) k ∙ ap₂ max (bit-xor (c .seen) (d .seen) k) (bit-xor (c .value) (d .value) k)))
 
-  pub differing-is : (k : ℕ) → bit (differing c d) k ≡ oneIf (not (eqb (code c k) (code d k)))
+  pub differing-is : (k : ℕ) → bit (differing c d) k ≡ oneIf (differAt c d k)
   differing-is k = one-of (bit (differing c d) k) (bit-lt (differing c d) k) ∙ ap oneIf (sym (differing-bit k))
     where
       one-of : (x : ℕ) → x < 2 → x ≡ oneIf (not (eqb x 0))
@@ -79,7 +79,7 @@ module _ (n : ℕ) (c d : Cube) (g : Good n c) (h : Good n d) where
   -- the differing variables are the members of the set, ascending
   pub apart-set : apart n c d ≡ setBits n (differing c d)
   unfolding apart
-  apart-set = those-cong (λ k. not (eqb (code c k) (code d k))) (λ k. not (eqb (bit (differing c d) k) 0)) differing-bit n 0
+  apart-set = those-cong (differAt c d) (λ k. not (eqb (bit (differing c d) k) 0)) differing-bit n 0
 
   -- how many they are, and the lowest of them
   pub apart-count : length (apart n c d) ≡ ones (differing c d)

@@ -69,13 +69,17 @@ pub record HoldsAt (c : Cube) (a : ℕ) (r : Bool) : Type 0 where
   pub means : (n : ℕ) → Good n c → a < 2 ^ n → r ≡ holds n c a
   pub fixed : r ≡ eqb (bitAnd (c .seen) a) (c .value)
 
+-- two cubes differ in variable k: they have different codes there
+abbrev pub differAt : Cube → Cube → ℕ → Bool
+differAt c d k = not (eqb (code c k) (code d k))
+
 -- the variables below n in which two cubes differ, ascending
 unfoldable pub apart : ℕ → Cube → Cube → List ℕ
-apart n c d = those (λ k. not (eqb (code c k) (code d k))) n 0
+apart n c d = those (differAt c d) n 0
 
--- "the number of differing variables" (document 02, Four): at how many variables below n the codes of two cubes differ
+-- "the number of differing variables" (document 02, Four): in how many of the variables below n they differ
 unfoldable pub differingNumber : ℕ → Cube → Cube → ℕ
-differingNumber n c d = sumBelow n (λ k. oneIf (not (eqb (code c k) (code d k))))
+differingNumber n c d = sumBelow n (λ k. oneIf (differAt c d k))
 
 -- the bits in which the masks differ
 unfoldable pub differing : Cube → Cube → ℕ
@@ -83,5 +87,5 @@ differing c d = bitOr (bitXor (c .seen) (d .seen)) (bitXor (c .value) (d .value)
 
 -- a set of variables: of good cubes those in which the codes differ, and of any cubes the bits in which the masks do
 pub record DiffersIn (c d : Cube) (r : ℕ) : Type 0 where
-  pub means : (n : ℕ) → Good n c → Good n d → (k : ℕ) → bit r k ≡ oneIf (not (eqb (code c k) (code d k)))
+  pub means : (n : ℕ) → Good n c → Good n d → (k : ℕ) → bit r k ≡ oneIf (differAt c d k)
   pub fixed : r ≡ differing c d

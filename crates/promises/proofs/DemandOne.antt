@@ -26,7 +26,7 @@ use Rattle.script.proofs.Refusals.{stopped-steps, refused-stops}
 use Rattle.settling.specs.Calls.{ranSettled, ranBurned}
 use Rattle.promises.specs.Calls.{Call, check, value, truthVector, coefficients, vectorBack, writeForm, bestPolarity, run, settle, wideFromNarrow, narrowFromWide, answers, lent, leaves, Called}
 use Rattle.promises.specs.Refusals.{NoneWrong, FirstWrong, reasons, beforeSteps, RefusedBefore, StepStops, Stopped, RefusedAtStep, in-run, in-settle}
-use Rattle.promises.specs.Accepted.{goesOn, goesOnLeaving, ScriptStops, ScriptEnds}
+use Rattle.promises.specs.Accepted.{goesOn, goesOnLeaving, ScriptStops, run-stops, settle-stops, ScriptEnds}
 use Rattle.promises.proofs.Chains.{first-only, first-number, not-none}
 use Rattle.promises.proofs.Numbers.{numbered}
 use Rattle.promises.proofs.Judging.{Outcomes, judged}
@@ -90,20 +90,11 @@ step-told (in-run n list script work none s e) = stop-told n list script work _ 
 step-told (in-settle n list script work out none s e) = stop-told n list script work _ s
 
 -- where nothing is wrong and a step of the script is refused, the call is
-refuses : (c : Call) (why : StepRefusal) (k : ℕ) → ScriptStops c why k → goesOn c ≡ refused (atStep why k)
-unfolding goesOn ScriptStops runOf
-refuses (check n list) why k s = absurd s
-refuses (value n list a) why k s = absurd s
-refuses (truthVector n list out) why k s = absurd s
-refuses (coefficients n vector p out) why k s = absurd s
-refuses (vectorBack n vector p out) why k s = absurd s
-refuses (writeForm n vector p out) why k s = absurd s
-refuses (bestPolarity n vector) why k s = absurd s
-refuses (run n list script work) why k s = ap ranOutcome (refused-stops n (cubeCapacity (length work)) (stepsOf script) (cubesOf list) why k s)
-refuses (settle n list script work out) why k s =
-    ap (ranSettled n (cubesOf list)) (refused-stops n (cubeCapacity (length work)) (stepsOf script) (cubesOf list) why k s)
-refuses (wideFromNarrow n list out) why k s = absurd s
-refuses (narrowFromWide n list out) why k s = absurd s
+refuses : {c : Call} {why : StepRefusal} {k : ℕ} → ScriptStops why k c → goesOn c ≡ refused (atStep why k)
+unfolding goesOn runOf
+refuses (run-stops n list script work s) = ap ranOutcome (refused-stops n (cubeCapacity (length work)) (stepsOf script) (cubesOf list) _ _ s)
+refuses (settle-stops n list script work out s) =
+    ap (ranSettled n (cubesOf list)) (refused-stops n (cubeCapacity (length work)) (stepsOf script) (cubesOf list) _ _ s)
 
 -- where nothing is wrong and the script, if there is one, ends, the call is accepted
 accepts : (c : Call) → ScriptEnds c → (v : List ℕ) × (goesOn c ≡ accepted v)
@@ -194,8 +185,8 @@ module _ (c : Call) (o : Outcome) (buffers : List (List ℕ)) (called : Called c
       go (judging.right none e k) = (called .answer ∙ e, called .left ∙ k)
 
   -- .. refused exactly by the step that is refused, and with the third answer of that step, ..
-  pub not-wrong-stops : NoneWrong (reasons c) → (why : StepRefusal) (k : ℕ) → ScriptStops c why k → o ≡ refused (atStep why k)
-  not-wrong-stops fine why k s = not-wrong-goes-on fine .0 ∙ refuses c why k s
+  pub not-wrong-stops : NoneWrong (reasons c) → (why : StepRefusal) (k : ℕ) → ScriptStops why k c → o ≡ refused (atStep why k)
+  not-wrong-stops fine why k s = not-wrong-goes-on fine .0 ∙ refuses s
 
   -- .. and it is accepted where the script, if the call has one, ends.
   pub not-wrong-accepted : NoneWrong (reasons c) → ScriptEnds c → (v : List ℕ) × (o ≡ accepted v)

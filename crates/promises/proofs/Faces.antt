@@ -21,33 +21,28 @@ use Rattle.promises.proofs.Calling.{accepted-settled}
 
 -- ---- word 0, the place and the third answer
 
+-- what holds of the words of an outcome, settle's and the others', holds of every call's
+words-by : (o : Outcome) (P : List ℕ → Type 0) → P (words o) → P (settledWords o) → (c : Call) → P (wordsOf c o)
+unfolding wordsOf
+words-by o P w s (check n list) = w
+words-by o P w s (value n list a) = w
+words-by o P w s (truthVector n list out) = w
+words-by o P w s (coefficients n vector p out) = w
+words-by o P w s (vectorBack n vector p out) = w
+words-by o P w s (writeForm n vector p out) = w
+words-by o P w s (bestPolarity n vector) = w
+words-by o P w s (run n list script work) = w
+words-by o P w s (settle n list script work out) = s
+words-by o P w s (wideFromNarrow n list out) = w
+words-by o P w s (narrowFromWide n list out) = w
+
 words-refused : (c : Call) (r : Refusal) → wordsOf c (refused r) ≡ eight (r .number) (r .place) (r .differing ∷ [])
-unfolding wordsOf words settledWords
-words-refused (check n list) r = refl
-words-refused (value n list a) r = refl
-words-refused (truthVector n list out) r = refl
-words-refused (coefficients n vector p out) r = refl
-words-refused (vectorBack n vector p out) r = refl
-words-refused (writeForm n vector p out) r = refl
-words-refused (bestPolarity n vector) r = refl
-words-refused (run n list script work) r = refl
-words-refused (settle n list script work out) r = refl
-words-refused (wideFromNarrow n list out) r = refl
-words-refused (narrowFromWide n list out) r = refl
+unfolding words settledWords
+words-refused c r = words-by (refused r) (λ w. w ≡ eight (r .number) (r .place) (r .differing ∷ [])) refl refl c
 
 words-accepted : (c : Call) (v : List ℕ) → getD (wordsOf c (accepted v)) 0 0 ≡ 0
-unfolding wordsOf words settledWords
-words-accepted (check n list) v = refl
-words-accepted (value n list a) v = refl
-words-accepted (truthVector n list out) v = refl
-words-accepted (coefficients n vector p out) v = refl
-words-accepted (vectorBack n vector p out) v = refl
-words-accepted (writeForm n vector p out) v = refl
-words-accepted (bestPolarity n vector) v = refl
-words-accepted (run n list script work) v = refl
-words-accepted (settle n list script work out) v = refl
-words-accepted (wideFromNarrow n list out) v = refl
-words-accepted (narrowFromWide n list out) v = refl
+unfolding words settledWords
+words-accepted c v = words-by (accepted v) (λ w. getD w 0 0 ≡ 0) refl refl c
 
 module _ (c : Call) (answer : List ℕ) (buffers : List (List ℕ)) (F : Faced c answer buffers) where
   -- Refused: word 0 is the number, which is not 0, word 1 the place, word 2 the third answer, and the others are 0.

@@ -54,21 +54,12 @@ pub record EndOfScript (n : ℕ) (list script work : List ℕ) : Type 0 where
   pub peak : ℕ
   pub is : runOf n list script (length work) ≡ ended result peak
 
--- a step of the script is refused
-unfoldable pub ScriptStops : Call → StepRefusal → ℕ → Type 0
-ScriptStops (call.check n list) why k = ⊥
-ScriptStops (call.value n list a) why k = ⊥
-ScriptStops (call.truthVector n list out) why k = ⊥
-ScriptStops (call.coefficients n vector p out) why k = ⊥
-ScriptStops (call.vectorBack n vector p out) why k = ⊥
-ScriptStops (call.writeForm n vector p out) why k = ⊥
-ScriptStops (call.bestPolarity n vector) why k = ⊥
-ScriptStops (call.run n list script work) why k = StepStops n list script work why k
-ScriptStops (call.settle n list script work out) why k = StepStops n list script work why k
-ScriptStops (call.wideFromNarrow n list out) why k = ⊥
-ScriptStops (call.narrowFromWide n list out) why k = ⊥
+-- step k of the script is refused
+pub data ScriptStops (why : StepRefusal) (k : ℕ) : Call → Type 0 where
+  run-stops : (n : ℕ) (list script work : List ℕ) → StepStops n list script work why k → ScriptStops why k (call.run n list script work)
+  settle-stops : (n : ℕ) (list script work out : List ℕ) → StepStops n list script work why k → ScriptStops why k (call.settle n list script work out)
 
--- no step of it is
+-- no step of it is, where the call has one
 unfoldable pub ScriptEnds : Call → Type 0
 ScriptEnds (call.check n list) = Unit {0}
 ScriptEnds (call.value n list a) = Unit {0}

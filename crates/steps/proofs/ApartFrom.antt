@@ -7,12 +7,11 @@ use mathlib.Core.List.{List, [], _∷_}
 use Prim.Native.Nat.{ℕ, zero, suc, _+_, _≤_, _<_}
 use native.Mathlib.Decide.{ℕ-discrete}
 use native.Mathlib.Omega.{arith}
-use lib.Dec.{eqb}
 use borrow.Author.Tests.{eq-eqb, ne-eqb}
 use Rattle.bits.specs.Below.{those}
 use Rattle.bits.specs.Sums.{All}
 use Rattle.cube.specs.declared.Cube.{Cube}
-use Rattle.cube.specs.Cubes.{code, apart}
+use Rattle.cube.specs.Cubes.{code, differAt, apart}
 
 -- ascending, from k on and below e
 abbrev pub Rising : ℕ → ℕ → List ℕ → Type 0
@@ -48,5 +47,5 @@ pub apart-of : (n : ℕ) (c d : Cube) (l : List ℕ) → Rising 0 n l → All (�
     → ((k : ℕ) → k < n → All (λ v. k ≢ v) l → code c k ≡ code d k) → apart n c d ≡ l
 unfolding apart
 apart-of n c d l r a h =
-    those-are (λ k. not (eqb (code c k) (code d k))) (λ v. code d v ≢ code c v) (λ v e. ap not (ne-eqb (code c v) (code d v) (λ p. e (sym p)))) n n 0 (omega arith) l r a
+    those-are (differAt c d) (λ v. code d v ≢ code c v) (λ v e. ap not (ne-eqb (code c v) (code d v) (λ p. e (sym p)))) n n 0 (omega arith) l r a
     (λ j x y g. ap not (eq-eqb (code c j) (code d j) (h j y g)))

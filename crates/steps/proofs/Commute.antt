@@ -11,7 +11,7 @@ use lib.ListN.{length, length-map}
 use borrow.Author.Tests.{eq-eqb, ne-eqb}
 use Rattle.bits.proofs.Below.{those-cong}
 use Rattle.cube.specs.declared.Cube.{Cube}
-use Rattle.cube.specs.Cubes.{code, put, one, apart}
+use Rattle.cube.specs.Cubes.{code, put, one, differAt, apart}
 use Rattle.cube.proofs.Codes.{code-lt}
 use Rattle.cube.proofs.Apart.{apart-one, Two, apart-two, two-swap}
 use Rattle.orders.specs.Codes.{third}
@@ -51,7 +51,7 @@ module _ (σ : ℕ → ℕ) (s : Permutes σ) (u : ℕ) where
   pub apart-moved : (n : ℕ) (c d : Cube) → apart n (moved σ u c) (moved σ u d) ≡ apart n c d
   unfolding apart
   apart-moved n c d =
-      those-cong (λ k. not (eqb (code (moved σ u c) k) (code (moved σ u d) k))) (λ k. not (eqb (code c k) (code d k))) (λ k. ap not (same-code c d k)) n 0
+      those-cong (differAt (moved σ u c) (moved σ u d)) (differAt c d) (λ k. ap not (same-code c d k)) n 0
 
   -- and their thirds are moved
   pub third-moved : (c d : Cube) (v : ℕ) → code d v ≢ code c v → thirdAt (moved σ u c) (moved σ u d) v ≡ moved σ u (thirdAt c d v)

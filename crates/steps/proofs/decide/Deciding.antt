@@ -72,6 +72,12 @@ module _ (count i j : ℕ) where
         two-tests count i j (λ t u. _≡_ {A = ℕ} 0 (cond t (cond u 11 0) 10) → m ≡ cond t (cond u (refuse (stepRefusal 11)) m) (refuse (stepRefusal 10)))
         (λ u h q. absurd (omega arith)) (λ h f q. absurd (omega arith)) (λ two q. refl) (sym z ∙ e)
 
+-- a step that is refused for its places, whatever is decided of its cubes
+pub places-refused : (count i j p : ℕ) → p ≡ placesNumber count i j → (m : Move Cube) → (p ≡ 0 → ⊥)
+    → (c : Change) → c ≡ change-is.Refuse (stepRefusal p) → moveOf c ≡ atTwoPlaces count i j m
+unfolding moveOf
+places-refused count i j p e m ne c ec = ap moveOf ec ∙ number-refused count i j p e m ne
+
 -- ---- the set of the variables in which two good cubes differ
 
 -- a set with one member
@@ -145,18 +151,6 @@ third-put c d x v u l e ne f =
 -- ---- the decisions at two places
 
 module _ (n count i j p : ℕ) (a b : Cube) (e : p ≡ placesNumber count i j) where
-  pub drop-places : (p ≡ 0 → ⊥) → (c : Change) → c ≡ change-is.Refuse (stepRefusal p) → moveOf c ≡ dropMove n count i j a b
-  unfolding moveOf dropMove
-  drop-places ne c ec = ap moveOf ec ∙ number-refused count i j p e (dropped (apart n a b)) ne
-
-  pub join-places : (p ≡ 0 → ⊥) → (c : Change) → c ≡ change-is.Refuse (stepRefusal p) → moveOf c ≡ joinMove n count i j a b
-  unfolding moveOf joinMove
-  join-places ne c ec = ap moveOf ec ∙ number-refused count i j p e (joined a b (apart n a b)) ne
-
-  pub turn-places : (v : ℕ) → (p ≡ 0 → ⊥) → (c : Change) → c ≡ change-is.Refuse (stepRefusal p) → moveOf c ≡ turnMove n count v i j a b
-  unfolding moveOf turnMove
-  turn-places v ne c ec = ap moveOf ec ∙ number-refused count i j p e (turned a b v (apart n a b)) ne
-
   module _ (z : p ≡ 0) (g : Good n a) (h : Good n b) (s : ℕ) (es : s ≡ differing a b) where
     passed : {m r : Move Cube} → r ≡ m → r ≡ atTwoPlaces count i j m
     passed {m} {r} f = f ∙ number-passed count i j p e m z

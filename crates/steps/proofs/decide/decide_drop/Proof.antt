@@ -1,7 +1,8 @@
 -- `steps::decide::decide_drop` meets its contract.
 -- Assumes nothing.
 use borrow.Author.Needs.{needs}
-use Rattle.steps.proofs.decide.Deciding.{drop-places, drop-unlike, drop-equal}
+use Rattle.steps.specs.Steps.{dropMove}
+use Rattle.steps.proofs.decide.Deciding.{places-refused, drop-unlike, drop-equal}
 use Rattle.steps.proofs.decide.decide_drop.Statement.{statement}
 use Rattle.steps.proofs.decide.decide_drop.Tie as tie
 
@@ -12,7 +13,8 @@ refuse-requires : tie.Need-refuse-requires
 refuse-requires c κs = search needs
 
 returns : tie.Need-returns
-returns c = search drop-places
+unfolding dropMove
+returns c = search places-refused
 
 differing-requires : tie.Need-differing-requires
 differing-requires c κs = search needs

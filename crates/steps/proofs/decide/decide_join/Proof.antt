@@ -1,7 +1,8 @@
 -- `steps::decide::decide_join` meets its contract.
 -- Assumes nothing.
 use borrow.Author.Needs.{needs}
-use Rattle.steps.proofs.decide.Deciding.{join-places, join-unlike, join-third}
+use Rattle.steps.specs.Steps.{joinMove}
+use Rattle.steps.proofs.decide.Deciding.{places-refused, join-unlike, join-third}
 use Rattle.steps.proofs.decide.decide_join.Statement.{statement}
 use Rattle.steps.proofs.decide.decide_join.Tie as tie
 
@@ -12,7 +13,8 @@ refuse-requires : tie.Need-refuse-requires
 refuse-requires c κs = search needs
 
 returns : tie.Need-returns
-returns c = search join-places
+unfolding joinMove
+returns c = search places-refused
 
 differing-requires : tie.Need-differing-requires
 differing-requires c κs = search needs

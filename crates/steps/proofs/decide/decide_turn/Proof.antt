@@ -2,7 +2,8 @@
 -- Assumes nothing.
 use mathlib.Core.Path.{refl}
 use borrow.Author.Needs.{needs}
-use Rattle.steps.proofs.decide.Deciding.{turn-places, turn-unlike, turn-elsewhere, turn-both}
+use Rattle.steps.specs.Steps.{turnMove}
+use Rattle.steps.proofs.decide.Deciding.{places-refused, turn-unlike, turn-elsewhere, turn-both}
 use Rattle.steps.proofs.decide.decide_turn.Statement.{statement}
 use Rattle.steps.proofs.decide.decide_turn.Tie as tie
 
@@ -13,7 +14,8 @@ refuse-requires : tie.Need-refuse-requires
 refuse-requires c κs = search needs
 
 returns : tie.Need-returns
-returns c = search turn-places
+unfolding turnMove
+returns c = search places-refused
 
 differing-requires : tie.Need-differing-requires
 differing-requires c κs = search needs
