@@ -3,7 +3,7 @@
 use mathlib.Core.Path.{_≡_, refl, ap₂}
 use mathlib.Core.Logic.{_≢_}
 use mathlib.Core.Bool.{Bool, true, false, not, cond, _&&_, _||_}
-use Prim.Native.Nat.{ℕ, _<_}
+use Prim.Native.Nat.{ℕ, _-_, _<_}
 use native.Mathlib.Omega.{arith}
 use lib.Dec.{eqb, ltb}
 use borrow.Author.Tests.{eqb-true, eqb-false, ne-eqb, ltb-true, not-true}
@@ -51,6 +51,11 @@ third-not-second x y hx hy d = eqb-false _ _ (not-true _ (two-codes (λ x y. not
 pub third-back : (x y : ℕ) → x < 3 → y < 3 → y ≢ x → third (third x y) y ≡ x
 unfolding third
 third-back x y hx hy d = eqb-true _ _ (two-codes (λ x y. eqb (third (third x y) y) x) refl x y hx hy d)
+
+-- the three add up to 3, so it is 3 less both
+pub third-less-both : (x y : ℕ) → x < 3 → y < 3 → y ≢ x → third x y ≡ 3 - x - y
+unfolding third
+third-less-both x y hx hy d = eqb-true _ _ (two-codes (λ x y. eqb (third x y) (3 - x - y)) refl x y hx hy d)
 
 pub third-of-codes : (x y : ℕ) → x < 3 → y < 3 → y ≢ x → thirdOf x y ≡ third x y
 unfolding third thirdOf

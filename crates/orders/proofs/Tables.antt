@@ -1,19 +1,15 @@
--- The tables of the codes and of the orders: what stands past their ends, and that the table of thirds is the definition, by one computed test.
+-- The tables of the orders: what stands past their ends.
 -- Assumes nothing.
 use mathlib.Core.Path.{_≡_, refl, sym, ap}
 use mathlib.Core.Bool.{Bool, true, _&&_}
 use mathlib.Core.List.{List, [], _∷_}
-use Prim.Native.Nat.{ℕ, zero, suc, _+_, _*_, _/_, _%_, _^_, _≤_, _<_}
+use Prim.Native.Nat.{ℕ, zero, suc, _≤_}
 use native.Mathlib.Nat.{le-trans}
-use borrow.Author.Tests.{eqb-true, leb-true, lt-ltb, le-ltb}
-use lib.Dec.{eqb, leb}
+use borrow.Author.Tests.{leb-true}
+use lib.Dec.{leb}
 use lib.ListN.{length, getD, List·getD-eq-default}
-use Rattle.bits.specs.Below.{allBelow}
-use Rattle.bits.proofs.Bools.{both-true, all-at₂}
-use Rattle.orders.specs.Codes.{third, thirdOf}
+use Rattle.bits.proofs.Bools.{both-true}
 use Rattle.orders.specs.Orders.{codesAfter, codeAfter, followings, follow, inverses, inverse}
-
--- ---- past the end of a table
 
 -- each row has at most w entries
 narrow : ℕ → List (List ℕ) → Bool
@@ -50,25 +46,3 @@ module _ (p q : ℕ) where
 pub inverse-no-order : (o : ℕ) → 6 ≤ o → 0 ≡ inverse o
 unfolding inverse
 inverse-no-order o h = sym (List·getD-eq-default inverses 0 {n = o} h)
-
--- ---- the third of two codes
-
--- two bits an entry, row x, column y
-abbrev pub thirdIn : ℕ → ℕ → ℕ → ℕ
-thirdIn table x y = table / 2 ^ (2 * (3 * x + y)) % 4
-
--- the table is the definition, computed over all codes
-abbrev pub thirdsTest : ℕ → Bool
-thirdsTest table = allBelow 3 (λ x. allBelow 3 (λ y. eqb (thirdIn table x y) (thirdOf x y)))
-
-module _ (x y : ℕ) where
-  pub third-in : (table : ℕ) → thirdsTest table ≡ true → x < 3 → y < 3 → thirdIn table x y ≡ thirdOf x y
-  third-in table t hx hy = eqb-true _ _ (all-at₂ 3 3 (λ x y. eqb (thirdIn table x y) (thirdOf x y)) t x y hx hy)
-
-  pub third-no-first : 3 ≤ x → 0 ≡ thirdOf x y
-  unfolding thirdOf
-  third-no-first h = simp (le-ltb x 3 h)
-
-  pub third-no-second : x < 3 → 3 ≤ y → 0 ≡ thirdOf x y
-  unfolding thirdOf
-  third-no-second hx h = simp (lt-ltb x 3 hx, le-ltb y 3 h)

@@ -1,4 +1,4 @@
-// Literal codes by themselves: the third of two codes, and the six orders of the codes 0, 1, 2. Each rule is a small constant table.
+// Literal codes by themselves: the third of two codes, by arithmetic, and the six orders of the codes 0, 1, 2, each rule of theirs a small constant table.
 ghost use mathlib.Core.Path.{_≡_};
 ghost use Rattle.orders.specs.Codes.{thirdOf};
 ghost use Rattle.orders.specs.Orders.{codeAfter, follow, inverse, letterOrder};
@@ -8,9 +8,8 @@ const CODES: u8 = 3;
 
 const ORDERS: u8 = 6;
 
-// Row x, column y: the remaining one of the codes 0, 1, 2. Two bits an entry, from the lowest on; the rows are - 2 1, 2 - 0 and 1 0 -, with 0
-// where a code meets itself. As one number the table stays in the code, where an array would be laid out in memory at each call.
-const THIRD: u32 = 0b000001_000010_011000;
+// What the three codes add up to.
+const CODE_SUM: u8 = 0 + 1 + 2;
 
 // Row o: what the order o makes of 0, 1 and 2.
 const IMAGE: [[u8; 3]; 6] = [
@@ -35,7 +34,7 @@ const FOLLOW: [[u8; 6]; 6] = [
 // The order that takes each order back.
 const INVERSE: [u8; 6] = [0, 1, 2, 4, 3, 5];
 
-// The third of two different codes; 0 where they are equal, or one of them is no code.
+// The third of two different codes: 3 less both. 0 where they are equal, or one of them is no code.
 pub fn third(x: u8, y: u8) -> u8
     ensures { λ r. ⌜ r ≡ thirdOf x y ⌝ }
 {
@@ -45,9 +44,9 @@ pub fn third(x: u8, y: u8) -> u8
     if CODES <= y {
         return 0;
     }
-    let row = 3 * (x as u32);
-    let column = y as u32;
-    ((THIRD >> (2 * (row + column))) % 4) as u8
+    // What both are taken from: 3, or 0 where they are equal, and then 0 of each. (To return 0 there instead is a branch more in each join and turn.)
+    let all = if y == x { 0 } else { CODE_SUM };
+    all - (x & all) - (y & all)
 }
 
 // What the order o makes of the code x; 0 where there is no such order or code.

@@ -1,38 +1,56 @@
--- `orders::third` meets its contract: the table is the definition, by one computed test.
+-- `orders::third` meets its contract: for two different codes the remaining one is 3 less both, which is one law.
 -- Assumes nothing.
-use mathlib.Core.Path.{refl}
-use borrow.Author.Needs.{needs}
-use Rattle.orders.specs.Codes.{third, thirdOf}
-use Rattle.orders.proofs.Tables.{third-no-first, third-no-second, third-in}
+use mathlib.Core.Path.{_≡_, refl, ap, _∙_}
+use mathlib.Core.Logic.{_≢_, inl, inr}
+use Prim.Native.Nat.{ℕ, _-_, _≤_, _<_}
+use native.Mathlib.Omega.{arith}
+use lib.Bits.{bitAnd, and-le-r}
+use lib.Dec.{eqb}
+use borrow.Author.Tests.{lt-ltb, le-ltb, eq-eqb, eqb-true}
+use Rattle.bits.proofs.Bools.{all-at}
+use Rattle.orders.specs.Codes.{thirdOf}
+use Rattle.orders.proofs.Codes.{third-of-codes, third-less-both}
 use Rattle.orders.proofs.third.Statement.{statement}
 use Rattle.orders.proofs.third.Tie as tie
 
+-- all the bits of a code are bits of 3
+whole : (x all : ℕ) → x < 3 → all ≡ 3 → bitAnd x all ≡ x
+whole x all h e = ap (bitAnd x) e ∙ eqb-true _ _ (all-at 3 (λ x. eqb (bitAnd x 3) x) refl x h)
+
+module _ (x y all : ℕ) (hx : x < 3) (hy : y < 3) where
+  -- two different codes leave 3 less both, and 3 has room for both ..
+  left-of-different : y ≢ x → all ≡ 3 → all - bitAnd x all - bitAnd y all ≡ thirdOf x y
+  left-of-different d e =
+      let less : thirdOf x y ≡ 3 - x - y = third-of-codes x y hx hy d ∙ third-less-both x y hx hy d in
+      omega (arith, whole x all hx e, whole y all hy e)
+
+  room-of-different : y ≢ x → all ≡ 3 → bitAnd y all ≤ all - bitAnd x all
+  room-of-different d e = omega (arith, whole x all hx e, whole y all hy e)
+
+  -- .. and equal ones leave nothing, whatever is taken from nothing
+  left-of-equal : (a b : ℕ) → y ≡ x → all ≡ 0 → all - a - b ≡ thirdOf x y
+  unfolding thirdOf
+  left-of-equal a b e z = let none : 0 ≡ thirdOf x y = simp (lt-ltb x 3 hx, lt-ltb y 3 hy, eq-eqb y x e) in omega arith
+
+  room-of-equal : (a : ℕ) → all ≡ 0 → bitAnd y all ≤ all - a
+  room-of-equal a z = omega (arith, and-le-r y all)
+
 returns : tie.Need-returns
-returns c = search third-no-first
+unfolding thirdOf
+returns c = search le-ltb
 
 returns-2 : tie.Need-returns-2
-returns-2 c = search third-no-second
-
-mul-row : tie.Need-mul-row
-mul-row c = search needs
-
-add-result : tie.Need-add-result
-add-result c = search needs
-
-mul-result : tie.Need-mul-result
-mul-result c = search needs
-
-shr-result : tie.Need-shr-result
-shr-result c = search needs
-
-cast-result : tie.Need-cast-result
-cast-result c = search needs
+unfolding thirdOf
+returns-2 c = search (lt-ltb, le-ltb)
 
 returns-3 : tie.Need-returns-3
-unfolding thirdOf third
-returns-3 c = third-in _ _ _ refl (search needs) (search needs)
+returns-3 c = elim (c .before .if3 .came) [ inl h ↦ search left-of-equal | inr h ↦ search left-of-different ]
+
+sub-result : tie.Need-sub-result
+sub-result c = search and-le-r
+
+sub-result-2 : tie.Need-sub-result-2
+sub-result-2 c = elim (c .before .if3 .came) [ inl h ↦ search room-of-equal | inr h ↦ search room-of-different ]
 
 pub third-spec : {M : Type 1} → statement M
-third-spec =
-    tie.close
-    (tie.spec returns returns-2 mul-row add-result mul-result shr-result cast-result returns-3)
+third-spec = tie.close (tie.spec returns returns-2 sub-result sub-result-2 returns-3)
