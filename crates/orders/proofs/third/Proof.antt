@@ -1,13 +1,11 @@
 -- `orders::third` meets its contract: for two different codes the remaining one is 3 less both, which is one law.
 -- Assumes nothing.
-use mathlib.Core.Path.{_≡_, refl, ap, _∙_}
+use mathlib.Core.Path.{_≡_, ap, _∙_}
 use mathlib.Core.Logic.{_≢_, inl, inr}
-use Prim.Native.Nat.{ℕ, _-_, _≤_, _<_}
+use Prim.Native.Nat.{ℕ, _-_, _%_, _≤_, _<_}
 use native.Mathlib.Omega.{arith}
-use lib.Bits.{bitAnd, and-le-r}
-use lib.Dec.{eqb}
-use borrow.Author.Tests.{lt-ltb, le-ltb, eq-eqb, eqb-true}
-use Rattle.bits.proofs.Bools.{all-at}
+use lib.Bits.{bitAnd, and-le-r, and-mask}
+use borrow.Author.Tests.{lt-ltb, le-ltb, eq-eqb}
 use Rattle.orders.specs.Codes.{thirdOf}
 use Rattle.orders.proofs.Codes.{third-of-codes, third-less-both}
 use Rattle.orders.proofs.third.Statement.{statement}
@@ -15,7 +13,7 @@ use Rattle.orders.proofs.third.Tie as tie
 
 -- all the bits of a code are bits of 3
 whole : (x all : ℕ) → x < 3 → all ≡ 3 → bitAnd x all ≡ x
-whole x all h e = ap (bitAnd x) e ∙ eqb-true _ _ (all-at 3 (λ x. eqb (bitAnd x 3) x) refl x h)
+whole x all h e = let low : bitAnd x 3 ≡ x % 4 = and-mask x 2 in omega (arith, ap (bitAnd x) e)
 
 module _ (x y all : ℕ) (hx : x < 3) (hy : y < 3) where
   -- two different codes leave 3 less both, and 3 has room for both ..
