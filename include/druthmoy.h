@@ -147,7 +147,9 @@ void dm_write_form(uint64_t n,
                    uint8_t *out, size_t out_length,
                    uint64_t *answer);
 
-/* The polarity with the fewest products, the smallest on a tie. answer[2]: the polarity; answer[3]: its products.
+/* The polarity whose form costs least: a list costs its number of products, less one if at least one of them has no
+ * literal. Of several such the one with the fewest products, and of those the smallest. answer[2]: the polarity;
+ * answer[3]: the number of products of its form.
  * Refuses, in this order: 1, 14. */
 void dm_best_polarity(uint64_t n,
                       const uint8_t *vector, size_t vector_length,
@@ -165,9 +167,10 @@ void dm_run(uint64_t n,
             uint64_t *answer);
 
 /* Settles a map: of the script's result, the given list and, where n is at most 8, the form of the best polarity, the
- * one with the fewest products is burned; ties go to the earlier.
- * answer[2]: given; answer[3]: peak; answer[4]: the script's result; answer[5], answer[6]: the best polarity and its
- * products, both UINT64_MAX where n is above 8; answer[7]: burned.
+ * one that costs least is burned, of several such the one with the fewest products, and of those the earliest. A list
+ * costs as dm_best_polarity says.
+ * All that is answered are numbers of products. answer[2]: given; answer[3]: peak; answer[4]: the script's result;
+ * answer[5], answer[6]: the best polarity and its products, both UINT64_MAX where n is above 8; answer[7]: burned.
  * Accepted: the burned list fills the front of out, every other byte of out is zero, and every byte of work is zero.
  * Refused with 1 to 9: work and out are as they were. Refused at a step, with 10, 11, 13 or 16 to 19: every byte of work
  * is zero, and out is as it was.

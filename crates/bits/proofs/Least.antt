@@ -1,6 +1,6 @@
--- Laws of the least of many, for any f: over two ranges side by side, that it is the only one, and that `leastBelow` is it.
+-- Laws of the least of many, for any f: over two ranges side by side, that it is the only one, and that `firstBelow` is it where f decides the order.
 -- Assumes nothing.
-use mathlib.Core.Path.{_≡_, refl, sym, ap, subst}
+use mathlib.Core.Path.{_≡_, refl, sym, ap, _∙_, subst}
 use mathlib.Core.Logic.{⊎-elim}
 use mathlib.Core.Bool.{Bool, cond}
 use Prim.Native.Nat.{ℕ, zero, suc, _+_, _<_, _≤_}
@@ -8,8 +8,20 @@ use native.Mathlib.Nat.{le-refl, le-antisymm}
 use native.Mathlib.Numerals.{add-one}
 use native.Mathlib.Omega.{arith}
 use borrow.Author.Tests.{lt-ltb, le-ltb}
-use Rattle.bits.specs.Below.{leastBelow, LeastIn, Least}
+use lib.Dec.{ltb}
+use Rattle.bits.specs.Below.{firstBelow}
 use Rattle.bits.proofs.Bools.{below-or}
+
+-- of the numbers from a to b, p is the one at which f is least, and of several such the smallest
+pub record LeastIn (f : ℕ → ℕ) (a b p : ℕ) : Type 0 where
+  pub from : a ≤ p
+  pub inside : p < b
+  pub fewest : (q : ℕ) → a ≤ q → q < b → f p ≤ f q
+  pub smallest : (q : ℕ) → a ≤ q → q < p → f p < f q
+
+-- of the numbers below m
+abbrev pub Least : (ℕ → ℕ) → ℕ → ℕ → Type 0
+Least f m p = LeastIn f 0 m p
 
 module _ (f : ℕ → ℕ) where
   pub in-one : (a b : ℕ) → b ≡ a + 1 → LeastIn f a b a
@@ -45,30 +57,27 @@ module _ (f : ℕ → ℕ) where
   pub in-unique : (a b p q : ℕ) → LeastIn f a b p → LeastIn f a b q → p ≡ q
   in-unique a b p q P Q = le-antisymm (in-at-most a b p q P Q) (in-at-most a b q p Q P)
 
-  -- ---- below a number
+  -- ---- in an order that f decides
 
-  least-lower : (m : ℕ) → f m < f (leastBelow f m) → leastBelow f (suc m) ≡ m
-  unfolding leastBelow
-  least-lower m l = ap (λ (b : Bool). cond b m (leastBelow f m)) (lt-ltb (f m) (f (leastBelow f m)) l)
+  module _ (before : ℕ → ℕ → Bool) (decides : (q p : ℕ) → before q p ≡ ltb (f q) (f p)) where
+    first-later : (m : ℕ) → f m < f (firstBelow before m) → firstBelow before (suc m) ≡ m
+    unfolding firstBelow
+    first-later m l = ap (λ (b : Bool). cond b m (firstBelow before m)) (decides m (firstBelow before m) ∙ lt-ltb _ _ l)
 
-  least-kept : (m : ℕ) → f (leastBelow f m) ≤ f m → leastBelow f (suc m) ≡ leastBelow f m
-  unfolding leastBelow
-  least-kept m l = ap (λ (b : Bool). cond b m (leastBelow f m)) (le-ltb (f m) (f (leastBelow f m)) l)
+    first-kept : (m : ℕ) → f (firstBelow before m) ≤ f m → firstBelow before (suc m) ≡ firstBelow before m
+    unfolding firstBelow
+    first-kept m l = ap (λ (b : Bool). cond b m (firstBelow before m)) (decides m (firstBelow before m) ∙ le-ltb _ _ l)
 
-  least-one : leastBelow f 1 ≡ 0
-  unfolding leastBelow
-  least-one = least-kept 0 (le-refl (f 0))
+    first-one : firstBelow before 1 ≡ 0
+    unfolding firstBelow
+    first-one = first-kept 0 (le-refl (f 0))
 
-  pub least-is : (m : ℕ) → Least f (suc m) (leastBelow f (suc m))
-  least-is zero = subst (Least f 1) (sym least-one) (in-one 0 1 refl)
-  least-is (suc m) =
-      let P : Least f (suc m) (leastBelow f (suc m)) = least-is m in
-      let Q : LeastIn f (suc m) (suc (suc m)) (suc m) = in-one (suc m) (suc (suc m)) (sym (add-one (suc m))) in
-      ⊎-elim
-      (λ l. subst (Least f (suc (suc m))) (sym (least-lower (suc m) l)) (in-upper 0 (suc m) (suc (suc m)) (leastBelow f (suc m)) (suc m) P Q l))
-      (λ l. subst (Least f (suc (suc m))) (sym (least-kept (suc m) l)) (in-lower 0 (suc m) (suc (suc m)) (leastBelow f (suc m)) (suc m) P Q l))
-      (below-or (f (suc m)) (f (leastBelow f (suc m))))
-
-  pub in-all : (m p : ℕ) → Least f m p → p ≡ leastBelow f m
-  in-all zero p P = absurd (omega (arith, P .inside))
-  in-all (suc m) p P = in-unique 0 (suc m) p (leastBelow f (suc m)) P (least-is m)
+    pub first-is : (m : ℕ) → Least f (suc m) (firstBelow before (suc m))
+    first-is zero = subst (Least f 1) (sym first-one) (in-one 0 1 refl)
+    first-is (suc m) =
+        let P : Least f (suc m) (firstBelow before (suc m)) = first-is m in
+        let Q : LeastIn f (suc m) (suc (suc m)) (suc m) = in-one (suc m) (suc (suc m)) (sym (add-one (suc m))) in
+        ⊎-elim
+        (λ l. subst (Least f (suc (suc m))) (sym (first-later (suc m) l)) (in-upper 0 (suc m) (suc (suc m)) (firstBelow before (suc m)) (suc m) P Q l))
+        (λ l. subst (Least f (suc (suc m))) (sym (first-kept (suc m) l)) (in-lower 0 (suc m) (suc (suc m)) (firstBelow before (suc m)) (suc m) P Q l))
+        (below-or (f (suc m)) (f (firstBelow before (suc m))))

@@ -1,9 +1,9 @@
 -- Tests, sums, lists and a choice over the numbers below a bound.
 -- Assumes nothing.
+use mathlib.Core.Path.{_≡_}
 use Prim.Native.Nat.{ℕ, zero, suc, _+_, _≤_, _<_}
 use mathlib.Core.Bool.{Bool, true, cond, _&&_}
 use mathlib.Core.List.{List, [], _∷_}
-use lib.Dec.{ltb}
 
 -- the test passes at each number below n
 abbrev pub allBelow : ℕ → (ℕ → Bool) → Bool
@@ -25,18 +25,14 @@ unfoldable pub listBelow : {A : Type 0} → ℕ → (ℕ → A) → List A
 listBelow zero f = []
 listBelow (suc m) f = f 0 ∷ listBelow m (λ k. f (suc k))
 
--- of the numbers below m the one at which f is least, and of several such the smallest
-unfoldable pub leastBelow : (ℕ → ℕ) → ℕ → ℕ
-leastBelow f zero = 0
-leastBelow f (suc m) = cond (ltb (f m) (f (leastBelow f m))) m (leastBelow f m)
+-- of the numbers below m the one that no other comes before, and of several such the smallest; `before q p` says that q comes before p
+unfoldable pub firstBelow : (ℕ → ℕ → Bool) → ℕ → ℕ
+firstBelow before zero = 0
+firstBelow before (suc m) = cond (before m (firstBelow before m)) m (firstBelow before m)
 
--- of the numbers from a to b, p is the one at which f is least, and of several such the smallest
-pub record LeastIn (f : ℕ → ℕ) (a b p : ℕ) : Type 0 where
-  pub from : a ≤ p
-  pub inside : p < b
-  pub fewest : (q : ℕ) → a ≤ q → q < b → f p ≤ f q
-  pub smallest : (q : ℕ) → a ≤ q → q < p → f p < f q
-
--- of the numbers below m, p is the one at which f is least, and of several such the smallest
-abbrev pub Least : (ℕ → ℕ) → ℕ → ℕ → Type 0
-Least f m p = LeastIn f 0 m p
+-- of the numbers below m, p has the least f, of those with as little the least g, and of those with as little it is the smallest
+pub record LeastThen (f g : ℕ → ℕ) (m p : ℕ) : Type 0 where
+  pub inside : p < m
+  pub least : (q : ℕ) → q < m → f p ≤ f q
+  pub then-least : (q : ℕ) → q < m → f q ≡ f p → g p ≤ g q
+  pub then-smallest : (q : ℕ) → q < m → f q ≡ f p → g q ≡ g p → p ≤ q

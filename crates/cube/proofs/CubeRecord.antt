@@ -6,7 +6,7 @@ use mathlib.Core.List.{List, [], _∷_}
 use Prim.Native.Nat.{ℕ, _-_, _+_, _*_, _/_, _≤_, _<_}
 use native.Mathlib.Nat.{add-zero, zero-add}
 use borrow.Rule.Slice.PartMut.{putMid}
-use lib.Dec.{lit<}
+use lib.Dec.{eqb, lit<}
 use lib.ListN.{length, getD, take, drop}
 use lib.Seq.{sets}
 use Rattle.records.specs.Numbers.{bytesOf, numberAt}
@@ -15,7 +15,7 @@ use Rattle.records.specs.Records.{flat, records, listOf, stored}
 use Rattle.records.proofs.Fields.{Fields, positive, fields-lawful, fields-bytes, fields-in, stored-both}
 use Rattle.records.proofs.Records.{Lawful, list-at, list-past, stored-part, stored-out}
 use Rattle.cube.specs.declared.Cube.{Cube}
-use Rattle.cube.specs.Cubes.{one}
+use Rattle.cube.specs.Cubes.{one, bare}
 use Rattle.cube.specs.CubeRecord.{cubeFields, cubeOf, cubeRecord, maskWidth, cubes, cubesOf, recordWidth}
 
 -- ---- over the bytes of a mask
@@ -67,8 +67,15 @@ module _ (b : List ℕ) (i : ℕ) where
       → record { seen = x; value = y } ≡ getD (cubesOf b) i one
   masks-in = record-masks maskWidth refl (lit< tt) b i
 
+  -- whether it has no literal, by its first mask
+  pub seen-in : i < length b / recordWidth → (x : ℕ) → x ≡ numberAt maskWidth b (recordWidth * i) → eqb x 0 ≡ bare (getD (cubesOf b) i one)
+  seen-in h x e = ap bare (masks-in h x (numberAt maskWidth b (recordWidth * i + maskWidth)) e refl)
+
   pub cube-past : length b / recordWidth ≤ i → one ≡ getD (cubesOf b) i one
   cube-past h = sym (list-past cubes b i one h)
+
+  pub bare-past : length b / recordWidth ≤ i → true ≡ bare (getD (cubesOf b) i one)
+  bare-past h = ap bare (cube-past h)
 
   -- a record stored over its part of the buffer
   pub cube-stored : (c : Cube) → i < length b / recordWidth

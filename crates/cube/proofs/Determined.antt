@@ -35,6 +35,8 @@ use Rattle.cube.proofs.list.capacity.Kinds as capacity-kinds
 use Rattle.cube.proofs.list.capacity.Reads as capacity-reads
 use Rattle.cube.proofs.record.record_at.Kinds as record-at-kinds
 use Rattle.cube.proofs.record.record_at.Reads as record-at-reads
+use Rattle.cube.proofs.record.bare_at.Kinds as bare-at-kinds
+use Rattle.cube.proofs.record.bare_at.Reads as bare-at-reads
 use Rattle.cube.proofs.record.cube_at.Kinds as cube-at-kinds
 use Rattle.cube.proofs.record.cube_at.Reads as cube-at-reads
 use Rattle.cube.proofs.record.put_record.Kinds as put-record-kinds
@@ -95,6 +97,9 @@ capacity-determined κs a z z′ ws ws′ p q = (same p q, refl)
 
 pub record-at-determined : Determined 1 record-at-kinds.ps record-at-kinds.r record-at-reads.Learnt
 record-at-determined κs a z z′ ws ws′ p q = (same p q, refl)
+
+pub bare-at-determined : Determined 1 bare-at-kinds.ps bare-at-kinds.r bare-at-reads.Learnt
+bare-at-determined κs a z z′ ws ws′ p q = (same p q, refl)
 
 pub cube-at-determined : Determined 1 cube-at-kinds.ps cube-at-kinds.r cube-at-reads.Learnt
 cube-at-determined κs a z z′ ws ws′ p q = (same p q, refl)

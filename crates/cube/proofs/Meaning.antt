@@ -6,15 +6,17 @@ use mathlib.Core.List.{List, []}
 use Prim.Native.Nat.{ℕ, _*_, _^_, _<_, zero-le}
 use lib.Bits.{bitAnd}
 use lib.Count.{ones}
-use lib.Dec.{eqb}
+use borrow.Author.Tests.{eqb-true}
+use lib.Dec.{eqb, lit<}
 use lib.ListN.{length, getD}
 use Rattle.bits.specs.Bits.{bit}
 use Rattle.bits.specs.Sums.{sum, oneIf, tally}
+use Rattle.bits.proofs.Bits.{bit-high}
 use Rattle.bits.proofs.Bools.{all-at, all-true}
 use Rattle.bits.proofs.Sums.{tally-sum}
 use Rattle.records.specs.Records.{flat, records, image}
 use Rattle.cube.specs.declared.Cube.{Cube}
-use Rattle.cube.specs.Cubes.{code, Good, met, holds, one, differingNumber, differing}
+use Rattle.cube.specs.Cubes.{codeOf, code, Good, met, holds, one, bare, differingNumber, differing}
 use Rattle.cube.specs.Lists.{cubes, recordWidth, trues, listValue}
 use Rattle.cube.proofs.Codes.{code-above, one-good, cube-ext}
 use Rattle.cube.proofs.Masks.{holds-mask, apart-count}
@@ -52,6 +54,14 @@ product-by-mask = holds-mask
 -- Two good cubes with equal codes are equal.
 pub equal-codes : (n : ℕ) (c d : Cube) → Good n c → Good n d → ((k : ℕ) → k < n → code c k ≡ code d k) → c ≡ d
 equal-codes = cube-ext
+
+-- A product that has no literal has the code 2, absent, at every variable; a good cube that has it at each of the n variables has no literal.
+pub bare-absent : (c : Cube) → bare c ≡ true → (k : ℕ) → code c k ≡ 2
+unfolding code
+bare-absent c e k = ap (λ (s : ℕ). codeOf (bit s k) (bit (c .value) k)) (eqb-true (c .seen) 0 e) ∙ ap (λ (b : ℕ). codeOf b (bit (c .value) k)) (bit-high 0 0 k (lit< tt) zero-le)
+
+pub absent-bare : (n : ℕ) (c : Cube) → Good n c → ((k : ℕ) → k < n → code c k ≡ 2) → bare c ≡ true
+absent-bare n c g h = ap bare (equal-codes n c one g (one-good n) (λ k l. h k l ∙ sym (bare-absent one refl k)))
 
 -- The number of variables in which two good cubes differ is the count of ones of the set.
 pub number-differing : (n : ℕ) (c d : Cube) → Good n c → Good n d → differingNumber n c d ≡ ones (differing c d)

@@ -43,6 +43,10 @@ withCode c v x = cond (ltb v maskBits) (put c v x) c
 abbrev pub one : Cube
 one = record { seen = 0; value = 0 }
 
+-- a product has no literal: "Seen is set where a literal stands"
+abbrev pub bare : Cube → Bool
+bare c = eqb (c .seen) 0
+
 -- "A value bit outside seen, or a seen bit at or above the variable count n, makes the record bad"
 unfoldable pub good : ℕ → Cube → Bool
 good n c = within (c .value) (c .seen) && ltb (c .seen) (2 ^ n)

@@ -2,6 +2,7 @@
 use crate::Cube;
 use crate::record::MASK_WIDTH;
 pub use crate::record::RECORD_WIDTH;
+pub use crate::record::bare_at;
 pub use crate::record::cube_at;
 use crate::record::mask_at;
 pub use crate::record::put_cube;

@@ -7,7 +7,7 @@ ghost use lib.ListN.{length, getD};
 ghost use lib.Seq.{sets};
 ghost use Rattle.records.specs.Numbers.{numberAt};
 ghost use Rattle.records.specs.Records.{stored};
-ghost use Rattle.cube.specs.Cubes.{one};
+ghost use Rattle.cube.specs.Cubes.{one, bare};
 ghost use Rattle.cube.specs.CubeRecord.{maskWidth, recordWidth, cubes, cubesOf};
 
 // Bytes of a mask, and of a record.
@@ -63,6 +63,16 @@ pub fn cube_at(list: &[u8], i: usize) -> Cube
         return Cube::ONE;
     }
     record_at(list, i)
+}
+
+// Whether the product at place i of a list has no literal; past its end none has one.
+pub fn bare_at(list: &[u8], i: usize) -> bool
+    ensures { λ r. ⌜ r ≡ bare (getD (cubesOf (now (list .entry))) i one) ⌝ }
+{
+    if list.len() / RECORD_WIDTH <= i {
+        return true;
+    }
+    mask_at(list, RECORD_WIDTH * i) == 0
 }
 
 // The cube stored at a place that the list has.

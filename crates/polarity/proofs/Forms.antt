@@ -4,7 +4,7 @@ use mathlib.Core.Path.{_≡_, refl, sym, ap, _∙_, subst}
 use mathlib.Core.Bool.{Bool, true, false, cond, Bool·beq}
 use mathlib.Core.List.{_∷_, map}
 use Prim.Native.Nat.{ℕ, zero, suc, _+_, _-_, _%_, _^_, _<_, _≤_, min}
-use native.Mathlib.Nat.{zero-add, le-refl, min-le-left, lt-of-le-of-lt}
+use native.Mathlib.Nat.{zero-add, le-refl, le-of-suc-le-suc, min-le-left, lt-of-le-of-lt}
 use native.Mathlib.Omega.{arith}
 use lib.Bits.{bitAnd, bitXor, differ, and-le-l}
 use lib.Dec.{eqb, ltb}
@@ -14,12 +14,13 @@ use borrow.Author.Tests.{eqb-true, ne-eqb}
 use Rattle.bits.specs.Bits.{bit, within}
 use Rattle.bits.specs.Below.{those, sumBelow}
 use Rattle.bits.specs.Sums.{tally, oneIf, All}
-use Rattle.bits.proofs.Bools.{all-at₂, all-at₃, all-ext, beq-eq}
+use Rattle.bits.proofs.Bools.{one-lt, all-at₂, all-at₃, all-ext, beq-eq}
 use Rattle.bits.proofs.Bits.{bit-lt, bit-and, bit-xor, bit-high}
-use Rattle.bits.proofs.Below.{eqb-bits, those-same, sum-cong, sum-none, tally-step, tally-those, those-count}
-use Rattle.cube.specs.Cubes.{codeOf, code, met, holds, Good}
+use Rattle.bits.proofs.Below.{eqb-bits, those-same, sum-cong, sum-none, sum-most, tally-step, tally-those, those-count}
+use Rattle.cube.specs.Cubes.{bare, codeOf, code, met, holds, Good}
 use Rattle.cube.specs.Lists.{trues, listValue}
-use Rattle.polarity.specs.Forms.{parityWithin, valueBack, product, formFrom, countsOf}
+use Rattle.polarity.specs.Forms.{parityWithin, valueBack, product, formFrom}
+use Rattle.polarity.specs.Ranks.{countsOf}
 use Rattle.polarity.specs.Words.{nonzero}
 
 -- ---- those of the numbers that pass a test
@@ -38,21 +39,21 @@ all-those P h f (suc m) k a = go (f k) (all-those P h f m (suc k) (λ s l u. a s
 
 -- no product but that of the empty set is without literals
 module _ (f : ℕ → Bool) (p m : ℕ) where
-  none-later : (k : ℕ) → tally (λ c. eqb (c .seen) 0) (map (product p) (those f m (suc k))) ≡ 0
+  none-later : (k : ℕ) → tally bare (map (product p) (those f m (suc k))) ≡ 0
   none-later k =
-      tally-those (λ c. eqb (c .seen) 0) (product p) f m (suc k)
+      tally-those bare (product p) f m (suc k)
       ∙ sum-none m _ (λ t b. at (f (suc k + t)) (suc k + t) (λ e. omega arith))
     where
       at : (b : Bool) (s : ℕ) → (s ≡ 0 → ⊥) → cond b (oneIf (eqb s 0)) 0 ≡ 0
       at true s d = ap oneIf (ne-eqb s 0 d)
       at false s d = refl
 
-  constant-is : ltb 0 (tally (λ c. eqb (c .seen) 0) (map (product p) (those f (suc m) 0))) ≡ f 0
+  constant-is : ltb 0 (tally bare (map (product p) (those f (suc m) 0))) ≡ f 0
   unfolding those
-  constant-is = ap (λ (x : ℕ). ltb 0 x) (tally-step (λ c. eqb (c .seen) 0) (product p) (f 0) 0 (those f m 1)) ∙ at (f 0) (none-later 0)
+  constant-is = ap (λ (x : ℕ). ltb 0 x) (tally-step bare (product p) (f 0) 0 (those f m 1)) ∙ at (f 0) (none-later 0)
     where
-      at : (b : Bool) → tally (λ c. eqb (c .seen) 0) (map (product p) (those f m 1)) ≡ 0
-          → ltb 0 (cond b 1 0 + tally (λ c. eqb (c .seen) 0) (map (product p) (those f m 1))) ≡ b
+      at : (b : Bool) → tally bare (map (product p) (those f m 1)) ≡ 0
+          → ltb 0 (cond b 1 0 + tally bare (map (product p) (those f m 1))) ≡ b
       at true e = rw e
       at false e = rw e
 
@@ -63,6 +64,9 @@ form-length n p c =
     length-map (those (λ s. nonzero (c s)) (2 ^ n) 0) (product p) ∙ those-count (λ s. nonzero (c s)) (2 ^ n) 0
     ∙ sum-cong (2 ^ n) _ _ (λ t b. ap (λ (s : ℕ). oneIf (nonzero (c s))) (zero-add t))
 
+pub form-most : (n p : ℕ) (c : ℕ → ℕ) → length (formFrom n p c) ≤ 2 ^ n
+form-most n p c = omega (arith, form-length n p c, sum-most (2 ^ n) 1 (λ s. oneIf (nonzero (c s))) (λ s h. le-of-suc-le-suc (one-lt (nonzero (c s)))))
+
 module _ (n p : ℕ) (c : ℕ → ℕ) (bits : (s : ℕ) → c s < 2) where
   form-products : length (formFrom n p c) ≡ sumBelow (2 ^ n) c
   form-products = form-length n p c ∙ sum-cong (2 ^ n) (λ s. oneIf (nonzero (c s))) c (λ t b. one (c t) (bits t))
@@ -72,9 +76,9 @@ module _ (n p : ℕ) (c : ℕ → ℕ) (bits : (s : ℕ) → c s < 2) where
       one (suc zero) h = refl
       one (suc (suc x)) h = absurd (omega arith)
 
-  form-constant : ltb 0 (tally (λ d. eqb (d .seen) 0) (map (product p) (those (λ s. nonzero (c s)) (2 ^ n) 0))) ≡ nonzero (c 0)
+  form-constant : ltb 0 (tally bare (map (product p) (those (λ s. nonzero (c s)) (2 ^ n) 0))) ≡ nonzero (c 0)
   form-constant =
-      ap (λ (m : ℕ). ltb 0 (tally (λ d. eqb (d .seen) 0) (map (product p) (those (λ s. nonzero (c s)) m 0)))) (sym (suc-ones n))
+      ap (λ (m : ℕ). ltb 0 (tally bare (map (product p) (those (λ s. nonzero (c s)) m 0)))) (sym (suc-ones n))
       ∙ constant-is (λ s. nonzero (c s)) p (2 ^ n - 1)
 
   pub form-counts : countsOf (formFrom n p c) ≡ record { products = sumBelow (2 ^ n) c; constant = nonzero (c 0) }

@@ -2,6 +2,7 @@ pub mod Subsets
 pub mod Parities
 pub mod Passes
 pub mod Forms
+pub mod Ranks
 pub mod Theorems
 pub mod Uniqueness
 pub mod Vectors

@@ -17,7 +17,8 @@ use Rattle.bits.proofs.Below.{sum-cong, sum-parts, sum-none}
 use Rattle.bits.proofs.packed.Passes.{plusUpper-cong, plusLower-cong, lowered-bit, raised-bit}
 use Rattle.bits.proofs.packed.Packing.{packed-bit}
 use Rattle.bits.proofs.packed.Alone.{packed-alone}
-use Rattle.polarity.specs.Forms.{parityWithin, coefficient, formFrom, countsOf}
+use Rattle.polarity.specs.Forms.{parityWithin, coefficient, formFrom}
+use Rattle.polarity.specs.Ranks.{countsOf}
 use Rattle.polarity.specs.Vectors.{byteAt, Vector}
 use Rattle.polarity.specs.Words.{Shows, passed, nonzero, countsIn}
 use Rattle.polarity.proofs.Passes.{minus-high, upper-none, lower-none, passes, passes-parity, coefficient-turned}

@@ -3,24 +3,28 @@
 use mathlib.Core.Path.{_≡_, sym, ap, _∙_, subst}
 use mathlib.Core.Logic.{_≢_, _⊎_, inl, inr}
 use mathlib.Core.List.{List}
-use Prim.Native.Nat.{ℕ, zero, suc, _-_, _%_, _^_, _<_, zero-le}
+use Prim.Native.Nat.{ℕ, zero, suc, _-_, _%_, _^_, _<_, _≤_, zero-le}
 use native.Mathlib.Nat.{mod-eq-of-lt}
 use native.Mathlib.Omega.{arith}
 use lib.Bits.{bitXor, xor-lt, xor-zero-r}
 use lib.Pow.{suc-ones, pow-pos}
 use Rattle.bits.specs.Bits.{bit}
-use Rattle.bits.specs.Below.{leastBelow, Least}
+use Rattle.bits.specs.Below.{firstBelow, LeastThen}
 use Rattle.bits.specs.Sums.{All}
 use Rattle.bits.proofs.Bits.{bit-lt, bit-high}
 use Rattle.bits.proofs.Below.{getD-listBelow, is-listBelow}
-use Rattle.bits.proofs.Least.{least-is}
+use Rattle.bits.proofs.Least.{Least}
+use Rattle.cube.specs.declared.Cube.{Cube}
 use Rattle.cube.specs.Cubes.{codeOf, code, Good}
 use Rattle.cube.specs.Lists.{listValue, truthVector}
-use Rattle.polarity.specs.Forms.{parityWithin, coefficient, valueBack, product, formFrom, formList, size, countsOf, rank, bestPolarity}
+use Rattle.polarity.specs.Forms.{parityWithin, coefficient, valueBack, product, formFrom, formList, size, bestPolarity}
+use Rattle.polarity.specs.Cost.{cost, cheaper}
+use Rattle.polarity.specs.Ranks.{rank}
 use Rattle.polarity.specs.Vectors.{byteAt, Vector, coefficientVector, vectorBack}
 use Rattle.polarity.specs.Words.{nonzero}
 use Rattle.polarity.proofs.Subsets.{xor-twice}
 use Rattle.polarity.proofs.Parities.{parity-cong, parity-lt, parity-twice}
+use Rattle.polarity.proofs.Ranks.{rank-products, first-ranks, least-first}
 use Rattle.polarity.proofs.Forms.{all-those, product-code, form-value, form-good, form-cong}
 
 -- ---- there and back
@@ -123,14 +127,19 @@ module _ (n p : ℕ) (h : p < 2 ^ n) (f c : ℕ → ℕ) (bits : (s : ℕ) → c
 
 -- ---- the best polarity
 
--- No polarity has a lower rank than the best, and no smaller p one as low ..
-pub best-has-least-rank : (n : ℕ) (f : ℕ → ℕ) → Least (λ p. rank (formList n p f)) (2 ^ n) (bestPolarity n f)
-unfolding bestPolarity
-best-has-least-rank n f =
-    subst (λ (m : ℕ). Least (λ p. rank (formList n p f)) m (leastBelow (λ p. rank (formList n p f)) m)) (suc-ones n)
-    (least-is (λ p. rank (formList n p f)) (2 ^ n - 1))
+module _ (n : ℕ) (f : ℕ → ℕ) where
+  abbrev form : ℕ → List Cube
+  form p = formList n p f
 
--- .. that is: no polarity has fewer products than the best, and no smaller p has as few.
-pub best-has-fewest : (n : ℕ) (f : ℕ → ℕ) → Least (λ p. size n p f) (2 ^ n) (bestPolarity n f)
-unfolding countsOf
-best-has-fewest n f = best-has-least-rank n f
+  pub best-has-least-rank : Least (λ p. rank (form p)) (2 ^ n) (bestPolarity n f)
+  unfolding bestPolarity
+  best-has-least-rank =
+      subst (λ (m : ℕ). Least (λ p. rank (form p)) m (firstBelow (λ q p. cheaper (form q) (form p)) m)) (suc-ones n) (first-ranks form (2 ^ n - 1))
+
+  -- No polarity's form costs less than the best one's; of those that cost as much none has fewer products, and of those with as many none is smaller.
+  pub best-is-first : LeastThen (λ p. cost (form p)) (λ p. size n p f) (2 ^ n) (bestPolarity n f)
+  best-is-first = least-first form (2 ^ n) (bestPolarity n f) best-has-least-rank
+
+  -- Nor has any polarity's form fewer products at all: since one product is free at most, what costs less never has more of them.
+  pub best-has-fewest : (q : ℕ) → q < 2 ^ n → size n (bestPolarity n f) f ≤ size n q f
+  best-has-fewest q h = rank-products (form (bestPolarity n f)) (form q) (best-has-least-rank .fewest q zero-le h)

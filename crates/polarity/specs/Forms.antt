@@ -5,14 +5,14 @@ use mathlib.Core.Logic.{_≢_}
 use mathlib.Core.List.{List, [], _∷_, map}
 use Prim.Native.Nat.{ℕ, suc, _%_, _^_, _≤_}
 use lib.Bits.{bitAnd, bitXor}
-use lib.Dec.{eqb, ltb}
+use lib.Dec.{eqb}
 use lib.ListN.{length}
 use Rattle.bits.specs.Bits.{bit, within}
-use Rattle.bits.specs.Below.{sumBelow, those, leastBelow}
-use Rattle.bits.specs.Sums.{tally, All}
+use Rattle.bits.specs.Below.{sumBelow, those, firstBelow}
+use Rattle.bits.specs.Sums.{All}
 use Rattle.cube.specs.declared.Cube.{Cube}
 use Rattle.cube.specs.Cubes.{code, Good}
-use Rattle.polarity.specs.declared.Counts.{Counts}
+use Rattle.polarity.specs.Cost.{cheaper}
 
 -- ---- coefficients
 
@@ -67,17 +67,6 @@ pub record Form (n p : ℕ) (l : List Cube) : Type 0 where
 
 -- ---- the choice
 
--- how many products a list has, and whether one of them has no literal
-unfoldable pub countsOf : List Cube → Counts
-countsOf l = record { products = length l; constant = ltb 0 (tally (λ c. eqb (c .seen) 0) l) }
-
--- what every choice goes by, here of polarities and in `settling` of candidates: the number of products
-abbrev pub rankOf : Counts → ℕ
-rankOf c = c .products
-
-abbrev pub rank : List Cube → ℕ
-rank l = rankOf (countsOf l)
-
--- "The best polarity has the fewest products; on a tie the smallest p wins"
+-- "The best polarity has the least cost, then the fewest products, then the smallest p" (document 02, Two)
 unfoldable pub bestPolarity : ℕ → (ℕ → ℕ) → ℕ
-bestPolarity n f = leastBelow (λ p. rank (formList n p f)) (2 ^ n)
+bestPolarity n f = firstBelow (λ q p. cheaper (formList n q f) (formList n p f)) (2 ^ n)

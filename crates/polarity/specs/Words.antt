@@ -10,7 +10,8 @@ use Rattle.bits.specs.Packed.{bitAt, lowered}
 use Rattle.bits.specs.declared.packed.Packed.{Packed}
 use Rattle.polarity.specs.declared.Counts.{Counts}
 use Rattle.polarity.specs.declared.choose.Chosen.{Chosen}
-use Rattle.polarity.specs.Forms.{coefficient, valueBack, rankOf}
+use Rattle.polarity.specs.Forms.{coefficient, valueBack, formList, bestPolarity}
+use Rattle.polarity.specs.Ranks.{rankOf, rank}
 
 -- bit t is f at t, for each t of n variables, and every other bit is 0
 pub record Shows (n : ℕ) (f : ℕ → ℕ) (w : Packed) : Type 0 where
@@ -43,15 +44,20 @@ nonzero x = not (eqb x 0)
 unfoldable pub countsIn : Packed → Counts
 countsIn w = record { products = sumBelow 256 (bitAt w); constant = nonzero (w .a % 2) }
 
--- a polarity, its form's products and its rank, from the coefficients under it
+-- a polarity and the rank of its form, from the coefficients under it
 unfoldable pub bestOfOne : Packed → ℕ → Chosen
-bestOfOne w p = record { polarity = p; products = countsIn w .products; least = rankOf (countsIn w) }
+bestOfOne w p = record { polarity = p; rank = rankOf (countsIn w) }
 
 -- the upper one where it ranks lower, else the lower one
 unfoldable pub lesserOf : Chosen → Chosen → Chosen
-lesserOf lower upper = cond (ltb (upper .least) (lower .least)) upper lower
+lesserOf lower upper = cond (ltb (upper .rank) (lower .rank)) upper lower
 
 -- the best of the 2 ^ k polarities from p on, from the coefficients under p, which has no variable below k
 unfoldable pub bestFrom : ℕ → Packed → ℕ → Chosen
 bestFrom zero w p = bestOfOne w p
 bestFrom (suc k) w p = lesserOf (bestFrom k w p) (bestFrom k (lowered k w) (p + 2 ^ k))
+
+-- the best polarity of a function, and the rank of its form
+pub record ChosenIs (n : ℕ) (f : ℕ → ℕ) (c : Chosen) : Type 0 where
+  pub polarity-is : c .polarity ≡ bestPolarity n f
+  pub rank-is : c .rank ≡ rank (formList n (c .polarity) f)

@@ -13,16 +13,18 @@ ghost use Rattle.bits.specs.Sums.{oneIf};
 ghost use Rattle.records.specs.Answers.{counted};
 ghost use Rattle.records.specs.Records.{written};
 ghost use Rattle.cube.specs.Lists.{cubes};
-ghost use Rattle.polarity.specs.Forms.{product, formFrom, rankOf};
+ghost use Rattle.polarity.specs.Forms.{product, formFrom};
+ghost use Rattle.polarity.specs.Ranks.{rankOf};
 ghost use Rattle.polarity.specs.Vectors.{byteAt, Vector};
 ghost use Rattle.polarity.specs.Calls.{formOutcome, formAfter};
 ghost use Rattle.polarity.specs.Words.{nonzero, countsIn};
 
-// What every choice goes by, here of polarities and in `settling` of candidates: the fewest products.
+// What every choice goes by, here of polarities and in `settling` of candidates: of two lists, the one with the lesser rank costs less, or costs as much
+// and has fewer products.
 pub fn rank(counts: Counts) -> usize
     ensures { λ r. ⌜ r ≡ rankOf counts ⌝ }
 {
-    counts.products
+    2 * (counts.products as usize) + !counts.constant as usize
 }
 
 // The products of the form with these coefficients, and whether the one without literals is among them.
@@ -30,7 +32,7 @@ pub(crate) fn counts_of(w: Packed) -> Counts
     ensures { λ r. ⌜ r ≡ countsIn w ⌝ }
 {
     Counts {
-        products: w.ones() as usize,
+        products: w.ones(),
         constant: w.a % 2 != 0,
     }
 }

@@ -9,7 +9,7 @@ use records::Refusal;
 
 // How many products a list has, and whether one of them has no literal.
 pub struct Counts {
-    pub products: usize,
+    pub products: u32,
     pub constant: bool,
 }
 

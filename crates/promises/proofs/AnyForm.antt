@@ -1,28 +1,33 @@
--- A list of products without the literals that a polarity forbids, in any order and with any repeats, is no shorter than the form of its function.
+-- A list of products without the literals that a polarity forbids, in any order and with any repeats, is no shorter than the form of its function, and
+-- costs no less.
 -- Assumes nothing.
 use mathlib.Core.Path.{_≡_, refl, sym, ap, ap₂, _∙_, subst}
 use mathlib.Core.Logic.{_≢_}
 use mathlib.Core.Bool.{Bool, true, false, not, cond}
 use mathlib.Core.List.{List, [], _∷_, map}
-use Prim.Native.Nat.{ℕ, zero, suc, _+_, _%_, _^_, _≤_, _<_, zero-le}
-use native.Mathlib.Nat.{mod-lt, zero-lt-suc, zero-add}
+use Prim.Native.Nat.{ℕ, zero, suc, _+_, _-_, _%_, _^_, _≤_, _<_, zero-le}
+use native.Mathlib.Nat.{mod-lt, mod-le, zero-lt-suc, zero-add}
 use native.Mathlib.Decide.{ℕ-discrete}
 use native.Mathlib.Omega.{arith}
-use borrow.Author.Tests.{eq-eqb, ne-eqb}
+use borrow.Author.Tests.{eq-eqb, ne-eqb, eqb-true, ltb-true, ltb-false}
 use lib.Bits.{bitXor}
-use lib.Dec.{eqb}
+use lib.Dec.{eqb, ltb}
 use lib.ListN.{length}
+use lib.Pow.{pow-pos}
 use Rattle.bits.specs.Bits.{bit, within}
 use Rattle.bits.specs.Below.{sumBelow, those}
 use Rattle.bits.specs.Sums.{tally, oneIf, All}
-use Rattle.bits.proofs.Below.{sum-cong, sum-plus, sum-parity, sum-none, tally-those}
+use Rattle.bits.proofs.Below.{sum-cong, sum-plus, sum-parity, sum-none, sum-parts, sum-each}
 use Rattle.bits.proofs.Sums.{tally-all, tally-ext, all-each}
 use Rattle.cube.specs.declared.Cube.{Cube}
 use Rattle.cube.specs.Cubes.{code, Good, holds}
 use Rattle.cube.specs.Lists.{trues, listValue}
 use Rattle.cube.proofs.Codes.{good-seen}
+use Rattle.polarity.specs.declared.Counts.{Counts}
+use Rattle.polarity.specs.Cost.{someBare, cost}
+use Rattle.polarity.specs.Ranks.{countsOf}
 use Rattle.polarity.specs.Forms.{parityWithin, coefficient, product, formFrom, formList}
-use Rattle.polarity.proofs.Forms.{product-holds, form-value}
+use Rattle.polarity.proofs.Forms.{form-counts, product-holds, form-value}
 use Rattle.polarity.proofs.Theorems.{form-unique}
 use Rattle.polarity.proofs.Uniqueness.{form-is-only}
 
@@ -51,11 +56,6 @@ one-sum (suc m) w k h = go (ℕ-discrete k m) (λ l. one-sum m w k l)
         let rest : sumBelow m (λ s. cond (w s) (oneIf (eqb k s)) 0) ≡ oneIf (w k) = ih (omega (arith, d)) in
         omega (arith, rest, other (w m) m d)
 
-sum-le : (m : ℕ) (f g : ℕ → ℕ) → ((t : ℕ) → f t ≤ g t) → sumBelow m f ≤ sumBelow m g
-unfolding sumBelow
-sum-le zero f g h = zero-le
-sum-le (suc m) f g h = omega (arith, sum-le m f g h, h m)
-
 -- how many of a list's products have the set s
 abbrev with-set : List Cube → ℕ → ℕ
 with-set l s = tally (λ c. eqb (c .seen) s) l
@@ -77,9 +77,25 @@ by-sets m w (c ∷ l) h =
     apart true x y = refl
     apart false x y = refl
 
+-- Of x products without literals one is free. Of the form they leave one where x is odd and none where it is even; a others are left of b.
+free-apart : (x a b k m : ℕ) → a ≤ b → x % 2 + a ≡ k → x + b ≡ m → k - oneIf (not (eqb (x % 2) 0)) ≤ m - oneIf (ltb 0 x)
+free-apart x a b k m h ek em = go (eqb (x % 2) 0) (ltb 0 x) refl refl
+  where
+    go : (t s : Bool) → eqb (x % 2) 0 ≡ t → ltb 0 x ≡ s → k - oneIf (not t) ≤ m - oneIf s
+    go true true e f = omega (arith, eqb-true (x % 2) 0 e, ltb-true 0 x f)
+    go true false e f = omega arith
+    go false true e f = omega (arith, mod-lt x (zero-lt-suc 1), ltb-true 0 x f)
+    go false false e f = omega (arith, mod-lt x (zero-lt-suc 1), ltb-false 0 x f)
+
 -- ---- a list without the forbidden literals
 
 module _ (n p : ℕ) (low : p < 2 ^ n) where
+  first-apart : (f : ℕ → ℕ) → f 0 + sumBelow (2 ^ n - 1) (λ s. f (1 + s)) ≡ sumBelow (2 ^ n) f
+  unfolding sumBelow
+  first-apart f =
+      let all : 1 + (2 ^ n - 1) ≡ 2 ^ n = omega (arith, pow-pos n) in
+      sym (ap (λ (m : ℕ). sumBelow m f) (sym all) ∙ sum-parts 1 (2 ^ n - 1) f ∙ ap (λ (x : ℕ). x + sumBelow (2 ^ n - 1) (λ s. f (1 + s))) (zero-add (f 0)))
+
   -- a product without them is that of its set of variables
   is-product : (c : Cube) → Good n c → ((k : ℕ) → code c k ≢ bit p k) → c ≡ product p (c .seen)
   unfolding formFrom
@@ -121,29 +137,39 @@ module _ (n p : ℕ) (low : p < 2 ^ n) where
         mods true x = omega arith
         mods false x = refl
 
+    -- how many products the list has, and how many the form, apart from those of the empty set, which are those without literals
+    whole : with-set l 0 + sumBelow (2 ^ n - 1) (λ s. with-set l (1 + s)) ≡ length l
+    whole = first-apart (with-set l) ∙ by-sets (2 ^ n) (λ s. true) l below ∙ tally-all l
+
+    form-whole : odd 0 + sumBelow (2 ^ n - 1) (λ s. odd (1 + s)) ≡ length (formFrom n p odd)
+    unfolding countsOf
+    form-whole = first-apart odd ∙ sym (ap (λ (c : Counts). c .products) (form-counts n p odd odd-lt))
+
+    form-bare : someBare (formFrom n p odd) ≡ not (eqb (odd 0) 0)
+    unfolding countsOf
+    form-bare = ap (λ (c : Counts). c .constant) (form-counts n p odd odd-lt)
+
+    others : sumBelow (2 ^ n - 1) (λ s. odd (1 + s)) ≤ sumBelow (2 ^ n - 1) (λ s. with-set l (1 + s))
+    others = sum-each (2 ^ n - 1) _ _ (λ s h. mod-le (with-set l (1 + s)) 2)
+
     no-longer : length (formFrom n p odd) ≤ length l
-    unfolding formFrom
-    no-longer =
-        let many : tally (λ c. true) (formFrom n p odd) ≡ length (formFrom n p odd) = tally-all (formFrom n p odd) in
-        let sets : tally (λ c. true) (formFrom n p odd) ≡ sumBelow (2 ^ n) (λ t. cond (not (eqb (odd (0 + t)) 0)) 1 0) =
-        tally-those (λ c. true) (product p) (λ s. not (eqb (odd s) 0)) (2 ^ n) 0 in
-        let fewer : sumBelow (2 ^ n) (λ t. cond (not (eqb (odd (0 + t)) 0)) 1 0) ≤ sumBelow (2 ^ n) (λ t. with-set l t) =
-        sum-le (2 ^ n) (λ t. cond (not (eqb (odd (0 + t)) 0)) 1 0) (λ t. with-set l t) (λ t. at-most (0 + t) t (zero-add t)) in
-        let whole : sumBelow (2 ^ n) (λ t. with-set l t) ≡ length l = by-sets (2 ^ n) (λ s. true) l below ∙ tally-all l in
-        omega arith
-      where
-        one-most : (b : Bool) (x : ℕ) → cond b 1 0 ≤ suc x
-        one-most true x = omega arith
-        one-most false x = zero-le
+    no-longer = omega (arith, whole, form-whole, others, mod-le (with-set l 0) 2)
 
-        nonzero-one : (x : ℕ) → cond (not (eqb (x % 2) 0)) 1 0 ≤ x
-        nonzero-one zero = zero-le
-        nonzero-one (suc x) = one-most (not (eqb (suc x % 2) 0)) x
+    -- the free product of the form is one of the list's; where it has none, the list has none, or two of which one is not free
+    no-dearer : cost (formFrom n p odd) ≤ cost l
+    unfolding cost
+    no-dearer =
+        subst (λ (b : Bool). length (formFrom n p odd) - oneIf b ≤ length l - oneIf (someBare l)) (sym form-bare)
+        (free-apart (with-set l 0) _ _ (length (formFrom n p odd)) (length l) others form-whole whole)
 
-        at-most : (s t : ℕ) → s ≡ t → cond (not (eqb (odd s) 0)) 1 0 ≤ with-set l t
-        at-most s t e = subst (λ (u : ℕ). cond (not (eqb (odd s) 0)) 1 0 ≤ with-set l u) e (nonzero-one (with-set l s))
+    module _ (f : ℕ → ℕ) (same : (a : ℕ) → a < 2 ^ n → listValue n l a ≡ f a) where
+      is-form : formFrom n p odd ≡ formList n p f
+      is-form = form-unique n p low f odd odd-lt (λ a h. same-values a ∙ same a h)
 
-    -- The form of the list's function has no more products than the list.
-    pub form-shortest : (f : ℕ → ℕ) → ((a : ℕ) → a < 2 ^ n → listValue n l a ≡ f a) → length (formList n p f) ≤ length l
-    form-shortest f same =
-        subst (λ (m : List Cube). length m ≤ length l) (form-unique n p low f odd odd-lt (λ a h. same-values a ∙ same a h)) no-longer
+      -- The form of the list's function has no more products than the list ..
+      pub form-shortest : length (formList n p f) ≤ length l
+      form-shortest = subst (λ (m : List Cube). length m ≤ length l) is-form no-longer
+
+      -- .. and costs no more.
+      pub form-cheapest : cost (formList n p f) ≤ cost l
+      form-cheapest = subst (λ (m : List Cube). cost m ≤ cost l) is-form no-dearer

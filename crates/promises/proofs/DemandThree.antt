@@ -1,6 +1,7 @@
 -- Demand 3. For every accepted list of up to 4,096 products over up to 32 variables and every script of up to 1,024 steps that is not refused, the list
--- we burn has the same value as the given one at every assignment, and no more products than the given one or than the list the script ends in; for at
--- most 8 variables no polarity's form has fewer. Stated of the bytes that `settle` leaves in the output buffer.
+-- we burn has the same value as the given one at every assignment, and costs no more than the given one or than the list the script ends in, as it stands
+-- after the undoing; for at most 8 variables no polarity's form costs less. Nor has it more products than the given one or than the list the script ends
+-- in. Stated of the bytes that `settle` leaves in the output buffer.
 -- Assumes nothing.
 use mathlib.Core.Path.{_≡_, sym, ap, ap₂, _∙_, subst}
 use mathlib.Core.Logic.{_≢_}
@@ -17,7 +18,10 @@ use Rattle.records.proofs.Records.{length-records, length-list}
 use Rattle.cube.specs.declared.Cube.{Cube}
 use Rattle.cube.specs.Cubes.{code, Good}
 use Rattle.cube.specs.Lists.{cubes, cubesOf, cubeCapacity, recordWidth, mostRecords, mostVariables, vectorVariables, listValue}
+use Rattle.polarity.specs.Cost.{cost}
 use Rattle.polarity.specs.Forms.{formList}
+use Rattle.polarity.specs.Ranks.{rank}
+use Rattle.polarity.proofs.Ranks.{rank-cost, rank-products}
 use Rattle.script.specs.Run.{ended, run}
 use Rattle.script.specs.Scripts.{stepsOf, stepWidth, mostSteps}
 use Rattle.script.specs.Calls.{runOf}
@@ -26,12 +30,13 @@ use Rattle.settling.specs.declared.Settled.the-variants as settled-is
 use Rattle.settling.specs.declared.Settlement.{Settlement}
 use Rattle.settling.specs.Candidates.{burnedList}
 use Rattle.settling.specs.Calls.{settled}
+use Rattle.settling.proofs.Cheapest.{burned-at, burned-first}
 use Rattle.settling.proofs.Outcomes.{AcceptedSettle, settle-checked, BurnedBy, settle-burned}
 use Rattle.promises.specs.Calls.{settle, Called}
 use Rattle.promises.specs.Refusals.{NoneWrong, reasons}
 use Rattle.promises.specs.Accepted.{EndOfScript, ScriptEnds}
-use Rattle.promises.specs.Burned.{burnedIn, EndsIn}
-use Rattle.promises.proofs.AnyForm.{form-shortest}
+use Rattle.promises.specs.Burned.{burnedIn, EndsIn, BurnedFirst}
+use Rattle.promises.proofs.AnyForm.{form-shortest, form-cheapest}
 use Rattle.promises.proofs.Calling.{Accepting, called-accepted, accepted-settled}
 use Rattle.promises.proofs.DemandOne.{not-wrong-accepted}
 
@@ -93,26 +98,51 @@ module _ (n : ℕ) (list script work out : List ℕ) (s : Settlement) (work′ o
   pub burned-good : All (Good n) (burnedIn s out′)
   burned-good = of-burned (All (Good n)) (by .good)
 
-  -- It has no more products than the given one ..
-  pub no-more-than-given : length (burnedIn s out′) ≤ length (cubesOf list)
-  no-more-than-given = of-burned (λ l. length l ≤ length (cubesOf list)) (by .no-more-than-given)
+  -- It costs no more than the given one, and has no more products ..
+  pub costs-no-more-than-given : cost (burnedIn s out′) ≤ cost (cubesOf list)
+  costs-no-more-than-given = rank-cost _ _ (of-burned (λ l. rank l ≤ rank (cubesOf list)) (by .least-of-given))
 
-  -- .. nor than the list the script ends in, after the undoing; the script, which was not refused, does end in one ..
-  pub no-more-than-script : (m : List Cube) (peak : ℕ) → run n (cubeCapacity (length work)) (stepsOf script) (cubesOf list) ≡ ended m peak
-      → length (burnedIn s out′) ≤ length m
-  no-more-than-script m peak e =
-      subst (λ (l : List Cube). length (burnedIn s out′) ≤ length l) (ended-list (sym ran ∙ e)) (of-burned (λ l. length l ≤ length result) (by .no-more-than-script))
+  pub no-more-than-given : length (burnedIn s out′) ≤ length (cubesOf list)
+  no-more-than-given = rank-products _ _ (of-burned (λ l. rank l ≤ rank (cubesOf list)) (by .least-of-given))
+
+  -- .. nor than the list the script ends in, as it stands after the undoing; the script, which was not refused, does end in one ..
+  module _ (m : List Cube) (peak : ℕ) (e : run n (cubeCapacity (length work)) (stepsOf script) (cubesOf list) ≡ ended m peak) where
+    same-end : result ≡ m
+    same-end = ended-list (sym ran ∙ e)
+
+    -- The list we burn is the first of the candidates, by cost, then by products, then by their order.
+    pub burned-is-first : BurnedFirst n m (cubesOf list) (burnedIn s out′)
+    burned-is-first =
+        subst (λ (l : List Cube). BurnedFirst n l (cubesOf list) (burnedIn s out′)) same-end
+        (record { number = _; is = is-burned ∙ burned-at n result (cubesOf list); first = burned-first n result (cubesOf list) })
+
+    least-of-end : rank (burnedIn s out′) ≤ rank m
+    least-of-end = subst (λ (l : List Cube). rank (burnedIn s out′) ≤ rank l) same-end (of-burned (λ l. rank l ≤ rank result) (by .least-of-script))
+
+    pub costs-no-more-than-script : cost (burnedIn s out′) ≤ cost m
+    costs-no-more-than-script = rank-cost _ _ least-of-end
+
+    pub no-more-than-script : length (burnedIn s out′) ≤ length m
+    no-more-than-script = rank-products _ _ least-of-end
 
   pub script-ends : EndsIn n list script work s
   script-ends = record { result = result; is = ran; count = ap (λ (t : Settlement). t .script) (acc .is) }
 
-  -- .. and for at most 8 variables no form of the given list's function has fewer: whatever the polarity p is, and whatever list of products over n
-  -- variables, in any order, has the given list's values and nowhere "the literal whose code is the vector's entry" (001, definition 3).
-  pub no-form-has-fewer : n ≤ vectorVariables → (p : ℕ) → p < 2 ^ n → (l : List Cube) → All (Good n) l → All (λ c. (k : ℕ) → code c k ≢ bit p k) l
-      → ((a : ℕ) → a < 2 ^ n → listValue n l a ≡ listValue n (cubesOf list) a) → length (burnedIn s out′) ≤ length l
-  no-form-has-fewer few p h l good missing same =
-      le-trans (of-burned (λ m. length m ≤ length (formList n p (listValue n (cubesOf list)))) (by .no-form-has-fewer few p h))
-      (form-shortest n p h l good missing (listValue n (cubesOf list)) same)
+  -- .. and for at most 8 variables no form of the given list's function costs less, nor has fewer products: whatever the polarity p is, and whatever list of
+  -- products over n variables, in any order, has the given list's values and nowhere "the literal whose code is the vector's entry" (001, definition 3).
+  module _ (few : n ≤ vectorVariables) (p : ℕ) (h : p < 2 ^ n) (l : List Cube) (good : All (Good n) l) (missing : All (λ c. (k : ℕ) → code c k ≢ bit p k) l)
+      (same : (a : ℕ) → a < 2 ^ n → listValue n l a ≡ listValue n (cubesOf list) a) where
+    abbrev form : List Cube
+    form = formList n p (listValue n (cubesOf list))
+
+    least-of-form : rank (burnedIn s out′) ≤ rank form
+    least-of-form = of-burned (λ m. rank m ≤ rank form) (by .least-of-forms few p h)
+
+    pub no-form-costs-less : cost (burnedIn s out′) ≤ cost l
+    no-form-costs-less = le-trans (rank-cost _ _ least-of-form) (form-cheapest n p h l good missing (listValue n (cubesOf list)) same)
+
+    pub no-form-has-fewer : length (burnedIn s out′) ≤ length l
+    no-form-has-fewer = le-trans (rank-products _ _ least-of-form) (form-shortest n p h l good missing (listValue n (cubesOf list)) same)
 
   -- After the list, which fits, every byte of the output buffer is zero; and every byte of the work buffer is.
   pub zeros-after : drop (recordWidth * s .burned) out′ ≡ zeros (length out - recordWidth * s .burned)

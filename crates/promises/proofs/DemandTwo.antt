@@ -14,7 +14,7 @@ use lib.Dec.{eqb}
 use lib.ListN.{length, getD}
 use Rattle.bits.specs.Bits.{bit}
 use Rattle.bits.specs.Sums.{sum, oneIf, All}
-use Rattle.bits.specs.Below.{Least}
+use Rattle.bits.specs.Below.{LeastThen}
 use Rattle.cube.specs.declared.Cube.{Cube}
 use Rattle.cube.specs.Cubes.{code, put, one, Good, met, holds}
 use Rattle.cube.specs.Lists.{cubesOf, cubeCapacity, listValue, truthVector, vectorVariables}
@@ -33,6 +33,7 @@ use Rattle.script.specs.Counts.{howMany, lists, greatest}
 use Rattle.script.specs.Scripts.{stepsOf}
 use Rattle.script.specs.Calls.{runOf}
 use Rattle.script.proofs.Counts as counting
+use Rattle.polarity.specs.Cost.{cost}
 use Rattle.polarity.specs.Forms.{parityWithin, coefficient, formFrom, formList, Form, size, bestPolarity}
 use Rattle.polarity.specs.Vectors.{byteAt, Vector, coefficientVector, vectorBack}
 use Rattle.polarity.proofs.Theorems as theorems
@@ -201,8 +202,12 @@ module _ (n : ℕ) (f : ℕ → ℕ) where
   pub positive-coefficient : (s : ℕ) → coefficient n 0 f s ≡ parityWithin n f s
   positive-coefficient = theorems.positive-coefficient n f
 
-  -- The best polarity has the fewest products, and of those with as few it is the smallest.
-  pub best-has-fewest : Least (λ p. size n p f) (2 ^ n) (bestPolarity n f)
+  -- The best polarity has the least cost, then the fewest products, then the smallest p; ..
+  pub best-is-first : LeastThen (λ p. cost (formList n p f)) (λ p. size n p f) (2 ^ n) (bestPolarity n f)
+  best-is-first = theorems.best-is-first n f
+
+  -- .. and no polarity, whatever its form costs, has fewer products.
+  pub best-has-fewest : (q : ℕ) → q < 2 ^ n → size n (bestPolarity n f) f ≤ size n q f
   best-has-fewest = theorems.best-has-fewest n f
 
 -- ---- the script

@@ -8,7 +8,7 @@ use native.Mathlib.Nat.{le-trans, mul-le-mul-left, mod-lt, zero-lt-suc}
 use lib.Bits.{bitXor}
 use lib.ListN.{length, take, drop, List·getD-append}
 use lib.Seq.{take-at, drop-at}
-use Rattle.bits.specs.Below.{listBelow, Least}
+use Rattle.bits.specs.Below.{listBelow, LeastThen}
 use Rattle.bits.specs.Sums.{sum, oneIf}
 use Rattle.bits.proofs.Below.{length-listBelow, getD-listBelow}
 use Rattle.records.specs.Records.{flat, image}
@@ -21,11 +21,12 @@ use Rattle.cube.specs.Cubes.{holds}
 use Rattle.cube.specs.Lists.{cubes, cubesOf, cubeCapacity, mostVariables, mostRecords, recordWidth, vectorVariables, listValue, trues, truthVector}
 use Rattle.cube.proofs.Lists.{lawful}
 use Rattle.cube.proofs.Meaning.{value-is-exor}
+use Rattle.polarity.specs.Cost.{cost}
 use Rattle.polarity.specs.Forms.{coefficient, valueBack, formFrom, formList, size}
 use Rattle.polarity.specs.Vectors.{byteAt, Vector, coefficientVector, vectorBack}
 use Rattle.polarity.proofs.Forms.{form-good, form-cong}
 use Rattle.polarity.proofs.Parities.{parity-lt}
-use Rattle.polarity.proofs.Theorems.{there-and-back, back-and-there, form-has-the-value, best-has-fewest}
+use Rattle.polarity.proofs.Theorems.{there-and-back, back-and-there, form-has-the-value, best-is-first}
 use Rattle.script.specs.Run.{Ran, stopped, ended, run}
 use Rattle.script.specs.Scripts.{fits, stepsOf}
 use Rattle.script.specs.Calls.{runOf, ranOutcome, ranWork}
@@ -77,13 +78,13 @@ module _ (n : ℕ) (list out out′ v : List ℕ) (c : Called (call.truthVector 
       ap (drop (2 ^ n)) vector-left
       ∙ drop-at (truthVector n (cubesOf list)) (drop (2 ^ n) out) (2 ^ n) (length-listBelow (2 ^ n) (listValue n (cubesOf list)))
 
--- The best polarity has the fewest products, and of those with as few it is the smallest; the size is that of its form.
+-- The best polarity has the least cost, then the fewest products, then the smallest p; the size is the number of products of its form.
 pub best-polarity-answers : (n : ℕ) (vector : List ℕ) (p k : ℕ) → Called (call.bestPolarity n vector) (accepted (p ∷ k ∷ [])) []
-    → Least (λ q. size n q (byteAt vector)) (2 ^ n) p × (k ≡ size n p (byteAt vector))
+    → LeastThen (λ q. cost (formList n q (byteAt vector))) (λ q. size n q (byteAt vector)) (2 ^ n) p × (k ≡ size n p (byteAt vector))
 unfolding goesOn
 best-polarity-answers n vector p k c =
     let t = two-values (went-on (call.bestPolarity n vector) (p ∷ k ∷ []) [] c .0) in (
-      subst (Least (λ q. size n q (byteAt vector)) (2 ^ n)) (sym (t .0)) (best-has-fewest n (byteAt vector)),
+      subst (LeastThen (λ q. cost (formList n q (byteAt vector))) (λ q. size n q (byteAt vector)) (2 ^ n)) (sym (t .0)) (best-is-first n (byteAt vector)),
       t .1 ∙ ap (λ (q : ℕ). size n q (byteAt vector)) (sym (t .0)),
     )
 

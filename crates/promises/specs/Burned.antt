@@ -4,16 +4,26 @@ use mathlib.Core.Path.{_≡_}
 use mathlib.Core.List.{List}
 use Prim.Native.Nat.{ℕ}
 use lib.ListN.{length}
+use Rattle.bits.specs.Below.{LeastThen}
 use Rattle.records.specs.Records.{records}
 use Rattle.cube.specs.declared.Cube.{Cube}
 use Rattle.cube.specs.Lists.{cubes, cubesOf, cubeCapacity}
+use Rattle.polarity.specs.Cost.{cost}
 use Rattle.script.specs.Run.{ended, run}
 use Rattle.script.specs.Scripts.{stepsOf}
 use Rattle.settling.specs.declared.Settlement.{Settlement}
+use Rattle.settling.specs.Candidates.{candidateAt, candidates}
 
 -- "The winner fills the front of the output buffer": its first records, as many as settle answers
 abbrev pub burnedIn : Settlement → List ℕ → List Cube
 burnedIn s out′ = records cubes (s .burned) out′
+
+-- "Settling compares cost, then products, then the old order of candidates" (document 02, Two): of the script's result, the given list and, for at most 8
+-- variables, the form of the best polarity, the burned list is the one with the least cost, then the fewest products, then the lowest number in that order
+pub record BurnedFirst (n : ℕ) (result given burned : List Cube) : Type 0 where
+  pub number : ℕ
+  pub is : burned ≡ candidateAt n result given number
+  pub first : LeastThen (λ k. cost (candidateAt n result given k)) (λ k. length (candidateAt n result given k)) (candidates n) number
 
 -- "The script's result", after the undoing; settle answers its count and the peak
 pub record EndsIn (n : ℕ) (list script work : List ℕ) (s : Settlement) : Type 0 where

@@ -1,4 +1,4 @@
 pub mod Forming
-pub mod Fewest
+pub mod Cheapest
 pub mod Determined
 pub mod Outcomes

@@ -25,6 +25,7 @@ use Rattle.cube.specs.Lists.{cubes, cubesOf, cubeCapacity, recordWidth, mostRec
 use Rattle.cube.specs.Calls.{checkList}
 use Rattle.cube.proofs.Lists.{lawful, AcceptedList, check-accepts}
 use Rattle.polarity.specs.Forms.{formList}
+use Rattle.polarity.specs.Ranks.{rank}
 use Rattle.polarity.specs.Vectors.{byteAt}
 use Rattle.polarity.proofs.Theorems.{form-is-good}
 use Rattle.steps.specs.Steps.{Allowed, meaning}
@@ -39,7 +40,7 @@ use Rattle.settling.specs.declared.Settlement.{Settlement}
 use Rattle.settling.specs.Candidates.{bestOf, bestForm, burnedList, fixedOf}
 use Rattle.settling.specs.Calls.{checkSettle, ranSettled, settleOutcome, settleWorkBy, settleWork, settleOutBy, settleOut, settled}
 use Rattle.settling.proofs.Determined.{settled-back, settled-known}
-use Rattle.settling.proofs.Fewest.{burned-le-given, burned-le-result, burned-form, burned-one, best-form-value, best-form-least}
+use Rattle.settling.proofs.Cheapest.{burned-given, burned-result, burned-form, burned-le-given, burned-one, best-form-value}
 
 -- ---- what passed before the first step
 
@@ -116,9 +117,9 @@ pub record BurnedBy (n : ℕ) (list script : List ℕ) (work : ℕ) (out : List 
   pub fits : recordWidth * length burned ≤ length out
   pub good : All (Good n) burned
   pub same-value : (a : ℕ) → a < 2 ^ n → listValue n burned a ≡ listValue n (cubesOf list) a
-  pub no-more-than-given : length burned ≤ length (cubesOf list)
-  pub no-more-than-script : length burned ≤ length result
-  pub no-form-has-fewer : n ≤ vectorVariables → (p : ℕ) → p < 2 ^ n → length burned ≤ length (formList n p (listValue n (cubesOf list)))
+  pub least-of-given : rank burned ≤ rank (cubesOf list)
+  pub least-of-script : rank burned ≤ rank result
+  pub least-of-forms : n ≤ vectorVariables → (p : ℕ) → p < 2 ^ n → rank burned ≤ rank (formList n p (listValue n (cubesOf list)))
 
 module _ (n : ℕ) (list script : List ℕ) (work : ℕ) (out : List ℕ) (e : Ended n list script work (length out)) where
   passed : AcceptedSettle n list script work (length out)
@@ -161,9 +162,9 @@ module _ (n : ℕ) (list script : List ℕ) (work : ℕ) (out : List ℕ) (e : E
             (run-value n (cubeCapacity work) (stepsOf script) (passed .fit) (cubesOf list) (passed .list-is .good) (e .result) (e .peak) (e .ran) a)
             refl
             (λ few. best-form-value n (cubesOf list) few a h);
-        no-more-than-given = burned-le-given n (e .result) (cubesOf list);
-        no-more-than-script = burned-le-result n (e .result) (cubesOf list);
-        no-form-has-fewer = λ few p h. le-trans (burned-form n (e .result) (cubesOf list) few) (best-form-least n (cubesOf list) few p h);
+        least-of-given = burned-given n (e .result) (cubesOf list);
+        least-of-script = burned-result n (e .result) (cubesOf list);
+        least-of-forms = λ few. burned-form n (cubesOf list) few (e .result);
       }
 
 -- ---- a refused outcome

@@ -1,13 +1,14 @@
--- The candidates of a settled map, and the one that is burned. Document 01, "Settling".
+-- The candidates of a settled map, and the one that is burned. Document 01, "Settling"; document 02, Two.
 -- Assumes nothing.
-use Prim.Native.Nat.{ℕ}
+use Prim.Native.Nat.{ℕ, zero, suc}
 use mathlib.Core.Bool.{cond}
 use mathlib.Core.List.{List}
-use lib.Dec.{leb, ltb}
+use lib.Dec.{leb}
 use lib.ListN.{length}
 use Rattle.cube.specs.declared.Cube.{Cube}
 use Rattle.cube.specs.Lists.{truthVector, vectorVariables}
-use Rattle.polarity.specs.Forms.{formList, bestPolarity, rank}
+use Rattle.polarity.specs.Cost.{cheaper}
+use Rattle.polarity.specs.Forms.{formList, bestPolarity}
 use Rattle.polarity.specs.Vectors.{byteAt}
 use Rattle.settling.specs.declared.Fixed.{Fixed}
 use Rattle.settling.specs.declared.Fixed.the-variants as fixed-is
@@ -19,13 +20,22 @@ bestOf n l = bestPolarity n (byteAt (truthVector n l))
 unfoldable pub bestForm : ℕ → List Cube → List Cube
 bestForm n l = formList n (bestOf n l) (byteAt (truthVector n l))
 
--- "compared by number of products, ties to the earlier"
+-- "Settling compares cost, then products, then the old order of candidates" (document 02, Two): the later one where it comes before, else the earlier
 abbrev pub better : List Cube → List Cube → List Cube
-better earlier later = cond (ltb (rank later) (rank earlier)) later earlier
+better earlier later = cond (cheaper later earlier) later earlier
 
 -- "Three candidates .. : the script's result, the given list, the form of the best polarity (only where n is at most 8)"
 unfoldable pub burnedList : ℕ → List Cube → List Cube → List Cube
 burnedList n result given = cond (leb n vectorVariables) (better (better result given) (bestForm n given)) (better result given)
+
+-- the candidates by number, in "the old order of candidates", and how many there are: "only where n is at most 8" the form
+abbrev pub candidateAt : ℕ → List Cube → List Cube → ℕ → List Cube
+candidateAt n result given zero = result
+candidateAt n result given (suc zero) = given
+candidateAt n result given (suc (suc k)) = bestForm n given
+
+abbrev pub candidates : ℕ → ℕ
+candidates n = cond (leb n vectorVariables) 3 2
 
 -- "best polarity and its size", which there are for at most 8 variables
 unfoldable pub fixedOf : ℕ → List Cube → Fixed

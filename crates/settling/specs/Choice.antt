@@ -8,10 +8,11 @@ use lib.Dec.{ltb}
 use lib.ListN.{length, take}
 use Rattle.records.specs.Records.{image}
 use Rattle.cube.specs.declared.Cube.{Cube}
-use Rattle.cube.specs.Lists.{cubes, cubesOf, cubeCapacity, recordWidth, mostVariables, vectorVariables, truthVector}
+use Rattle.cube.specs.Lists.{cubes, cubesOf, cubeCapacity, recordWidth, mostRecords, mostVariables, vectorVariables, truthVector}
 use Rattle.cube.specs.Calls.{checkList}
 use Rattle.polarity.specs.declared.Counts.{Counts}
-use Rattle.polarity.specs.Forms.{formList, countsOf, rankOf, rank}
+use Rattle.polarity.specs.Forms.{formList}
+use Rattle.polarity.specs.Ranks.{countsOf, rankOf, rank}
 use Rattle.polarity.specs.Vectors.{byteAt, Vector}
 use Rattle.settling.specs.declared.BestForm.{BestForm}
 use Rattle.settling.specs.declared.Burning.{Burning}
@@ -58,6 +59,12 @@ pub record FormIs (n : ℕ) (given : List Cube) (f : BestForm) : Type 0 where
   pub fixed : f .fixed ≡ fixedOf n given
   pub vector : n ≤ vectorVariables → take (2 ^ n) (f .vector) ≡ truthVector n given
 
+-- both lists are short, and the form is the given list's
+pub record Choosable (n : ℕ) (list result : List ℕ) (best : BestForm) : Type 0 where
+  pub list-short : length (cubesOf list) ≤ mostRecords
+  pub result-short : length (cubesOf result) ≤ mostRecords
+  pub best-is : FormIs n (cubesOf list) best
+
 -- ---- what is burned
 
 -- a list fills the front of the output buffer, zeros after it, and its count is answered
@@ -79,9 +86,10 @@ pub record Burnable (n : ℕ) (list result : List ℕ) (best : BestForm) (origin
   pub named : Named n origin
   pub room : length (listFrom n (cubesOf result) (cubesOf list) origin) ≤ cubeCapacity out
 
--- the script's result is whole, and the given list is accepted and fits the output
+-- the script's result is whole and short, and the given list is accepted and fits the output
 pub record Burns (n : ℕ) (list result : List ℕ) (out : ℕ) : Type 0 where
   pub whole : length result % recordWidth ≡ 0
+  pub short : length (cubesOf result) ≤ mostRecords
   pub passed : Accepts (checkList mostVariables n list)
   pub room : length (cubesOf list) ≤ cubeCapacity out
 

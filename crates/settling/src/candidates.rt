@@ -7,16 +7,16 @@ use polarity::Best;
 use polarity::Counts;
 use polarity::form;
 ghost use mathlib.Core.Path.{_≡_};
-ghost use Prim.Native.Nat.{_^_, _<_};
+ghost use Prim.Native.Nat.{_^_, _<_, _≤_};
 ghost use lib.ListN.{length};
-ghost use Rattle.cube.specs.Lists.{cubesOf, mostVariables, truthVector, vectorVariables};
+ghost use Rattle.cube.specs.Lists.{cubesOf, mostRecords, mostVariables, truthVector, vectorVariables};
 ghost use Rattle.cube.specs.Calls.{checkList};
-ghost use Rattle.polarity.specs.Forms.{countsOf};
+ghost use Rattle.polarity.specs.Ranks.{countsOf};
 ghost use Rattle.settling.specs.Candidates.{burnedList, fixedOf};
-ghost use Rattle.settling.specs.Choice.{candidateOf, betterOf, StandsFor, FormCounts, FormIs};
+ghost use Rattle.settling.specs.Choice.{candidateOf, betterOf, StandsFor, FormCounts, FormIs, Choosable};
 ghost use Rattle.records.specs.Answers.{Accepts};
 
-// The better of two candidates; ties go to the earlier.
+// The better of two candidates: the later one where it ranks lower, else the earlier.
 fn better(earlier: Candidate, later: Candidate) -> Candidate
     ensures { λ r. ⌜ r ≡ betterOf earlier later ⌝ }
 {
@@ -38,37 +38,39 @@ fn candidate(counts: Counts, origin: Origin) -> Candidate
 
 // The products of a list, and whether one of them has no literal.
 fn count_list(list: &[u8]) -> Counts
+    requires { ⌜ length (cubesOf (now list)) ≤ mostRecords ⌝ }
     ensures { λ r. ⌜ r ≡ countsOf (cubesOf (now (list .entry))) ⌝ }
 {
     let count = list.len() / cube::list::RECORD_WIDTH;
-    let mut bare: usize = 0;
+    let mut bare: u32 = 0;
     let mut i: usize = 0;
     while i < count {
-        let c = cube::list::cube_at(list, i);
-        bare += (c.seen == 0) as usize;
+        bare += cube::list::bare_at(list, i) as u32;
         i += 1;
     }
+    let products = count as u32;
     Counts {
-        products: count,
+        products,
         constant: 0 < bare,
     }
 }
 
 // The products of a vector's form under p, and whether one of them has no literal: its coefficient is the byte at p.
 fn count_form(vector: [u8; 256], p: usize, size: usize) -> Counts
-    requires { ⌜ p < 256 ⌝ }
+    requires { ⌜ (p < 256) × (size ≤ 256) ⌝ }
     ensures { λ r. ⌜ FormCounts vector p size r ⌝ }
 {
     let bare = vector[p];
+    let products = size as u32;
     Counts {
-        products: size,
+        products,
         constant: bare != 0,
     }
 }
 
 // The candidate that is burned: each in turn against the best before it.
 pub(crate) fn choose(n: usize, list: &[u8], result: &[u8], best: BestForm) -> Candidate
-    requires { ⌜ FormIs n (cubesOf (now list)) best ⌝ }
+    requires { ⌜ Choosable n (now list) (now result) best ⌝ }
     ensures { λ r. ⌜ StandsFor n (cubesOf (now (result .entry))) (cubesOf (now (list .entry))) (burnedList n (cubesOf (now (result .entry))) (cubesOf (now (list .entry)))) r ⌝ }
 {
     let script = candidate(count_list(result), Origin::Script);

@@ -12,6 +12,7 @@ pub fn all() -> Result<(), String> {
         single_runs(),
         refused_steps(),
         settled(),
+        costs(),
         limits(),
         too_many_variables(),
         long_labels(),
@@ -121,6 +122,36 @@ fn settled() -> Vec<Example> {
         (settle(1, &["0", "1", "-"], &[]), vec![0, 0, 3, 3, 3, 0, 0, 0]),
         (settle(3, &["000", "111"], &[]), vec![0, 0, 2, 2, 2, 1, 4, 2]),
         (settle(9, &["---------"], &[]), vec![0, 0, 1, 1, 1, u64::MAX, u64::MAX, 1]),
+    ]
+}
+
+/// Document 02, Two. Each settled list is compared with the model's too.
+fn costs() -> Vec<Example> {
+    let best = |n, bits: &[u8]| on_bits(Call::BestPolarity, n, bits, 0);
+    let settle = |n, list: &[&str], script: &[Step]| on_script(Call::Settle, n, &records(list), script, 4096);
+    let turn = Turn { v: 0, i: 0, j: 1 };
+    let (none, ends) = ("-".repeat(9), "1-------1");
+    vec![
+        // Polarity 0 has 4 products and cost 3, polarity 3 has 1 and cost 1.
+        (best(2, &[1, 0, 0, 0]), vec![0, 0, 3, 1]),
+        // Polarities 0 to 2, 5 and 7 have 4 products; that of 1 has the constant among them.
+        (best(3, &[0, 1, 0, 1, 1, 0, 0, 0]), vec![0, 0, 1, 4]),
+        (best(0, &[0]), vec![0, 0, 0, 0]),
+        // As many products, and a constant among the script's: the script's is burned; the other way round the given one.
+        (settle(2, &["1-", "01"], &[turn]), vec![0, 0, 2, 2, 2, 3, 2, 2]),
+        (settle(2, &["--", "00"], &[turn]), vec![0, 0, 2, 2, 2, 3, 2, 2]),
+        // Two constants, of which one is free: both lists cost 2, and the script's has fewer products.
+        (
+            settle(9, &[&none, &none, ends], &[Drop { i: 0, j: 1 }, Split { v: 0, i: 0 }]),
+            vec![0, 0, 3, 3, 2, u64::MAX, u64::MAX, 2],
+        ),
+        // The form costs as much as the lists, and has a product more.
+        (settle(3, &["000", "1--"], &[]), vec![0, 0, 2, 2, 2, 7, 3, 2]),
+        // The script's list has a constant before the undoing, and none after it: the given one is burned.
+        (settle(2, &["--", "00"], &[turn, L { v: 0, literal: 1 }]), vec![0, 0, 2, 2, 2, 3, 2, 2]),
+        (settle(0, &[""], &[]), vec![0, 0, 1, 1, 1, 0, 1, 1]),
+        (settle(0, &["", "", ""], &[]), vec![0, 0, 3, 3, 3, 0, 1, 1]),
+        (settle(0, &["", ""], &[]), vec![0, 0, 2, 2, 2, 0, 0, 0]),
     ]
 }
 

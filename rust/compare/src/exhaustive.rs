@@ -1,5 +1,6 @@
 //! Small worlds, whole.
 
+use crate::choices::{Choices, other_polarities};
 use crate::differ::{Call, Case, compare};
 use model::cube::{Cube, RECORD, encoded_list};
 use model::script::{Step, encoded};
@@ -8,15 +9,24 @@ use std::collections::BTreeMap;
 /// Every function of 4 variables: best polarity against trying all.
 pub fn functions_of_four() -> Result<(), String> {
     let mut by_size = [0; 17];
+    let mut another = [0; 2];
     for function in 0..1u32 << 16 {
-        let input = (0..16).map(|a| (function >> a & 1) as u8).collect();
+        let input: Vec<u8> = (0..16).map(|a| (function >> a & 1) as u8).collect();
+        let others = other_polarities(4, &input);
         let call = Call::BestPolarity;
         let case = Case { call, n: 4, input, number: 0, script: vec![], work: vec![], out: vec![] };
         let answer = compare(&case)?;
         by_size[answer[3] as usize] += 1;
+        for (count, other) in another.iter_mut().zip(others) {
+            *count += u32::from(other as u64 != answer[2]);
+        }
     }
     println!("{} functions; by size of the best form, from 0: {by_size:?}", 1 << 16);
-    Ok(())
+    let [by_products, forgotten] = another;
+    println!(
+        "another polarity by products alone {by_products} times, with products forgotten on a tie {forgotten} times"
+    );
+    if another.contains(&0) { Err("the functions do not tell the rules apart".into()) } else { Ok(()) }
 }
 
 /// Every list of up to 2 cubes over 2 variables with every script of up to 2 steps, run and settled, in buffers that
@@ -30,6 +40,7 @@ pub fn short_lists_and_scripts() -> Result<(), String> {
     scripts.extend(all.iter().flat_map(|first| all.iter().map(move |second| [*first, *second].concat())));
 
     let mut met = [0u64; 21];
+    let mut choices = Choices::default();
     for list in &lists {
         let input = encoded_list(list);
         for script in &scripts {
@@ -46,7 +57,11 @@ pub fn short_lists_and_scripts() -> Result<(), String> {
                 };
                 let settle = Case { call: Call::Settle, out: vec![0xc3; input.len() + more], ..run.clone() };
                 met[compare(&run)?[0] as usize] += 1;
-                met[compare(&settle)?[0] as usize] += 1;
+                let answer = compare(&settle)?;
+                met[answer[0] as usize] += 1;
+                if answer[0] == 0 {
+                    choices.add(&settle, &answer);
+                }
             }
         }
     }
@@ -61,6 +76,7 @@ pub fn short_lists_and_scripts() -> Result<(), String> {
     let refused: Vec<String> =
         (1..met.len()).filter(|&number| met[number] > 0).map(|number| format!("{number}: {}", met[number])).collect();
     println!("accepted {}; refused {}", met[0], refused.join(", "));
+    print!("{choices}");
     Ok(())
 }
 

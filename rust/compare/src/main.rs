@@ -5,6 +5,7 @@
 
 mod broken;
 mod cases;
+mod choices;
 mod converters;
 mod differ;
 mod examples;

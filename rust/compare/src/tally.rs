@@ -1,5 +1,6 @@
 //! How often each call answered each refusal number, and what the accepted scripts did.
 
+use crate::choices::Choices;
 use crate::differ::{Call, Case};
 use crate::refused_steps::RefusedSteps;
 use model::cube::RECORD;
@@ -14,8 +15,7 @@ pub struct Tally {
     /// Steps of accepted runs by operation.
     steps: [u64; 6],
     refused_steps: RefusedSteps,
-    /// Settled maps by what was burned: the script's result, the given list, the form.
-    burned: [u64; 3],
+    choices: Choices,
     /// Accepted lists of 32 variables with a literal at the last of them.
     with_the_last_variable: u64,
     longest_list: usize,
@@ -40,9 +40,7 @@ impl Tally {
                 self.longest_script = self.longest_script.max(case.script.len() / 8);
                 self.highest_peak = self.highest_peak.max(answer[3]);
                 if case.call == Call::Settle {
-                    let [given, _, script, _, _, burned] = answer[2..] else { unreachable!() };
-                    let candidate = [script, given, burned].iter().position(|&count| count == burned);
-                    self.burned[candidate.expect("the last is always equal")] += 1;
+                    self.choices.add(case, answer);
                 }
             }
             0 => {}
@@ -51,7 +49,7 @@ impl Tally {
     }
 
     /// The refusals that the documents give a call and that were not met, and those met that they do not give; and what
-    /// is amiss with refused steps.
+    /// is amiss with refused steps and with choices.
     pub fn amiss(&self) -> Vec<String> {
         let mut amiss = Vec::new();
         for ((name, numbers), answers) in ORDERS.iter().zip(&self.answers) {
@@ -66,6 +64,7 @@ impl Tally {
             amiss.push("no accepted list has a literal at variable 31".into());
         }
         amiss.extend(self.refused_steps.amiss());
+        amiss.extend(self.choices.amiss());
         amiss
     }
 }
@@ -92,8 +91,7 @@ impl fmt::Display for Tally {
         let [_, drops, joins, splits, turns, ls] = self.steps;
         writeln!(f, "steps of accepted scripts: {drops} drops, {joins} joins, {splits} splits, {turns} turns, {ls} L")?;
         write!(f, "{}", self.refused_steps)?;
-        let [script, given, form] = self.burned;
-        writeln!(f, "burned: {script} times the script's result, {given} the given list, {form} the form")?;
+        write!(f, "{}", self.choices)?;
         writeln!(f, "accepted lists with a literal at variable 31: {}", self.with_the_last_variable)?;
         write!(
             f,

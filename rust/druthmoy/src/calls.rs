@@ -58,7 +58,8 @@ pub fn write_form(n: u64, coefficients: &[u8], p: u64, out: &mut [u8]) -> Result
     accepted(words::write_form(n, coefficients, p, out)).map(|[count, ..]| count)
 }
 
-/// The polarity of a truth vector with the fewest products, the smallest on a tie.
+/// The polarity of a truth vector whose form costs least: its number of products, less one if one of them has no literal. Of several such the
+/// one with the fewest products, and of those the smallest.
 pub fn best_polarity(n: u64, vector: &[u8]) -> Result<Fixed, Refusal> {
     accepted(words::best_polarity(n, vector)).map(|[polarity, size, ..]| Fixed { polarity, size })
 }
@@ -68,7 +69,8 @@ pub fn run(n: u64, list: &[u8], script: &[u8], work: &mut [u8]) -> Result<Run, R
     accepted(words::run(n, list, script, work)).map(|[count, peak, ..]| Run { count, peak })
 }
 
-/// Settles a map; the list to burn stands at the front of `out`, with zeros after it, and `work` ends all zero.
+/// Settles a map: of the script's result, the given list and, for at most 8 variables, the form of the best polarity, the one that costs least, then
+/// has the fewest products, then comes first. It stands at the front of `out`, with zeros after it, and `work` ends all zero.
 pub fn settle(n: u64, list: &[u8], script: &[u8], work: &mut [u8], out: &mut [u8]) -> Result<Settled, Refusal> {
     let [given, peak, script, polarity, size, burned] = accepted(words::settle(n, list, script, work, out))?;
     let fixed = (n <= 8).then_some(Fixed { polarity, size });

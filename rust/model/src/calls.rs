@@ -71,7 +71,7 @@ pub fn write_form(n: u64, coefficients: &[u8], p: u64, out: &mut [u8]) -> Outcom
 
 pub fn best_polarity(n: u64, vector: &[u8]) -> Outcome {
     check_bits(n, vector)?;
-    let best = polarity::best(vector);
+    let best = polarity::best(n as usize, vector);
     Ok(vec![best.polarity as u64, best.size as u64])
 }
 

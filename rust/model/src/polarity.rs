@@ -1,5 +1,6 @@
 //! "Fixed polarity".
 
+use crate::cost::standing;
 use crate::cube::Cube;
 
 /// A best polarity and the number of products of its form.
@@ -43,13 +44,11 @@ pub fn form(n: usize, coefficients: &[u8], p: usize) -> Vec<Cube> {
     (0..coefficients.len()).filter(|&s| coefficients[s] != 0).map(cube).collect()
 }
 
-/// "The best polarity has the fewest products; on a tie the smallest p wins."
-pub fn best(vector: &[u8]) -> Best {
-    let size = |p| coefficients(vector, p).iter().filter(|&&coefficient| coefficient != 0).count();
-    (0..vector.len())
-        .map(|polarity| Best { polarity, size: size(polarity) })
-        .min_by_key(|best| (best.size, best.polarity))
-        .unwrap()
+/// Document 02, Two: "The best polarity has the least cost, then the fewest products, then the smallest p."
+pub fn best(n: usize, vector: &[u8]) -> Best {
+    let form = |p| form(n, &coefficients(vector, p), p);
+    let (_, polarity) = (0..vector.len()).map(|p| (standing(&form(p)), p)).min().unwrap();
+    Best { polarity, size: form(polarity).len() }
 }
 
 fn within(t: usize, s: usize) -> bool {

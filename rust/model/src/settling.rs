@@ -1,5 +1,6 @@
 //! "Settling".
 
+use crate::cost::standing;
 use crate::cube::{Cube, truth_vector};
 use crate::polarity::{self, Best};
 use crate::refusal::Refusal;
@@ -14,18 +15,18 @@ pub struct Settled {
     pub burned: Vec<Cube>,
 }
 
-/// "Three candidates, compared by number of products, ties to the earlier."
+/// "Three candidates .. ties to the earlier"; document 02, Two: "Settling compares cost, then products, then the old order of candidates."
 pub fn settle(n: usize, given: &[Cube], script: &[Step], capacity: usize) -> Result<Settled, Refusal> {
     let run = script::run(given, script, capacity)?;
     let mut candidates = vec![run.list.clone(), given.to_vec()];
     let mut fixed = None;
     if n <= 8 {
         let vector = truth_vector(n, given);
-        let best = polarity::best(&vector);
+        let best = polarity::best(n, &vector);
         fixed = Some(best);
         candidates.push(polarity::form(n, &polarity::coefficients(&vector, best.polarity), best.polarity));
     }
-    let fewest = candidates.iter().map(Vec::len).min().unwrap();
-    let burned = candidates.into_iter().find(|candidate| candidate.len() == fewest).unwrap();
+    let least = candidates.iter().map(|candidate| standing(candidate)).min().unwrap();
+    let burned = candidates.into_iter().find(|candidate| standing(candidate) == least).unwrap();
     Ok(Settled { given: given.len(), peak: run.peak, script: run.list.len(), fixed, burned })
 }

@@ -2,6 +2,7 @@
 //! examples.
 
 use model::calls::{self, Outcome, words};
+use model::cost::standing;
 use model::cube::{Cube, RECORD, encoded_list, encoded_narrow_list, read, truth_vector, value, written};
 use model::polarity::{Best, best, coefficients, form, vector};
 use model::program::printed;
@@ -41,12 +42,46 @@ fn run_of(cubes: &[&str], step: Step) -> Outcome {
 
 #[test]
 fn best_polarities() {
-    assert_eq!(best(&[0, 1, 1, 0]), Best { polarity: 0, size: 2 });
+    assert_eq!(best(2, &[0, 1, 1, 0]), Best { polarity: 0, size: 2 });
     assert_eq!(form(2, &coefficients(&[0, 1, 1, 0], 3), 3).len(), 2);
-    assert_eq!(best(&[0, 1, 1, 1]), Best { polarity: 3, size: 2 });
+    assert_eq!(best(2, &[0, 1, 1, 1]), Best { polarity: 3, size: 2 });
     assert_eq!(form(2, &coefficients(&[0, 1, 1, 1], 0), 0).len(), 3);
-    assert_eq!(best(&truth_vector(3, &list(&["000", "111"]))), Best { polarity: 1, size: 4 });
-    assert_eq!(best(&[1]), Best { polarity: 0, size: 1 });
+    assert_eq!(best(3, &truth_vector(3, &list(&["000", "111"]))), Best { polarity: 1, size: 4 });
+    assert_eq!(best(0, &[1]), Best { polarity: 0, size: 1 });
+}
+
+/// Document 02, Two.
+#[test]
+fn costs() {
+    let under = |n, bits: &[u8], p| form(n, &coefficients(bits, p), p);
+    assert_eq!(standing(&under(2, &[1, 0, 0, 0], 0)), (3, 4));
+    assert_eq!(standing(&under(2, &[1, 0, 0, 0], 3)), (1, 1));
+    assert_eq!(best(2, &[1, 0, 0, 0]), Best { polarity: 3, size: 1 });
+    // As much cost, and fewer products.
+    assert_eq!([0, 1].map(|p| standing(&under(2, &[1, 0, 0, 1], p))), [(2, 3), (2, 2)]);
+    assert_eq!(best(2, &[1, 0, 0, 1]), Best { polarity: 1, size: 2 });
+    // As many products, and less cost.
+    assert_eq!([0, 1].map(|p| standing(&under(3, &[0, 1, 0, 1, 1, 0, 0, 0], p))), [(4, 4), (3, 4)]);
+    assert_eq!(best(3, &[0, 1, 0, 1, 1, 0, 0, 0]), Best { polarity: 1, size: 4 });
+    // Free once.
+    assert_eq!(standing(&list(&["--", "11", "--"])), (2, 3));
+    assert_eq!([0, 1, 2].map(|count| standing(&list(&vec![""; count]))), [(0, 0), (0, 1), (1, 2)]);
+}
+
+/// Which list is burned where the constant decides.
+#[test]
+fn settled_by_cost() {
+    let turn = encoded_script(&[Turn { v: 0, i: 0, j: 1 }]);
+    let turn_and_l = encoded_script(&[Turn { v: 0, i: 0, j: 1 }, L { v: 0, literal: 1 }]);
+    let with_constant = "in 2 peak 2 script 2 fixed 3 2 out 2\n--\n00\n";
+    assert_eq!(printed(2, &records(&["1-", "01"]), &turn), with_constant);
+    assert_eq!(printed(2, &records(&["--", "00"]), &turn), with_constant);
+    assert_eq!(printed(2, &records(&["--", "00"]), &turn_and_l), with_constant);
+    let script = encoded_script(&[Drop { i: 0, j: 1 }, Split { v: 0, i: 0 }]);
+    let text = printed(9, &records(&["---------", "---------", "1-------1"]), &script);
+    assert_eq!(text, "in 3 peak 3 script 2 fixed - - out 2\n0-------1\n--------1\n");
+    assert_eq!(printed(3, &records(&["000", "1--"]), &[]), "in 2 peak 2 script 2 fixed 7 3 out 2\n000\n1--\n");
+    assert_eq!(printed(0, &records(&["", "", ""]), &[]), "in 3 peak 3 script 3 fixed 0 1 out 1\n\n");
 }
 
 #[test]

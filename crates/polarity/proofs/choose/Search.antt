@@ -3,29 +3,31 @@
 use mathlib.Core.Path.{_≡_, refl, sym, ap, ap₂, _∙_, subst}
 use mathlib.Core.Bool.{Bool, true, false, cond}
 use mathlib.Core.List.{List, [], _∷_}
-use Prim.Native.Nat.{ℕ, zero, suc, _+_, _-_, _*_, _%_, _^_, _<_, _≤_, zero-le}
+use Prim.Native.Nat.{ℕ, zero, suc, _+_, _-_, _*_, _/_, _%_, _^_, _<_, _≤_, zero-le}
 use native.Mathlib.Nat.{le-refl, zero-add}
 use native.Mathlib.Omega.{arith}
 use lib.Bits.{bitXor}
 use lib.Dec.{ltb, lit<}
 use borrow.Author.Tests.{ltb-true, ltb-false}
 use Rattle.bits.specs.Bits.{bit}
-use Rattle.bits.specs.Below.{leastBelow, LeastIn}
 use Rattle.bits.specs.Packed.{packed, lowered, raised}
 use Rattle.bits.specs.declared.packed.Packed.{Packed}
 use Rattle.bits.proofs.Bits.{bit-high, with-other, plus-with, shl-one}
-use Rattle.bits.proofs.Least.{in-one, in-upper, in-lower, in-all}
+use Rattle.bits.proofs.Least.{LeastIn, in-one, in-upper, in-lower, in-unique}
 use Rattle.records.specs.declared.Refusal.{Refusal}
 use Rattle.records.specs.Answers.{accepted, refused}
 use Rattle.records.proofs.Answers.{and-then, and-not}
 use Rattle.polarity.specs.declared.Counts.{Counts}
 use Rattle.polarity.specs.declared.choose.Chosen.{Chosen}
-use Rattle.polarity.specs.Forms.{coefficient, formList, size, countsOf, rankOf, rank, bestPolarity}
+use Rattle.polarity.specs.Forms.{coefficient, formList, size, bestPolarity}
+use Rattle.polarity.specs.Ranks.{rankOf, rank}
 use Rattle.polarity.specs.Vectors.{byteAt, Vector, checkVector}
 use Rattle.polarity.specs.Calls.{bestOutcome}
-use Rattle.polarity.specs.Words.{Shows, passed, countsIn, bestOfOne, lesserOf, bestFrom}
+use Rattle.polarity.specs.Words.{Shows, passed, countsIn, bestOfOne, lesserOf, bestFrom, ChosenIs}
 use Rattle.polarity.proofs.Parities.{pow-double, parity-lt}
 use Rattle.polarity.proofs.Passes.{xor-with}
+use Rattle.polarity.proofs.Ranks.{half-rank}
+use Rattle.polarity.proofs.Theorems.{best-has-least-rank}
 use Rattle.polarity.proofs.Shown.{shows-vector, shows-positive, shows-turn, shown-counts}
 
 -- w shows the coefficients under p, which has no variable below k
@@ -38,38 +40,32 @@ record Trying (n : ℕ) (f : ℕ → ℕ) (k : ℕ) (w : Packed) (p : ℕ) : Typ
 -- of the polarities from a to b this one has the least rank, and of several such it is the smallest
 record BestIn (n : ℕ) (f : ℕ → ℕ) (a b : ℕ) (c : Chosen) : Type 0 where
   best : LeastIn (λ q. rank (formList n q f)) a b (c .polarity)
-  ranked : c .least ≡ rank (formList n (c .polarity) f)
-  counted : c .products ≡ size n (c .polarity) f
+  ranked : c .rank ≡ rank (formList n (c .polarity) f)
 
 module _ (n : ℕ) (f : ℕ → ℕ) where
   abbrev ranks : ℕ → ℕ
   ranks q = rank (formList n q f)
 
   best-one : (w : Packed) (p : ℕ) → Trying n f 0 w p → BestIn n f p (p + 1) (bestOfOne w p)
-  unfolding bestOfOne countsOf
-  best-one w p T =
-      let are : countsIn w ≡ countsOf (formList n p f) = shown-counts n p (T .few) (coefficient n p f) (parity-lt n (λ t. f (bitXor t p))) w (T .shows) in
-      record {
-        best = in-one ranks p (p + 1) refl;
-        ranked = ap rankOf are;
-        counted = ap (λ (x : Counts). x .products) are;
-      }
+  unfolding bestOfOne
+  best-one w p T = record {
+    best = in-one ranks p (p + 1) refl;
+    ranked = ap rankOf (shown-counts n p (T .few) (coefficient n p f) (parity-lt n (λ t. f (bitXor t p))) w (T .shows));
+  }
 
   -- of two ranges side by side
   best-both : (a b c : ℕ) (x y : Chosen) → BestIn n f a b x → BestIn n f b c y → BestIn n f a c (lesserOf x y)
   unfolding lesserOf
-  best-both a b c x y P Q = go (ltb (y .least) (x .least)) refl
+  best-both a b c x y P Q = go (ltb (y .rank) (x .rank)) refl
     where
-      go : (t : Bool) → ltb (y .least) (x .least) ≡ t → BestIn n f a c (cond t y x)
+      go : (t : Bool) → ltb (y .rank) (x .rank) ≡ t → BestIn n f a c (cond t y x)
       go true e = record {
-        best = in-upper ranks a b c (x .polarity) (y .polarity) (P .best) (Q .best) (omega (arith, P .ranked, Q .ranked, ltb-true (y .least) (x .least) e));
+        best = in-upper ranks a b c (x .polarity) (y .polarity) (P .best) (Q .best) (omega (arith, P .ranked, Q .ranked, ltb-true (y .rank) (x .rank) e));
         ranked = Q .ranked;
-        counted = Q .counted;
       }
       go false e = record {
-        best = in-lower ranks a b c (x .polarity) (y .polarity) (P .best) (Q .best) (omega (arith, P .ranked, Q .ranked, ltb-false (y .least) (x .least) e));
+        best = in-lower ranks a b c (x .polarity) (y .polarity) (P .best) (Q .best) (omega (arith, P .ranked, Q .ranked, ltb-false (y .rank) (x .rank) e));
         ranked = P .ranked;
-        counted = P .counted;
       }
 
   module _ (k : ℕ) (w : Packed) (p : ℕ) (T : Trying n f (suc k) w p) where
@@ -98,8 +94,7 @@ module _ (n : ℕ) (f : ℕ → ℕ) where
 
 -- over all polarities
 pub best-all : (n : ℕ) (l : List ℕ) → Vector n l → (w w′ : Packed) (c : Chosen) → w ≡ packed l → w′ ≡ passed raised n w → c ≡ bestFrom n w′ 0
-    → (c .polarity ≡ bestPolarity n (byteAt l)) × (c .products ≡ size n (bestPolarity n (byteAt l)) (byteAt l))
-unfolding bestPolarity
+    → ChosenIs n (byteAt l) c
 best-all n l v w w′ c ew ew′ ec =
     let T : Trying n (byteAt l) n (passed raised n w) 0 = record {
       few = v .few;
@@ -109,26 +104,28 @@ best-all n l v w w′ c ew ew′ ec =
     } in
     let at : c ≡ bestFrom n (passed raised n w) 0 = ec ∙ ap (λ (x : Packed). bestFrom n x 0) ew′ in
     let B : BestIn n (byteAt l) 0 (0 + 2 ^ n) c = subst (BestIn n (byteAt l) 0 (0 + 2 ^ n)) (sym at) (best-range n (byteAt l) n (passed raised n w) 0 T) in
-    let is : c .polarity ≡ leastBelow (ranks n (byteAt l)) (2 ^ n) =
-    in-all (ranks n (byteAt l)) (2 ^ n) (c .polarity) (subst (λ (x : ℕ). LeastIn (ranks n (byteAt l)) 0 x (c .polarity)) (zero-add (2 ^ n)) (B .best)) in
-    (is, B .counted ∙ ap (λ (q : ℕ). size n q (byteAt l)) is)
+    record {
+      polarity-is =
+          in-unique (ranks n (byteAt l)) 0 (2 ^ n) (c .polarity) (bestPolarity n (byteAt l))
+          (subst (λ (x : ℕ). LeastIn (ranks n (byteAt l)) 0 x (c .polarity)) (zero-add (2 ^ n)) (B .best)) (best-has-least-rank n (byteAt l));
+      rank-is = B .ranked;
+    }
 
 -- ---- as the code goes
 
 -- chosen field by field
-pub lesser-fields : (x y : Chosen) (p m r : ℕ) → p ≡ cond (ltb (y .least) (x .least)) (y .polarity) (x .polarity)
-    → m ≡ cond (ltb (y .least) (x .least)) (y .products) (x .products) → r ≡ cond (ltb (y .least) (x .least)) (y .least) (x .least)
-    → record { polarity = p; products = m; least = r } ≡ lesserOf x y
+pub lesser-fields : (x y : Chosen) (p r : ℕ) → p ≡ cond (ltb (y .rank) (x .rank)) (y .polarity) (x .polarity)
+    → r ≡ cond (ltb (y .rank) (x .rank)) (y .rank) (x .rank) → record { polarity = p; rank = r } ≡ lesserOf x y
 unfolding lesserOf
-lesser-fields x y p m r ep em er = (λ i. record { polarity = ep i; products = em i; least = er i }) ∙ whole (ltb (y .least) (x .least))
+lesser-fields x y p r ep er = (λ i. record { polarity = ep i; rank = er i }) ∙ whole (ltb (y .rank) (x .rank))
   where
-    whole : (t : Bool) → record { polarity = cond t (y .polarity) (x .polarity); products = cond t (y .products) (x .products); least = cond t (y .least) (x .least) } ≡ cond t y x
+    whole : (t : Bool) → record { polarity = cond t (y .polarity) (x .polarity); rank = cond t (y .rank) (x .rank) } ≡ cond t y x
     whole true = refl
     whole false = refl
 
-pub one-is : (w : Packed) (p : ℕ) (c : Counts) (r : ℕ) → c ≡ countsIn w → r ≡ rankOf c → record { polarity = p; products = c .products; least = r } ≡ bestFrom 0 w p
+pub one-is : (w : Packed) (p : ℕ) (c : Counts) (r : ℕ) → c ≡ countsIn w → r ≡ rankOf c → record { polarity = p; rank = r } ≡ bestFrom 0 w p
 unfolding bestFrom bestOfOne
-one-is w p c r ec er = λ i. record { polarity = p; products = ec i .products; least = (er ∙ ap rankOf ec) i }
+one-is w p c r ec er = λ i. record { polarity = p; rank = (er ∙ ap rankOf ec) i }
 
 -- the best of 2 ^ (j + 1) polarities, from those of each half; h is 2 ^ j
 pub halves-are : (j h p : ℕ) → h ≡ 2 ^ j → (w w′ : Packed) → w′ ≡ lowered j w → (x y r : Chosen) → x ≡ bestFrom j w p → y ≡ bestFrom j w′ (p + h) → r ≡ lesserOf x y
@@ -165,7 +162,9 @@ module _ (n : ℕ) (l : List ℕ) where
   unfolding bestOutcome
   best-refused r e = sym (and-not _ _ r e)
 
-  pub best-found : (m : ℕ) → checkVector n l ≡ accepted (m ∷ []) → (p products : ℕ) → p ≡ bestPolarity n (byteAt l)
-      → products ≡ size n (bestPolarity n (byteAt l)) (byteAt l) → accepted (p ∷ products ∷ []) ≡ bestOutcome n l
+  pub best-found : (m : ℕ) → checkVector n l ≡ accepted (m ∷ []) → (c : Chosen) → ChosenIs n (byteAt l) c → accepted (c .polarity ∷ c .rank / 2 ∷ []) ≡ bestOutcome n l
   unfolding bestOutcome
-  best-found m e p products ep es = ap₂ (λ (x y : ℕ). accepted (x ∷ y ∷ [])) ep es ∙ sym (and-then _ _ _ e)
+  best-found m e c is =
+      ap₂ (λ (x y : ℕ). accepted (x ∷ y ∷ [])) (is .polarity-is)
+      (ap (λ (r : ℕ). r / 2) (is .rank-is) ∙ half-rank (formList n (c .polarity) (byteAt l)) ∙ ap (λ (q : ℕ). size n q (byteAt l)) (is .polarity-is))
+      ∙ sym (and-then _ _ _ e)

@@ -16,12 +16,15 @@ use Rattle.records.proofs.Counting.{Counting, counted-all}
 use Rattle.records.proofs.Records.{length-list}
 use Rattle.cube.specs.Lists.{cubes, cubesOf, recordWidth, vectorVariables, truthVector}
 use Rattle.cube.specs.declared.Cube.{Cube}
-use Rattle.polarity.specs.Forms.{parityWithin, coefficient, formList, countsOf, rankOf, rank}
+use Rattle.cube.specs.Cubes.{bare}
+use Rattle.polarity.specs.Forms.{parityWithin, coefficient, formList}
+use Rattle.polarity.specs.Ranks.{countsOf, rankOf, rank}
 use Rattle.polarity.specs.Vectors.{byteAt, Vector}
 use Rattle.polarity.specs.declared.Counts.{Counts}
-use Rattle.polarity.proofs.Forms.{form-counts}
+use Rattle.polarity.proofs.Forms.{form-counts, form-most}
 use Rattle.polarity.proofs.Parities.{parity-zero, parity-low, parity-lt}
-use Rattle.polarity.proofs.Theorems.{best-has-fewest}
+use Rattle.polarity.proofs.Ranks.{cheaper-rank}
+use Rattle.polarity.proofs.Theorems.{best-has-least-rank}
 use Rattle.settling.specs.Candidates.{bestOf, bestForm, better, burnedList, fixedOf}
 use Rattle.settling.specs.Choice.{FormCounts, candidateOf, betterOf, StandsFor, FormIs}
 use Rattle.settling.specs.declared.BestForm.{BestForm}
@@ -30,10 +33,6 @@ use Rattle.settling.specs.declared.Fixed.the-variants as fixed-is
 use Rattle.settling.specs.declared.Origin.{Origin}
 use Rattle.settling.specs.declared.Origin.the-variants as origin-is
 use Rattle.settling.proofs.Forming.{truth-vector-is}
-
--- the test of a product with no literal
-abbrev pub bare : Cube → Bool
-bare c = eqb (c .seen) 0
 
 pub list-counted : (list : List ℕ) (t i : ℕ) → Counting cubes bare list t i → length list / recordWidth ≤ i
     → record { products = length list / recordWidth; constant = ltb 0 t } ≡ countsOf (cubesOf list)
@@ -84,10 +83,13 @@ module _ (n : ℕ) (given : List Cube) (best : BestForm) (F : FormIs n given bes
       go false t z = let no : _≡_ {A = ℕ} 0 1 = cc in absurd (omega arith)
 
   inside : p < 2 ^ n
-  inside = subst (λ (q : ℕ). q < 2 ^ n) (sym (found .p-is)) (best-has-fewest n (byteAt (truthVector n given)) .inside)
+  inside = subst (λ (q : ℕ). q < 2 ^ n) (sym (found .p-is)) (best-has-least-rank n (byteAt (truthVector n given)) .inside)
 
-  pub polarity-inside : p < 256
-  polarity-inside = omega (arith, inside, pow-mono (found .few))
+  pub form-inside : (p < 256) × (size ≤ 256)
+  unfolding bestForm
+  form-inside =
+      let most : 2 ^ n ≤ 256 = pow-mono (found .few) in
+      (omega (arith, inside, most), omega (arith, found .size-is, form-most n (bestOf n given) (coefficient n (bestOf n given) (byteAt (truthVector n given))), most))
 
   form-is : formList n p (byteAt (take (2 ^ n) (best .vector))) ≡ bestForm n given
   unfolding bestForm
@@ -107,7 +109,7 @@ module _ (n : ℕ) (given : List Cube) (best : BestForm) (F : FormIs n given bes
 module _ (n : ℕ) (result given : List Cube) where
   better-stands : (l m : List Cube) (a b : Candidate) → StandsFor n result given l a → StandsFor n result given m b → StandsFor n result given (better l m) (betterOf a b)
   better-stands l m a b S T =
-      subst (λ (t : Bool). StandsFor n result given (cond t m l) (betterOf a b)) (ap₂ ltb (T .rank-is) (S .rank-is)) (go (ltb (b .rank) (a .rank)))
+      subst (λ (t : Bool). StandsFor n result given (cond t m l) (betterOf a b)) (ap₂ ltb (T .rank-is) (S .rank-is) ∙ sym (cheaper-rank m l)) (go (ltb (b .rank) (a .rank)))
     where
       go : (t : Bool) → StandsFor n result given (cond t m l) (cond t b a)
       go true = T

@@ -13,7 +13,7 @@ use Rattle.records.specs.Answers.{Outcome, accepted, refused, refusal, unless, 
 use Rattle.records.specs.Records.{image, Holds, flat, filled, zeros}
 use Rattle.records.specs.declared.Refusal.{Refusal}
 use Rattle.records.proofs.Answers.{not-both, accepted-values, unless-accepted, unless-at-accepted, and-then, and-not, unless-passes, unless-fails}
-use Rattle.records.proofs.Records.{capacity-fits, capacity-most, holds-fits, image-holds}
+use Rattle.records.proofs.Records.{capacity-fits, capacity-most, holds-fits, image-holds, length-list}
 use Rattle.records.proofs.Images.{length-flat}
 use Rattle.cube.specs.Calls.{checkListOf, checkList}
 use Rattle.cube.specs.Cubes.{good}
@@ -26,17 +26,24 @@ use Rattle.script.specs.Scripts.{stepsOf}
 use Rattle.script.proofs.Counts.{run-peak-capacity, run-last}
 use Rattle.settling.specs.Calls.{checkSettle, fixedValues, ranSettled, settleOutcome, settleWorkBy, settleWork, settleOutBy, settleOut}
 use Rattle.settling.specs.Candidates.{burnedList}
-use Rattle.settling.specs.Choice.{listFrom, StandsFor, FormIs, Burnable, Burns, BurnedIs, BurningIs}
+use Rattle.settling.specs.Choice.{listFrom, StandsFor, FormIs, Choosable, Burnable, Burns, BurnedIs, BurningIs}
 use Rattle.settling.specs.declared.BestForm.{BestForm}
 use Rattle.settling.specs.declared.Burning.{Burning}
 use Rattle.settling.specs.declared.Candidate.{Candidate}
-use Rattle.settling.proofs.Fewest.{burned-le-given}
+use Rattle.settling.proofs.Cheapest.{burned-le-given}
 
 -- settle was called with n, a list, a script and two buffers; its answer was o, and it left work′ and out′ in the buffers
 pub record SettleDone (n : ℕ) (list script work out : List ℕ) (o : Outcome) (work′ out′ : List ℕ) : Type 0 where
   pub answer : o ≡ settleOutcome n list script (length work) (length out)
   pub work-is : work′ ≡ settleWork n list script work (length out)
   pub out-is : out′ ≡ settleOut n list script (length work) out
+
+pub best-choosable : (n : ℕ) (list result : List ℕ) (best : BestForm) → FormIs n (cubesOf list) best → (out : ℕ) → Burns n list result out → Choosable n list result best
+best-choosable n list result best F out b = record {
+  list-short = omega (arith, check-accepts cubes mostVariables n list (b .passed .values) (b .passed .is) .short, length-list cubes list);
+  result-short = b .short;
+  best-is = F;
+}
 
 module _ (n : ℕ) (list result : List ℕ) (best : BestForm) (F : FormIs n (cubesOf list) best) (c : Candidate)
     (S : StandsFor n (cubesOf result) (cubesOf list) (burnedList n (cubesOf result) (cubesOf list)) c) where
@@ -195,6 +202,7 @@ module _ (n : ℕ) (list script work out : List ℕ) where
             pub run-burns : Burns n list front (length out)
             run-burns = record {
               whole = omega (arith, ap length front-is, front-long);
+              short = subst (λ (l : List Cube). length l ≤ mostRecords) (sym result-is) (le-trans few (capacity-most cubes mostRecords (length work)));
               passed = record { values = given ∷ []; is = eg };
               room = room-out;
             }

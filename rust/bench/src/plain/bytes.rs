@@ -8,19 +8,20 @@ pub fn write_values(records: &[[u8; RECORD]], out: &mut [u8]) {
     }
 }
 
-/// The polarity with the fewest products, the smallest on a tie, and how many.
+/// The polarity with the least cost, then the fewest products, then the smallest p, and how many products it has. The constant's coefficient is the first.
 pub fn best(vector: &[u8]) -> (usize, usize) {
     let mut scratch = [0; 256];
     let scratch = &mut scratch[..vector.len()];
-    let mut best = (0, usize::MAX);
+    let mut best = ((usize::MAX, usize::MAX), 0);
     for p in 0..vector.len() {
         coefficients(vector, p, scratch);
         let size = scratch.iter().filter(|&&coefficient| coefficient != 0).count();
-        if size < best.1 {
-            best = (p, size);
+        let standing = (size - usize::from(scratch[0]), size);
+        if standing < best.0 {
+            best = (standing, p);
         }
     }
-    best
+    (best.1, best.0.1)
 }
 
 /// Writes the coefficients of `vector` under `p`.

@@ -1,9 +1,10 @@
 //! Settle: run in the work buffer, find the best polarity where there are few variables, burn the best of the three.
 
-use super::cube::{RECORD, VARIABLES, records};
+use super::cube::{Cube, RECORD, VARIABLES, records};
 use super::lists::checked;
 use super::script::{checked_script, run_in};
 use super::vectors::{Way, write_cubes};
+use super::words::rank;
 use super::{Refusal, Words, refuse_if, words};
 
 #[inline(never)]
@@ -34,11 +35,15 @@ fn try_settle<W: Way>(
         (usize::MAX, usize::MAX)
     };
 
-    let burned = done.count.min(given.len()).min(size);
+    let result = &work[..done.count * RECORD];
+    let script = rank(done.count, has_bare(result.as_chunks().0));
+    let both = script.min(rank(given.len(), has_bare(given)));
+    let least = if few { both.min(rank(size, vector[p] == 1)) } else { both };
+    let burned = least / 2;
     out.fill(0);
-    if burned == done.count {
-        out[..burned * RECORD].copy_from_slice(&work[..burned * RECORD]);
-    } else if burned == given.len() {
+    if least == script {
+        out[..result.len()].copy_from_slice(result);
+    } else if least == both {
         out[..list.len()].copy_from_slice(list);
     } else {
         let mut coefficients = [0; 256];
@@ -48,4 +53,9 @@ fn try_settle<W: Way>(
     }
     work.fill(0);
     Ok([given.len(), done.peak, done.count, p, size, burned].map(|count| count as u64))
+}
+
+/// Whether a product has no literal.
+fn has_bare(records: &[[u8; RECORD]]) -> bool {
+    records.iter().filter(|record| Cube::read(record).seen == 0).count() > 0
 }

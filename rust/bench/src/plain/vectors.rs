@@ -11,7 +11,7 @@ pub trait Way {
     fn write_values(n: u64, records: &[[u8; RECORD]], out: &mut [u8]);
     fn coefficients(n: u64, vector: &[u8], p: usize, out: &mut [u8]);
     fn vector(n: u64, coefficients: &[u8], p: usize, out: &mut [u8]);
-    /// The polarity with the fewest products, the smallest on a tie, and how many.
+    /// The polarity with the least cost, then the fewest products, then the smallest p, and how many products it has.
     fn best(n: u64, vector: &[u8]) -> (usize, usize);
 }
 

@@ -130,8 +130,8 @@ impl Packed {
     }
 
     #[inline]
-    fn ones(self) -> usize {
-        self.0.iter().map(|word| word.count_ones() as usize).sum()
+    fn rank(self) -> usize {
+        rank(self.0.iter().map(|word| word.count_ones() as usize).sum(), self.0[0] & 1 == 1)
     }
 
     /// From a vector's bits the positive coefficients, and from those the vector's bits.
@@ -152,25 +152,26 @@ impl Packed {
             1 => self.best_of::<1>(p),
             2 => self.best_of::<2>(p),
             3 => self.best_of::<3>(p),
-            _ => fewer(self.best_from(k - 1, p), self.lowered(k - 1).best_from(k - 1, p + (1 << (k - 1)))),
+            _ => lesser(self.best_from(k - 1, p), self.lowered(k - 1).best_from(k - 1, p + (1 << (k - 1)))),
         }
     }
 
     #[inline]
     fn best_of<const K: usize>(self, p: usize) -> (usize, usize) {
-        let mut best = (p, self.ones());
+        let mut best = (p, self.rank());
         let mut bits = [self; 8];
         for q in 1..1 << K {
             let k = usize::ilog2(q) as usize;
             bits[q] = bits[q - (1 << k)].lowered(k);
-            best = fewer(best, (p + q, bits[q].ones()));
+            best = lesser(best, (p + q, bits[q].rank()));
         }
         best
     }
 
-    /// The polarity with the fewest products, the smallest on a tie, and how many, from the vector's bits.
+    /// The best polarity and its number of products, from the vector's bits.
     pub fn best(self, n: u64) -> (usize, usize) {
-        self.transformed(n).best_from(n as usize, 0)
+        let (p, rank) = self.transformed(n).best_from(n as usize, 0);
+        (p, rank / 2)
     }
 }
 
@@ -211,18 +212,30 @@ impl Word {
     /// The same from one word: the last variable's two polarities are taken at once.
     fn best_from(self, k: usize, p: usize) -> (usize, usize) {
         match k {
-            0 => (p, self.0.count_ones() as usize),
-            1 => fewer((p, self.0.count_ones() as usize), (p + 1, self.lowered(0).0.count_ones() as usize)),
-            _ => fewer(self.best_from(k - 1, p), self.lowered(k - 1).best_from(k - 1, p + (1 << (k - 1)))),
+            0 => (p, self.rank()),
+            1 => lesser((p, self.rank()), (p + 1, self.lowered(0).rank())),
+            _ => lesser(self.best_from(k - 1, p), self.lowered(k - 1).best_from(k - 1, p + (1 << (k - 1)))),
         }
     }
 
+    #[inline]
+    fn rank(self) -> usize {
+        rank(self.0.count_ones() as usize, self.0 & 1 == 1)
+    }
+
     pub fn best(self, n: u64) -> (usize, usize) {
-        self.transformed(n).best_from(n as usize, 0)
+        let (p, rank) = self.transformed(n).best_from(n as usize, 0);
+        (p, rank / 2)
     }
 }
 
+/// Of two lists, the one with the lesser rank costs less, or costs as much and has fewer products.
 #[inline]
-fn fewer(lower: (usize, usize), upper: (usize, usize)) -> (usize, usize) {
+pub fn rank(products: usize, constant: bool) -> usize {
+    2 * products + usize::from(!constant)
+}
+
+#[inline]
+fn lesser(lower: (usize, usize), upper: (usize, usize)) -> (usize, usize) {
     if upper.1 < lower.1 { upper } else { lower }
 }

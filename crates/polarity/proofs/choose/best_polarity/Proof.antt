@@ -30,7 +30,7 @@ returns : tie.Need-returns
 returns c = best-refused _ _ _ (sym (c .before .before .before .check-vector .ensures) ∙ ap counted (c .before .r .given .1))
 
 returns-2 : tie.Need-returns-2
-returns-2 c = best-found _ _ _ (told (c .before)) _ _ (c .find-best .ensures .0) (c .find-best .ensures .1)
+returns-2 c = best-found _ _ _ (told (c .before .before)) _ (c .before .find-best .ensures)
 
 pub best-polarity-spec : {M : Type 1} → statement M
 best-polarity-spec =

@@ -30,7 +30,7 @@ raised-below-requires-2 : tie.Need-raised-below-requires-2
 raised-below-requires-2 c κs = search needs
 
 best-from-requires : tie.Need-best-from-requires
-best-from-requires c κs = let s = c .before .before .before .before in (search needs, omega (arith, vector-most _ _ (s .pre)))
+best-from-requires c κs = let s = c .before .before .before .before in (omega (arith, c .before .before .if1 .left), search needs, omega (arith, vector-most _ _ (s .pre)))
 
 returns-2 : tie.Need-returns-2
 returns-2 c =

@@ -11,11 +11,8 @@ either-requires c κs = search needs
 either-requires-2 : tie.Need-either-requires-2
 either-requires-2 c κs = search needs
 
-either-requires-3 : tie.Need-either-requires-3
-either-requires-3 c κs = search needs
-
 returns : tie.Need-returns
-returns c = lesser-fields _ _ _ _ _ (c .before .before .either .ensures) (c .before .either2 .ensures) (c .either3 .ensures)
+returns c = lesser-fields _ _ _ _ (c .before .either .ensures) (c .either2 .ensures)
 
 pub lesser-of-spec : {M : Type 1} → statement M
-lesser-of-spec = tie.close (tie.spec either-requires either-requires-2 either-requires-3 returns)
+lesser-of-spec = tie.close (tie.spec either-requires either-requires-2 returns)

@@ -8,11 +8,8 @@ use Rattle.polarity.proofs.form.counts_of.Tie as tie
 ones-requires : tie.Need-ones-requires
 ones-requires c κs = search needs
 
-cast-t3 : tie.Need-cast-t3
-cast-t3 c = search needs
-
 returns : tie.Need-returns
 returns c = counts-are _ _ (c .before .ones .ensures)
 
 pub counts-of-spec : {M : Type 1} → statement M
-counts-of-spec = tie.close (tie.spec ones-requires cast-t3 returns)
+counts-of-spec = tie.close (tie.spec ones-requires returns)

@@ -1,18 +1,19 @@
 -- `candidates::choose` meets its contract.
 -- Assumes nothing.
-use Rattle.settling.proofs.candidates.Choosing.{polarity-inside, chosen-two, chosen-three}
+use Rattle.settling.proofs.candidates.Choosing.{form-inside, chosen-two, chosen-three}
+use native.Mathlib.Omega.{arith}
 use borrow.Author.Needs.{needs}
 use Rattle.settling.proofs.candidates.choose.Statement.{statement}
 use Rattle.settling.proofs.candidates.choose.Tie as tie
 
 count-list-requires : tie.Need-count-list-requires
-count-list-requires c κs = search needs
+count-list-requires c κs = let s = c .before .before in omega (arith, s .pre .result-short, s .pre .list-short)
 
 candidate-requires : tie.Need-candidate-requires
 candidate-requires c κs = search needs
 
 count-list-requires-2 : tie.Need-count-list-requires-2
-count-list-requires-2 c κs = search needs
+count-list-requires-2 c κs = let s = c .before .before .before .before in omega (arith, s .pre .result-short, s .pre .list-short)
 
 candidate-requires-2 : tie.Need-candidate-requires-2
 candidate-requires-2 c κs = search needs
@@ -27,7 +28,7 @@ enum-known-fixed : tie.Need-enum-known-fixed
 enum-known-fixed c = search needs
 
 count-form-requires : tie.Need-count-form-requires
-count-form-requires c κs = polarity-inside _ _ _ (c .before .before .before .before .before .before .before .before .before .before .before .pre) _ _ (c .before .fixed .given .1)
+count-form-requires c κs = form-inside _ _ _ (c .before .before .before .before .before .before .before .before .before .before .before .pre .best-is) _ _ (c .before .fixed .given .1)
 
 candidate-requires-3 : tie.Need-candidate-requires-3
 candidate-requires-3 c κs = search needs
@@ -38,13 +39,13 @@ better-requires-2 c κs = search needs
 returns : tie.Need-returns
 returns c =
     let s = c .before .before .before .before .before .before .before .before .before .before in
-    chosen-two _ _ _ _ (s .pre) _ (c .before .before .before .before .before .before .before .count-list .ensures) _ (c .before .before .before .before .before .before .candidate .ensures) _ (c .before .before .before .before .before .count-list2 .ensures) _ (c .before .before .before .before .candidate2 .ensures)
+    chosen-two _ _ _ _ (s .pre .best-is) _ (c .before .before .before .before .before .before .before .count-list .ensures) _ (c .before .before .before .before .before .before .candidate .ensures) _ (c .before .before .before .before .before .count-list2 .ensures) _ (c .before .before .before .before .candidate2 .ensures)
     _ (c .before .before .before .better .ensures) (c .enum-told .given .1)
 
 returns-2 : tie.Need-returns-2
 returns-2 c =
     let b = c .before .before .before .before .before .before .before in
-    chosen-three _ _ _ _ (b .before .before .before .before .before .before .before .pre) _ (b .before .before .before .before .count-list .ensures) _ (b .before .before .before .candidate .ensures) _ (b .before .before .count-list2 .ensures) _ (b .before .candidate2 .ensures)
+    chosen-three _ _ _ _ (b .before .before .before .before .before .before .before .pre .best-is) _ (b .before .before .before .before .count-list .ensures) _ (b .before .before .before .candidate .ensures) _ (b .before .before .count-list2 .ensures) _ (b .before .candidate2 .ensures)
     _ (b .better .ensures) _ _ (c .before .before .before .before .fixed .given .1) _ (c .before .before .count-form .ensures) _ (c .before .candidate3 .ensures) _ (c .better2 .ensures)
 
 pub choose-spec : {M : Type 1} → statement M

@@ -3,12 +3,13 @@
 use mathlib.Core.Path.{refl}
 use Prim.Native.Nat.{_-_, _/_}
 use native.Mathlib.Omega.{arith}
-use lib.Dec.{eqb}
 use lib.ListN.{length}
 use Rattle.bits.proofs.Bools.{one-lt}
+use Rattle.records.proofs.Records.{length-list}
 use Rattle.records.proofs.Counting.{Counting, counting-none, counting-next}
 use Rattle.cube.specs.Lists.{cubes, recordWidth}
-use Rattle.settling.proofs.candidates.Choosing.{bare, list-counted}
+use Rattle.cube.specs.Cubes.{bare}
+use Rattle.settling.proofs.candidates.Choosing.{list-counted}
 use borrow.Author.Needs.{needs}
 use Rattle.settling.proofs.candidates.count_list.Statement.{statement}
 use Rattle.settling.proofs.candidates.count_list.Tie as tie
@@ -22,14 +23,16 @@ abbrev μ-loop : tie.MeasureT-loop
 loop-holds : tie.Need-loop-holds Inv-loop μ-loop
 loop-holds c = search counting-none
 
-cube-at-requires : tie.Need-cube-at-requires Inv-loop μ-loop
-cube-at-requires c κs = search needs
+bare-at-requires : tie.Need-bare-at-requires Inv-loop μ-loop
+bare-at-requires c κs = search needs
 
 cast-bare : tie.Need-cast-bare Inv-loop μ-loop
 cast-bare c = search needs
 
 add-bare : tie.Need-add-bare Inv-loop μ-loop
-add-bare c = omega (arith, one-lt (eqb (c .before .cube-at .result .seen) 0))
+add-bare c =
+    let s = c .before .before .before .before in
+    omega (arith, one-lt (c .bare-at .result), length-list cubes (s .args .list .now), s .pre)
 
 add-i : tie.Need-add-i Inv-loop μ-loop
 add-i c = search needs
@@ -38,7 +41,10 @@ loop-less : tie.Need-loop-less Inv-loop μ-loop
 loop-less c = search needs
 
 loop-again : tie.Need-loop-again Inv-loop μ-loop
-loop-again c = counting-next cubes bare _ _ _ (c .before .before .before .loop .inv) (c .before .before .loop-test .taken) _ (c .before .cube-at .ensures) _ refl
+loop-again c = counting-next cubes bare _ _ _ (c .before .before .loop .inv) (c .before .loop-test .taken) _ refl _ (c .bare-at .ensures)
+
+cast-products : tie.Need-cast-products Inv-loop μ-loop
+cast-products c = let s = c .before .before .before in omega (arith, length-list cubes (s .args .list .now), s .pre)
 
 returns : tie.Need-returns Inv-loop μ-loop
 returns c = search list-counted
@@ -50,10 +56,11 @@ count-list-spec =
     Inv-loop
     μ-loop
     loop-holds
-    cube-at-requires
+    bare-at-requires
     cast-bare
     add-bare
     add-i
     loop-less
     loop-again
+    cast-products
     returns)

@@ -1,6 +1,6 @@
 -- `settle::burn_best` meets its contract.
 -- Assumes nothing.
-use Rattle.settling.proofs.settle.Settling.{best-burnable, best-burned}
+use Rattle.settling.proofs.settle.Settling.{best-choosable, best-burnable, best-burned}
 use borrow.Author.Needs.{needs}
 use Rattle.settling.proofs.settle.burn_best.Statement.{statement}
 use Rattle.settling.proofs.settle.burn_best.Tie as tie
@@ -9,7 +9,7 @@ best-form-requires : tie.Need-best-form-requires
 best-form-requires c κs = search needs
 
 choose-requires : tie.Need-choose-requires
-choose-requires c κs = search needs
+choose-requires c κs = best-choosable _ _ _ _ (c .best-form .ensures) _ (c .before .before .before .before .pre)
 
 burn-requires : tie.Need-burn-requires
 burn-requires c κs = best-burnable _ _ _ _ (c .before .before .best-form .ensures) _ (c .before .choose .ensures) _ (c .before .before .before .before .before .before .pre)
