@@ -20,8 +20,6 @@ use Rattle.cube.specs.Cubes.{code, Good}
 use Rattle.cube.specs.Lists.{cubes, cubesOf, cubeCapacity, recordWidth, mostRecords, mostVariables, vectorVariables, listValue}
 use Rattle.polarity.specs.Cost.{cost}
 use Rattle.polarity.specs.Forms.{formList}
-use Rattle.polarity.specs.Ranks.{rank}
-use Rattle.polarity.proofs.Ranks.{rank-cost, rank-products}
 use Rattle.script.specs.Run.{ended, run}
 use Rattle.script.specs.Scripts.{stepsOf, stepWidth, mostSteps}
 use Rattle.script.specs.Calls.{runOf}
@@ -100,10 +98,10 @@ module _ (n : ℕ) (list script work out : List ℕ) (s : Settlement) (work′ o
 
   -- It costs no more than the given one, and has no more products ..
   pub costs-no-more-than-given : cost (burnedIn s out′) ≤ cost (cubesOf list)
-  costs-no-more-than-given = rank-cost _ _ (of-burned (λ l. rank l ≤ rank (cubesOf list)) (by .least-of-given))
+  costs-no-more-than-given = of-burned (λ l. cost l ≤ cost (cubesOf list)) (by .costs-no-more-than-given)
 
   pub no-more-than-given : length (burnedIn s out′) ≤ length (cubesOf list)
-  no-more-than-given = rank-products _ _ (of-burned (λ l. rank l ≤ rank (cubesOf list)) (by .least-of-given))
+  no-more-than-given = of-burned (λ l. length l ≤ length (cubesOf list)) (by .no-more-than-given)
 
   -- .. nor than the list the script ends in, as it stands after the undoing; the script, which was not refused, does end in one ..
   module _ (m : List Cube) (peak : ℕ) (e : run n (cubeCapacity (length work)) (stepsOf script) (cubesOf list) ≡ ended m peak) where
@@ -116,14 +114,13 @@ module _ (n : ℕ) (list script work out : List ℕ) (s : Settlement) (work′ o
         subst (λ (l : List Cube). BurnedFirst n l (cubesOf list) (burnedIn s out′)) same-end
         (record { number = _; is = is-burned ∙ burned-at n result (cubesOf list); first = burned-first n result (cubesOf list) })
 
-    least-of-end : rank (burnedIn s out′) ≤ rank m
-    least-of-end = subst (λ (l : List Cube). rank (burnedIn s out′) ≤ rank l) same-end (of-burned (λ l. rank l ≤ rank result) (by .least-of-script))
-
     pub costs-no-more-than-script : cost (burnedIn s out′) ≤ cost m
-    costs-no-more-than-script = rank-cost _ _ least-of-end
+    costs-no-more-than-script =
+        subst (λ (l : List Cube). cost (burnedIn s out′) ≤ cost l) same-end (of-burned (λ l. cost l ≤ cost result) (by .costs-no-more-than-script))
 
     pub no-more-than-script : length (burnedIn s out′) ≤ length m
-    no-more-than-script = rank-products _ _ least-of-end
+    no-more-than-script =
+        subst (λ (l : List Cube). length (burnedIn s out′) ≤ length l) same-end (of-burned (λ l. length l ≤ length result) (by .no-more-than-script))
 
   pub script-ends : EndsIn n list script work s
   script-ends = record { result = result; is = ran; count = ap (λ (t : Settlement). t .script) (acc .is) }
@@ -135,14 +132,13 @@ module _ (n : ℕ) (list script work out : List ℕ) (s : Settlement) (work′ o
     abbrev form : List Cube
     form = formList n p (listValue n (cubesOf list))
 
-    least-of-form : rank (burnedIn s out′) ≤ rank form
-    least-of-form = of-burned (λ m. rank m ≤ rank form) (by .least-of-forms few p h)
-
     pub no-form-costs-less : cost (burnedIn s out′) ≤ cost l
-    no-form-costs-less = le-trans (rank-cost _ _ least-of-form) (form-cheapest n p h l good missing (listValue n (cubesOf list)) same)
+    no-form-costs-less =
+        le-trans (of-burned (λ m. cost m ≤ cost form) (by .no-form-costs-less few p h)) (form-cheapest n p h l good missing (listValue n (cubesOf list)) same)
 
     pub no-form-has-fewer : length (burnedIn s out′) ≤ length l
-    no-form-has-fewer = le-trans (rank-products _ _ least-of-form) (form-shortest n p h l good missing (listValue n (cubesOf list)) same)
+    no-form-has-fewer =
+        le-trans (of-burned (λ m. length m ≤ length form) (by .no-form-has-fewer few p h)) (form-shortest n p h l good missing (listValue n (cubesOf list)) same)
 
   -- After the list, which fits, every byte of the output buffer is zero; and every byte of the work buffer is.
   pub zeros-after : drop (recordWidth * s .burned) out′ ≡ zeros (length out - recordWidth * s .burned)

@@ -24,9 +24,10 @@ use Rattle.cube.specs.Cubes.{Good}
 use Rattle.cube.specs.Lists.{cubes, cubesOf, cubeCapacity, recordWidth, mostRecords, mostVariables, vectorVariables, listValue, truthVector}
 use Rattle.cube.specs.Calls.{checkList}
 use Rattle.cube.proofs.Lists.{lawful, AcceptedList, check-accepts}
+use Rattle.polarity.specs.Cost.{cost}
 use Rattle.polarity.specs.Forms.{formList}
-use Rattle.polarity.specs.Ranks.{rank}
 use Rattle.polarity.specs.Vectors.{byteAt}
+use Rattle.polarity.proofs.Ranks.{rank-cost, rank-products}
 use Rattle.polarity.proofs.Theorems.{form-is-good}
 use Rattle.steps.specs.Steps.{Allowed, meaning}
 use Rattle.script.specs.Run.{Ran, stopped, ended}
@@ -117,9 +118,12 @@ pub record BurnedBy (n : ℕ) (list script : List ℕ) (work : ℕ) (out : List 
   pub fits : recordWidth * length burned ≤ length out
   pub good : All (Good n) burned
   pub same-value : (a : ℕ) → a < 2 ^ n → listValue n burned a ≡ listValue n (cubesOf list) a
-  pub least-of-given : rank burned ≤ rank (cubesOf list)
-  pub least-of-script : rank burned ≤ rank result
-  pub least-of-forms : n ≤ vectorVariables → (p : ℕ) → p < 2 ^ n → rank burned ≤ rank (formList n p (listValue n (cubesOf list)))
+  pub costs-no-more-than-given : cost burned ≤ cost (cubesOf list)
+  pub costs-no-more-than-script : cost burned ≤ cost result
+  pub no-form-costs-less : n ≤ vectorVariables → (p : ℕ) → p < 2 ^ n → cost burned ≤ cost (formList n p (listValue n (cubesOf list)))
+  pub no-more-than-given : length burned ≤ length (cubesOf list)
+  pub no-more-than-script : length burned ≤ length result
+  pub no-form-has-fewer : n ≤ vectorVariables → (p : ℕ) → p < 2 ^ n → length burned ≤ length (formList n p (listValue n (cubesOf list)))
 
 module _ (n : ℕ) (list script : List ℕ) (work : ℕ) (out : List ℕ) (e : Ended n list script work (length out)) where
   passed : AcceptedSettle n list script work (length out)
@@ -162,9 +166,12 @@ module _ (n : ℕ) (list script : List ℕ) (work : ℕ) (out : List ℕ) (e : E
             (run-value n (cubeCapacity work) (stepsOf script) (passed .fit) (cubesOf list) (passed .list-is .good) (e .result) (e .peak) (e .ran) a)
             refl
             (λ few. best-form-value n (cubesOf list) few a h);
-        least-of-given = burned-given n (e .result) (cubesOf list);
-        least-of-script = burned-result n (e .result) (cubesOf list);
-        least-of-forms = λ few. burned-form n (cubesOf list) few (e .result);
+        costs-no-more-than-given = rank-cost _ _ (burned-given n (e .result) (cubesOf list));
+        costs-no-more-than-script = rank-cost _ _ (burned-result n (e .result) (cubesOf list));
+        no-form-costs-less = λ few p h. rank-cost _ _ (burned-form n (cubesOf list) few (e .result) p h);
+        no-more-than-given = rank-products _ _ (burned-given n (e .result) (cubesOf list));
+        no-more-than-script = rank-products _ _ (burned-result n (e .result) (cubesOf list));
+        no-form-has-fewer = λ few p h. rank-products _ _ (burned-form n (cubesOf list) few (e .result) p h);
       }
 
 -- ---- a refused outcome
