@@ -16,7 +16,7 @@ use Rattle.bits.proofs.Bools.{below-or}
 pub record LeastIn (f : ℕ → ℕ) (a b p : ℕ) : Type 0 where
   pub from : a ≤ p
   pub inside : p < b
-  pub fewest : (q : ℕ) → a ≤ q → q < b → f p ≤ f q
+  pub least : (q : ℕ) → a ≤ q → q < b → f p ≤ f q
   pub smallest : (q : ℕ) → a ≤ q → q < p → f p < f q
 
 -- of the numbers below m
@@ -28,7 +28,7 @@ module _ (f : ℕ → ℕ) where
   in-one a b e = record {
     from = le-refl a;
     inside = omega arith;
-    fewest = λ q l h. subst (λ (x : ℕ). f a ≤ f x) (omega arith) (le-refl (f a));
+    least = λ q l h. subst (λ (x : ℕ). f a ≤ f x) (omega arith) (le-refl (f a));
     smallest = λ q l h. absurd (omega arith);
   }
 
@@ -38,21 +38,21 @@ module _ (f : ℕ → ℕ) where
     in-upper h = record {
       from = omega (arith, P .from, P .inside, Q .from);
       inside = Q .inside;
-      fewest = λ x l u. ⊎-elim (λ m. omega (arith, P .fewest x l m)) (λ m. Q .fewest x m u) (below-or x b);
-      smallest = λ x l u. ⊎-elim (λ m. omega (arith, P .fewest x l m)) (λ m. Q .smallest x m u) (below-or x b);
+      least = λ x l u. ⊎-elim (λ m. omega (arith, P .least x l m)) (λ m. Q .least x m u) (below-or x b);
+      smallest = λ x l u. ⊎-elim (λ m. omega (arith, P .least x l m)) (λ m. Q .smallest x m u) (below-or x b);
     }
 
     pub in-lower : f p ≤ f q → LeastIn f a c p
     in-lower h = record {
       from = P .from;
       inside = omega (arith, P .inside, Q .from, Q .inside);
-      fewest = λ x l u. ⊎-elim (λ m. P .fewest x l m) (λ m. omega (arith, Q .fewest x m u)) (below-or x b);
+      least = λ x l u. ⊎-elim (λ m. P .least x l m) (λ m. omega (arith, Q .least x m u)) (below-or x b);
       smallest = P .smallest;
     }
 
   in-at-most : (a b p q : ℕ) → LeastIn f a b p → LeastIn f a b q → p ≤ q
   in-at-most a b p q P Q =
-      ⊎-elim (λ l. absurd (omega (arith, P .smallest q (Q .from) l, Q .fewest p (P .from) (P .inside)))) (λ h. h) (below-or q p)
+      ⊎-elim (λ l. absurd (omega (arith, P .smallest q (Q .from) l, Q .least p (P .from) (P .inside)))) (λ h. h) (below-or q p)
 
   pub in-unique : (a b p q : ℕ) → LeastIn f a b p → LeastIn f a b q → p ≡ q
   in-unique a b p q P Q = le-antisymm (in-at-most a b p q P Q) (in-at-most a b q p Q P)

@@ -108,7 +108,7 @@ module _ (lists : ℕ → List Cube) where
   pub least-first : (m p : ℕ) → Least ranks m p → LeastThen (λ k. cost (lists k)) (λ k. length (lists k)) m p
   least-first m p L = record {
     inside = L .inside;
-    least = λ q h. rank-cost (lists p) (lists q) (L .fewest q zero-le h);
-    then-least = λ q h e. rank-products (lists p) (lists q) (L .fewest q zero-le h);
+    least = λ q h. rank-cost (lists p) (lists q) (L .least q zero-le h);
+    then-least = λ q h e. rank-products (lists p) (lists q) (L .least q zero-le h);
     then-smallest = λ q h e d. ⊎-elim (λ l. absurd (omega (arith, e, d, L .smallest q zero-le l, rank-is (lists q), rank-is (lists p)))) (λ l. l) (below-or q p);
   }

@@ -142,4 +142,4 @@ module _ (n : ℕ) (f : ℕ → ℕ) where
 
   -- Nor has any polarity's form fewer products at all: since one product is free at most, what costs less never has more of them.
   pub best-has-fewest : (q : ℕ) → q < 2 ^ n → size n (bestPolarity n f) f ≤ size n q f
-  best-has-fewest q h = rank-products (form (bestPolarity n f)) (form q) (best-has-least-rank .fewest q zero-le h)
+  best-has-fewest q h = rank-products (form (bestPolarity n f)) (form q) (best-has-least-rank .least q zero-le h)

@@ -12,7 +12,7 @@ use Rattle.polarity.specs.Cost.{cost}
 use Rattle.script.specs.Run.{ended, run}
 use Rattle.script.specs.Scripts.{stepsOf}
 use Rattle.settling.specs.declared.Settlement.{Settlement}
-use Rattle.settling.specs.Candidates.{candidateAt, candidates}
+use Rattle.settling.specs.Candidates.{candidateAt, candidateCount}
 
 -- "The winner fills the front of the output buffer": its first records, as many as settle answers
 abbrev pub burnedIn : Settlement → List ℕ → List Cube
@@ -23,7 +23,7 @@ burnedIn s out′ = records cubes (s .burned) out′
 pub record BurnedFirst (n : ℕ) (result given burned : List Cube) : Type 0 where
   pub number : ℕ
   pub is : burned ≡ candidateAt n result given number
-  pub first : LeastThen (λ k. cost (candidateAt n result given k)) (λ k. length (candidateAt n result given k)) (candidates n) number
+  pub first : LeastThen (λ k. cost (candidateAt n result given k)) (λ k. length (candidateAt n result given k)) (candidateCount n) number
 
 -- "The script's result", after the undoing; settle answers its count and the peak
 pub record EndsIn (n : ℕ) (list script work : List ℕ) (s : Settlement) : Type 0 where

@@ -22,7 +22,7 @@ use Rattle.polarity.proofs.Forms.{form-cong}
 use Rattle.polarity.proofs.Parities.{parity-cong}
 use Rattle.polarity.proofs.Ranks.{rank-products, cheaper-rank, first-ranks, least-first}
 use Rattle.polarity.proofs.Theorems.{form-has-the-value, best-has-least-rank}
-use Rattle.settling.specs.Candidates.{bestOf, bestForm, better, burnedList, candidateAt, candidates}
+use Rattle.settling.specs.Candidates.{bestOf, bestForm, better, burnedList, candidateAt, candidateCount}
 use Rattle.settling.proofs.Forming.{truth-vector-is}
 
 -- ---- the list to burn has the least rank
@@ -111,7 +111,7 @@ module _ (n : ℕ) (result given : List Cube) where
       go true = refl
       go false = refl
 
-  pub burned-at : burnedList n result given ≡ at (first (candidates n))
+  pub burned-at : burnedList n result given ≡ at (first (candidateCount n))
   unfolding burnedList
   burned-at = go (leb n vectorVariables)
     where
@@ -119,7 +119,7 @@ module _ (n : ℕ) (result given : List Cube) where
       go true = sym (at-next 2 ∙ ap (λ (l : List Cube). better l (bestForm n given)) (at-next 1 ∙ ap (λ (l : List Cube). better l given) at-one))
       go false = sym (at-next 1 ∙ ap (λ (l : List Cube). better l given) at-one)
 
-  pub burned-first : LeastThen (λ k. cost (at k)) (λ k. length (at k)) (candidates n) (first (candidates n))
+  pub burned-first : LeastThen (λ k. cost (at k)) (λ k. length (at k)) (candidateCount n) (first (candidateCount n))
   unfolding first
   burned-first = go (leb n vectorVariables)
     where
@@ -150,4 +150,4 @@ module _ (n : ℕ) (given : List Cube) (few : n ≤ vectorVariables) where
   unfolding bestForm
   burned-form result p h =
       le-trans (burned-best-form n result given few)
-      (subst (λ (l : List Cube). rank (bestForm n given) ≤ rank l) (form-of p h) (best-has-least-rank n (byteAt (truthVector n given)) .fewest p zero-le h))
+      (subst (λ (l : List Cube). rank (bestForm n given) ≤ rank l) (form-of p h) (best-has-least-rank n (byteAt (truthVector n given)) .least p zero-le h))

@@ -34,8 +34,8 @@ candidateAt n result given zero = result
 candidateAt n result given (suc zero) = given
 candidateAt n result given (suc (suc k)) = bestForm n given
 
-abbrev pub candidates : ℕ → ℕ
-candidates n = cond (leb n vectorVariables) 3 2
+abbrev pub candidateCount : ℕ → ℕ
+candidateCount n = cond (leb n vectorVariables) 3 2
 
 -- "best polarity and its size", which there are for at most 8 variables
 unfoldable pub fixedOf : ℕ → List Cube → Fixed
