@@ -1,3 +1,2 @@
--- The laws of reading the line and of printing a cube. Assumes nothing.
-pub mod Lines
+-- The laws of printing a cube. Assumes nothing.
 pub mod Texts

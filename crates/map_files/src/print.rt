@@ -1,7 +1,6 @@
-// What is printed: a refusal, the counts, and a list with each cube on a line.
+// What `settle` prints: the counts, and a list with each cube on a line.
 use cube::Cube;
-use libc::STDOUT_FILENO;
-use records::Refusal;
+use program::print;
 use settling::Fixed;
 use settling::Settlement;
 ghost use mathlib.Core.Path.{_≡_};
@@ -15,47 +14,23 @@ ghost use Rattle.text.specs.Cubes.{cubeText};
 // A cube's characters and its newline.
 const LINE_BYTES: usize = cube::list::MOST_VARIABLES + 1;
 
-fn write(t: &[u8]) {
-    io::write_all(STDOUT_FILENO, t);
-}
-
-// A word before a number, and the number.
-fn number(word: &[u8], x: usize) {
-    write(word);
-    io::print_decimal(STDOUT_FILENO, x as u64);
-}
-
-fn widened(x: u8) -> usize {
-    x as usize
-}
-
-pub(crate) fn no_file() {
-    write(b"no file\n");
-}
-
-pub(crate) fn refusal(r: Refusal) {
-    number(b"refused ", widened(r.number));
-    number(b" at ", r.place);
-    write(b"\n");
-}
-
 // The line of counts.
 pub(crate) fn counts(s: Settlement) {
-    number(b"in ", s.given);
-    number(b" peak ", s.peak);
-    number(b" script ", s.script);
+    print::number(b"in ", s.given);
+    print::number(b" peak ", s.peak);
+    print::number(b" script ", s.script);
     let fixed = s.fixed;
     match fixed {
         Fixed::Polarity(p, size) => {
-            number(b" fixed ", p);
-            number(b" ", size);
+            print::number(b" fixed ", p);
+            print::number(b" ", size);
         }
         Fixed::Absent => {
-            write(b" fixed - -");
+            print::text(b" fixed - -");
         }
     }
-    number(b" out ", s.burned);
-    write(b"\n");
+    print::number(b" out ", s.burned);
+    print::text(b"\n");
 }
 
 // A cube and its newline at the front of a line, which has room for them, and how long they are.
@@ -73,7 +48,7 @@ fn cube_line(n: usize, c: Cube)
 {
     let mut line = [0u8; LINE_BYTES];
     let end = spell(n, c, &mut line);
-    write(&line[..end]);
+    print::text(&line[..end]);
 }
 
 // The first `count` cubes of a list.

@@ -1,12 +1,12 @@
 -- `settle_named` is safe and ends: a line that gives a number gives one that a list can have.
 -- Assumes nothing.
-use Rattle.map_files.proofs.Lines.{variables-few}
+use Rattle.program.proofs.Lines.{variables-few}
 use borrow.Author.Needs.{needs}
 use Rattle.map_files.proofs.settle_named.Statement.{statement}
 use Rattle.map_files.proofs.settle_named.Tie as tie
 
-line-of-requires : tie.Need-line-of-requires
-line-of-requires c κs = search needs
+variables-in-requires : tie.Need-variables-in-requires
+variables-in-requires c κs = search needs
 
 enum-told : tie.Need-enum-told
 enum-told c = search needs
@@ -33,7 +33,7 @@ pub settle-named-spec : {M : Type 1} → statement M
 settle-named-spec =
     tie.close
     (tie.spec
-    line-of-requires
+    variables-in-requires
     enum-told
     new-requires
     refusal-requires

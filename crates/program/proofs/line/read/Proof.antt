@@ -2,10 +2,11 @@
 -- Assumes nothing.
 use Prim.Native.Nat.{_-_}
 use lib.ListN.{length}
-use Rattle.map_files.proofs.Texts.{counted, Filled, filled-more}
+use Rattle.program.proofs.Counts.{counted}
+use Rattle.program.proofs.line.Filling.{Filled, filled-more}
 use borrow.Author.Needs.{needs}
-use Rattle.map_files.proofs.line.read.Statement.{statement}
-use Rattle.map_files.proofs.line.read.Tie as tie
+use Rattle.program.proofs.line.read.Statement.{statement}
+use Rattle.program.proofs.line.read.Tie as tie
 
 abbrev Inv-loop : tie.InvT-loop
 Inv-loop line₀ k₀ line k = Filled line₀ line k

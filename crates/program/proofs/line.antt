@@ -1,0 +1,2 @@
+-- The laws that only the functions of `line` need.
+pub mod Filling

@@ -1,0 +1,2 @@
+-- What the contracts of a line's number cite. Assumes nothing.
+pub mod Lines
