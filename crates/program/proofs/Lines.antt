@@ -2,7 +2,7 @@
 -- Assumes nothing.
 use mathlib.Core.Path.{_≡_, refl, sym, subst, ap, _∙_}
 use mathlib.Core.Bool.{Bool, true, false, cond, _&&_}
-use mathlib.Core.List.{List, [], _∷_}
+use mathlib.Core.List.{List, [], _∷_, append-nil}
 use Prim.Native.Nat.{ℕ, suc, _+_, _*_, _-_, _≤_, _<_}
 use native.Mathlib.Omega.{arith}
 use lib.Dec.{leb, eqb}
@@ -12,8 +12,9 @@ use Rattle.bits.proofs.Bools.{both-true}
 use Rattle.cube.specs.Lists.{mostVariables}
 use Rattle.text.specs.declared.ReadNumber.{ReadNumber}
 use Rattle.text.specs.declared.ReadNumber.the-variants as number-is
-use Rattle.text.specs.Numbers.{isDigit}
+use Rattle.text.specs.Numbers.{isDigit, decimal}
 use Rattle.text.specs.Reading.{digitsFrom, numberIn}
+use Rattle.text.proofs.ReadBack.{number-back}
 use Rattle.program.specs.declared.line.Line.{Line}
 use Rattle.program.specs.declared.line.Line.the-variants.{Number, Bad}
 use Rattle.program.specs.Lines.{allDigits, decimalAfter, decimalOf, lineNumber, variablesLine}
@@ -96,6 +97,13 @@ module _ {r : ReadNumber} (digits most : ℕ) (l : List ℕ) (h : length l ≤ d
   pub line-part : {x p : ℕ} → r ≡ number-is.Read x p → (p ≡ length l → ⊥) → Bad ≡ lineNumber digits most l
   unfolding said
   line-part {x} {p} k more = simp (ne-eqb p (length l) more) at (line-by k)
+
+-- ---- for readers: a number in decimal is the number of its line
+
+pub decimal-line : (digits most x : ℕ) → x ≤ most → length (decimal x) ≤ digits → lineNumber digits most (decimal x) ≡ Number x
+decimal-line digits most x h k =
+    let end : 0 + length (decimal x) ≡ length (decimal x) = omega arith in
+    sym (line-read digits most (decimal x) k refl (number-back most x h (decimal x) [] 0 refl (sym (append-nil (decimal x)))) end)
 
 -- ---- for callers: how great a line's number is
 
