@@ -16,7 +16,7 @@ use lib.Dec.{eqb}
 use lib.ListN.{length, getD, length-map}
 use lib.Seq.{ext-getD}
 use Rattle.bits.specs.Bits.{bit}
-use Rattle.bits.specs.Below.{allBelow, those, sumBelow, listBelow}
+use Rattle.bits.specs.Below.{allBelow, those, Ascending, sumBelow, listBelow}
 use Rattle.bits.specs.Sums.{tally, oneIf}
 use Rattle.bits.proofs.Bools.{same-bool, all-at, all-true}
 use Rattle.bits.proofs.Bits.{bit-zero, bit-suc, half-lt, bit-ext-below}
@@ -69,6 +69,19 @@ those-ascend f (suc m) k p q l e = go (f k) (those-ascend f m (suc k) p q l) e
         let head : k ≡ p = cc in
         let bounds = those-bounds f m (suc k) q (subst (λ (t : List ℕ). List·Memᴰ q t) (sym tail) (List·Memᴰ·head refl)) in
         omega (arith, head, bounds .0)
+
+ascending-from : (k : ℕ) (l : List ℕ) → Ascending (suc k) l → Ascending k l
+ascending-from k [] a = tt
+ascending-from k (x ∷ l) a = (omega (arith, a .0), a .1)
+
+pub those-ascending : (f : ℕ → Bool) (m k : ℕ) → Ascending k (those f m k)
+unfolding those
+those-ascending f zero k = tt
+those-ascending f (suc m) k = go (f k) (those-ascending f m (suc k))
+  where
+    go : (b : Bool) → Ascending (suc k) (those f m (suc k)) → Ascending k (cond b (k ∷ those f m (suc k)) (those f m (suc k)))
+    go true a = (le-refl k, a)
+    go false a = ascending-from k (those f m (suc k)) a
 
 -- two tests that agree where they are made
 pub those-same : (f g : ℕ → Bool) (m k : ℕ) → ((s : ℕ) → k ≤ s → s < k + m → f s ≡ g s) → those f m k ≡ those g m k
@@ -152,6 +165,19 @@ first-setBit (suc n) x =
     go zero h (z ∷ l) = refl
     go (suc zero) h l = refl
     go (suc (suc y)) h l = absurd (omega arith)
+
+-- how many places of a list have an element that passes a test
+pub those-tally : {A : Type 0} (w : A → Bool) (d : A) (l : List A) → length (those (λ i. w (getD l i d)) (length l) 0) ≡ tally w l
+unfolding those tally
+those-tally w d [] = refl
+those-tally w d (x ∷ l) =
+    let rest : length (those (λ i. w (getD (x ∷ l) i d)) (length l) 1) ≡ tally w l =
+    ap length (those-shift (λ i. w (getD (x ∷ l) i d)) (length l) 0) ∙ length-map (those (λ i. w (getD l i d)) (length l) 0) suc ∙ those-tally w d l in
+    go (w x) (those (λ i. w (getD (x ∷ l) i d)) (length l) 1) ∙ ap (λ (n : ℕ). oneIf (w x) + n) rest
+  where
+    go : (b : Bool) (r : List ℕ) → length (cond b (0 ∷ r) r) ≡ oneIf b + length r
+    go true r = sym (one-add (length r))
+    go false r = sym (zero-add (length r))
 
 -- ---- sums below a number
 

@@ -15,6 +15,11 @@ unfoldable pub those : (ℕ → Bool) → ℕ → ℕ → List ℕ
 those f zero k = []
 those f (suc m) k = cond (f k) (k ∷ those f m (suc k)) (those f m (suc k))
 
+-- numbers from k on, ascending, none of them twice
+abbrev pub Ascending : ℕ → List ℕ → Type 0
+Ascending k [] = Unit {0}
+Ascending k (x ∷ l) = (k ≤ x) × Ascending (suc x) l
+
 -- f 0 + f 1 + .. + f (m - 1)
 unfoldable pub sumBelow : ℕ → (ℕ → ℕ) → ℕ
 sumBelow zero f = 0

@@ -11,23 +11,14 @@ use borrow.Author.Tests.{le-leb, lt-leb, leb-true}
 use Rattle.records.specs.declared.Refusal.{Refusal}
 use Rattle.records.specs.Answers.{Outcome, accepted, refused, refusal, unless, andThen, afterCall}
 use Rattle.records.specs.Records.{Codec, listOf, written}
-use Rattle.records.proofs.Answers.{accepted-values, and-then, and-not, unless-passes, unless-fails, unless-accepted, both-accepted, after-accepted, after-refused}
+use Rattle.records.proofs.Answers.{accepted-values, and-then, and-not, unless-passes, unless-fails, unless-accepted, both-accepted, call-refused, call-accepted}
 use Rattle.records.proofs.Records.{length-list}
 use Rattle.cube.specs.declared.Cube.{Cube}
 use Rattle.cube.specs.Lists.{mostVariables, mostRecords, cubes}
 use Rattle.cube.specs.Calls.{checkListOf}
-use Rattle.cube.proofs.Lists.{AcceptedList, check-records, check-accepts, accepts-check}
+use Rattle.cube.proofs.Lists.{AcceptedList, check-records, check-accepts, accepts-check, count-is}
 use Rattle.converters.specs.NarrowRecord.{narrowWidth, narrowCubes, narrowVariables}
 use Rattle.converters.specs.Calls.{wideOutcome, narrowOutcome}
-
--- ---- the count that the check answers
-
-module _ (D : Codec Cube) (limit n : ℕ) (b : List ℕ) (count : ℕ) (e : checkListOf D limit n b ≡ accepted (count ∷ [])) where
-  pub count-is : count ≡ length b / D .width
-  count-is = ap (λ (v : List ℕ). getD v 0 0) (accepted-values (sym e ∙ accepts-check D limit n b (check-accepts D limit n b (count ∷ []) e)))
-
-  pub count-most : count ≤ mostRecords
-  count-most = subst (λ (k : ℕ). k ≤ mostRecords) (sym count-is) (check-accepts D limit n b (count ∷ []) e .short)
 
 -- ---- the list, and then room for as many records
 
@@ -59,7 +50,7 @@ module _ (D C : Codec Cube) (limit n : ℕ) (b : List ℕ) where
     new = written C 0 (listOf D b) out
 
     pub list-refused : (r : Refusal) → checkListOf D limit n b ≡ refused r → (refused r ≡ o) × (out ≡ afterCall o new out)
-    list-refused r e = let is : o ≡ refused r = sym chain ∙ and-not _ _ r e in (sym is, sym (after-refused o new out r is))
+    list-refused r e = call-refused o new out r (sym chain ∙ and-not _ _ r e)
 
     module _ (count : ℕ) (e : checkListOf D limit n b ≡ accepted (count ∷ [])) where
       all : length (listOf D b) ≡ count
@@ -68,15 +59,12 @@ module _ (D C : Codec Cube) (limit n : ℕ) (b : List ℕ) where
       pub out-short : (r : Refusal) → r ≡ refusal 5 0 → length out < C .width * count → (refused r ≡ o) × (out ≡ afterCall o new out)
       out-short r er h =
           let short : length out < C .width * length (listOf D b) = subst (λ (k : ℕ). length out < C .width * k) (sym all) h in
-          let is : o ≡ refused r = sym chain ∙ and-then _ _ _ e ∙ unless-fails _ 5 0 _ (lt-leb _ _ short) ∙ ap refused (sym er) in
-          (sym is, sym (after-refused o new out r is))
+          call-refused o new out r (sym chain ∙ and-then _ _ _ e ∙ unless-fails _ 5 0 _ (lt-leb _ _ short) ∙ ap refused (sym er))
 
       pub all-written : C .width * count ≤ length out → (out′ : List ℕ) → out′ ≡ new → (accepted (count ∷ []) ≡ o) × (out′ ≡ afterCall o new out)
       all-written h out′ eo =
           let fits : C .width * length (listOf D b) ≤ length out = subst (λ (k : ℕ). C .width * k ≤ length out) (sym all) h in
-          let is : o ≡ accepted (count ∷ []) =
-          sym chain ∙ accepts-conversion (length out) (check-accepts D limit n b _ e) fits ∙ ap (λ (k : ℕ). accepted (k ∷ [])) all in
-          (sym is, eo ∙ sym (after-accepted o new out _ is))
+          call-accepted o new out _ out′ (sym chain ∙ accepts-conversion (length out) (check-accepts D limit n b _ e) fits ∙ ap (λ (k : ℕ). accepted (k ∷ [])) all) eo
 
 -- ---- wide from narrow
 
@@ -117,17 +105,13 @@ module _ (n : ℕ) (b : List ℕ) where
 
   -- refused before the list is looked at
   module _ (out new : List ℕ) (r : Refusal) where
-    above : narrowOutcome n b (length out) ≡ refused r
-        → (refused r ≡ narrowOutcome n b (length out)) × (out ≡ afterCall (narrowOutcome n b (length out)) new out)
-    above e = (sym e, sym (after-refused _ new out r e))
-
     pub narrow-1 : r ≡ refusal 1 0 → mostVariables < n
         → (refused r ≡ narrowOutcome n b (length out)) × (out ≡ afterCall (narrowOutcome n b (length out)) new out)
     unfolding narrowOutcome
-    narrow-1 er h = above (unless-fails _ 1 0 _ (lt-leb n mostVariables h) ∙ ap refused (sym er))
+    narrow-1 er h = call-refused _ new out r (unless-fails _ 1 0 _ (lt-leb n mostVariables h) ∙ ap refused (sym er))
 
     pub narrow-20 : r ≡ refusal 20 0 → n ≤ mostVariables → narrowVariables < n
         → (refused r ≡ narrowOutcome n b (length out)) × (out ≡ afterCall (narrowOutcome n b (length out)) new out)
     unfolding narrowOutcome
     narrow-20 er l h =
-        above (unless-passes _ 1 0 _ (le-leb n mostVariables l) ∙ unless-fails _ 20 0 _ (lt-leb n narrowVariables h) ∙ ap refused (sym er))
+        call-refused _ new out r (unless-passes _ 1 0 _ (le-leb n mostVariables l) ∙ unless-fails _ 20 0 _ (lt-leb n narrowVariables h) ∙ ap refused (sym er))

@@ -8,16 +8,15 @@ use native.Mathlib.Nat.{mul-le-mul-left, le-trans, mul-mod-right, mod-add-div}
 use native.Mathlib.Omega.{arith}
 use lib.Dec.{lit<}
 use lib.ListN.{length, getD, take, drop}
-use lib.Seq.{take-at, drop-at}
+use lib.Seq.{take-at}
 use Rattle.bits.specs.Sums.{All}
-use Rattle.bits.proofs.Below.{is-listBelow}
 use Rattle.records.specs.Answers.{Outcome, accepted}
 use Rattle.records.specs.Records.{Codec, flat, records, listOf, written}
 use Rattle.records.specs.Fields.{total}
 use Rattle.records.proofs.Answers.{after-accepted}
 use Rattle.records.proofs.Images.{length-flat}
 use Rattle.records.proofs.Fields.{positive, fields-front}
-use Rattle.records.proofs.Records.{Lawful, room-place, length-list, list-at, list-flat, length-written, written-front}
+use Rattle.records.proofs.Records.{Lawful, room-place, getD-records, length-list, list-at, list-flat, length-written, written-front, written-rest, written-records}
 use Rattle.cube.specs.declared.Cube.{Cube}
 use Rattle.cube.specs.Cubes.{Good, one}
 use Rattle.cube.specs.CubeRecord.{cubeFields, cubeOf, cubeRecord, maskWidth}
@@ -70,29 +69,25 @@ module _ {D C : Codec Cube} {n k : ℕ} {b out out′ : List ℕ} (G : Faithful 
   front = ap (take (C .width * k)) parts ∙ take-at (flat (C .enc) (listOf D b)) (drop (C .width * k) out) (C .width * k) long
 
   rest : drop (C .width * k) out′ ≡ drop (C .width * k) out
-  rest = ap (drop (C .width * k)) parts ∙ drop-at (flat (C .enc) (listOf D b)) (drop (C .width * k) out) (C .width * k) long
+  rest =
+      subst (λ (m : ℕ). drop (C .width * m) out′ ≡ drop (C .width * m) out) all
+      (ap (drop (C .width * length (listOf D b))) (T .is) ∙ written-rest C (G .lawful) out (listOf D b) (T .taken .fits))
 
   front-list : listOf C (take (C .width * k) out′) ≡ listOf D b
   front-list = ap (listOf C) front ∙ list-flat C (G .lawful) (listOf D b)
 
-  same-read : (i : ℕ) → i < k → C .read out′ i ≡ getD (listOf D b) i one
-  same-read i h =
-      let s : List ℕ = flat (C .enc) (listOf D b) in
-      let list : listOf C s ≡ listOf D b = list-flat C (G .lawful) (listOf D b) in
-      let here : i < length s / C .width = subst (λ (m : ℕ). i < m) (sym (sym (length-list C s) ∙ ap length list ∙ all)) h in
-      ap (λ (l : List ℕ). C .read l i) parts
-      ∙ G .front s (drop (C .width * k) out) i here ∙ sym (list-at C s i one here) ∙ ap (λ (l : List Cube). getD l i one) list
-
   same-cubes : records C k out′ ≡ listOf D b
-  unfolding records
-  same-cubes = sym (is-listBelow one (listOf D b) k (C .read out′) all (λ i h. sym (same-read i h)))
+  same-cubes =
+      subst (λ (m : ℕ). records C m out′ ≡ listOf D b) all
+      (ap (records C (length (listOf D b))) (T .is) ∙ written-records C (G .lawful) (G .front) out (listOf D b) (T .taken .fits))
 
   same-place : (i : ℕ) → i < k → getD (listOf C out′) i one ≡ getD (listOf D b) i one
   same-place i h =
       let w : ℕ = C .width in
       let room : w * k ≤ length out′ =
       subst (λ (m : ℕ). w * m ≤ length out′) all (omega (arith, T .taken .fits, ap length (T .is), length-written C 0 (listOf D b) out)) in
-      list-at C out′ i one (room-place w (length out′) i (G .lawful .wide) (le-trans (mul-le-mul-left w h) room)) ∙ same-read i h
+      list-at C out′ i one (room-place w (length out′) i (G .lawful .wide) (le-trans (mul-le-mul-left w h) room))
+      ∙ sym (getD-records C k out′ i one h) ∙ ap (λ (l : List Cube). getD l i one) same-cubes
 
 -- ---- the other way round, on the bytes that were written
 

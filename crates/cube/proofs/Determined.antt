@@ -47,6 +47,8 @@ use Rattle.cube.proofs.list.check_within.Kinds as check-within-kinds
 use Rattle.cube.proofs.list.check_within.Reads as check-within-reads
 use Rattle.cube.proofs.list.check.Kinds as check-kinds
 use Rattle.cube.proofs.list.check.Reads as check-reads
+use Rattle.cube.proofs.value.check_at.Kinds as check-at-kinds
+use Rattle.cube.proofs.value.check_at.Reads as check-at-reads
 use Rattle.cube.proofs.value.value.Kinds as value-kinds
 use Rattle.cube.proofs.value.value.Reads as value-reads
 use Rattle.cube.proofs.value.truth_vector.Kinds as truth-vector-kinds
@@ -54,12 +56,12 @@ use Rattle.cube.proofs.value.truth_vector.Reads as truth-vector-reads
 
 -- the value call's answer, read back
 pub valued-back : Outcome → Valued
-valued-back (accepted v) = valued-is.Bit (getD v 0 0)
+valued-back (accepted v) = valued-is.Bit (getD v 0 0) (getD v 1 0)
 valued-back (refused r) = valued-is.Refused r
 
 pub valued-known : (a : Valued) → valued-back (valued a) ≡ a
 unfolding valued-back
-valued-known (valued-is.Bit b) = refl
+valued-known (valued-is.Bit b t) = refl
 valued-known (valued-is.Refused r) = refl
 
 pub literal-determined : Determined 0 literal-kinds.ps literal-kinds.r literal-reads.Learnt
@@ -115,6 +117,9 @@ check-within-determined κs a z z′ ws ws′ p q = (same-told counted counted-b
 
 pub check-determined : Determined 1 check-kinds.ps check-kinds.r check-reads.Learnt
 check-determined κs a z z′ ws ws′ p q = (same-told counted counted-back counted-known p q, refl)
+
+pub check-at-determined : Determined 1 check-at-kinds.ps check-at-kinds.r check-at-reads.Learnt
+check-at-determined κs a z z′ ws ws′ p q = (same-told counted counted-back counted-known p q, refl)
 
 pub value-determined : Determined 1 value-kinds.ps value-kinds.r value-reads.Learnt
 value-determined κs a z z′ ws ws′ p q = (same-told valued valued-back valued-known p q, refl)

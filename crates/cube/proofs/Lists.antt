@@ -15,7 +15,7 @@ use Rattle.records.specs.Records.{Codec, flat, listOf, capacityOf}
 use Rattle.records.specs.declared.Refusal.{Refusal}
 use Rattle.records.specs.Answers.{accepted, refused, refusal}
 use Rattle.records.proofs.Records.{list-flat}
-use Rattle.records.proofs.Answers.{unless-passes, unless-fails, unless-accepted}
+use Rattle.records.proofs.Answers.{accepted-values, unless-passes, unless-fails, unless-accepted}
 use Rattle.records.proofs.Checks.{checked, records-accepted, accepted-records}
 use Rattle.cube.specs.declared.Cube.{Cube}
 use Rattle.cube.specs.Cubes.{one, good, Good, holds}
@@ -72,6 +72,14 @@ module _ (C : Codec Cube) (limit n : ℕ) (b : List ℕ) where
       sym (check-records (a .few))
       ∙ accepted-records C (good n) 2 3 4 mostRecords b
       (record { whole = a .whole; short = a .short; each = all-each (Good n) (λ c. good n c ≡ true) (parts-good n) (listOf C b) (a .good) })
+
+  -- the count that it answers
+  module _ (count : ℕ) (e : checkListOf C limit n b ≡ accepted (count ∷ [])) where
+    pub count-is : count ≡ length b / C .width
+    count-is = ap (λ (v : List ℕ). getD v 0 0) (accepted-values (sym e ∙ accepts-check (check-accepts (count ∷ []) e)))
+
+    pub count-most : count ≤ mostRecords
+    count-most = subst (λ (k : ℕ). k ≤ mostRecords) (sym count-is) (check-accepts (count ∷ []) e .short)
 
 -- the cubes of the bytes of a list are the list
 pub cubes-flat : (l : List Cube) → cubesOf (flat (cubes .enc) l) ≡ l

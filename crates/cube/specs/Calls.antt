@@ -10,7 +10,7 @@ use Rattle.cube.specs.declared.Cube.{Cube}
 use Rattle.cube.specs.declared.Valued.{Valued}
 use Rattle.cube.specs.declared.Valued.the-variants as valued-is
 use Rattle.cube.specs.Cubes.{good}
-use Rattle.cube.specs.Lists.{mostVariables, vectorVariables, mostRecords, cubes, cubesOf, listValue, truthVector}
+use Rattle.cube.specs.Lists.{mostVariables, vectorVariables, mostRecords, cubes, cubesOf, trues, listValue, truthVector}
 
 -- 2 to 4, of a list of this kind of record; 4 is "a bad record", at "the lowest record that breaks the rule"
 abbrev pub checkRecords : Codec Cube → ℕ → List ℕ → Outcome
@@ -28,9 +28,13 @@ checkListOf C limit n b = unless (leb n limit) 1 0 (checkRecords C n b)
 abbrev pub checkList : ℕ → ℕ → List ℕ → Outcome
 checkList limit n b = checkListOf cubes limit n b
 
--- "Value: 1 to 4, 6"
+-- "Value: 1 to 4, 6": what is refused of it, and of every call on a list and an assignment
+unfoldable pub checkAt : ℕ → List ℕ → ℕ → Outcome
+checkAt n b a = andThen (checkList mostVariables n b) (unless (ltb a (2 ^ n)) 6 0 (accepted (length (cubesOf b) ∷ [])))
+
+-- "value, the bit"; "the value call also answers with the number of true products" (document 02, One)
 unfoldable pub valueOutcome : ℕ → List ℕ → ℕ → Outcome
-valueOutcome n b a = andThen (checkList mostVariables n b) (unless (ltb a (2 ^ n)) 6 0 (accepted (listValue n (cubesOf b) a ∷ [])))
+valueOutcome n b a = andThen (checkAt n b a) (accepted (listValue n (cubesOf b) a ∷ trues n (cubesOf b) a ∷ []))
 
 -- "Truth vector of a list: 1 to 4, 5 (2^n bytes)", into a buffer of so many bytes
 unfoldable pub vectorOutcome : ℕ → List ℕ → ℕ → Outcome
@@ -42,5 +46,5 @@ vectorAfter n b out = afterCall (vectorOutcome n b (length out)) (truthVector n 
 
 -- document 01's number and values for each case of the value call's answer
 abbrev pub valued : Valued → Outcome
-valued (valued-is.Bit b) = accepted (b ∷ [])
+valued (valued-is.Bit b t) = accepted (b ∷ t ∷ [])
 valued (valued-is.Refused r) = refused r

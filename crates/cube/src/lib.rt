@@ -17,9 +17,9 @@ pub struct Cube {
     pub value: u32,
 }
 
-// What the value call answers: the bit, or a refusal.
+// What the value call answers: the bit and the number of true products, or a refusal.
 pub enum Valued {
-    Bit(u8),
+    Bit(u8, usize),
     Refused(Refusal),
 }
 

@@ -16,7 +16,7 @@ ghost use Rattle.bits.specs.Packed.{bitAt, both, literalBits};
 ghost use Rattle.records.specs.Answers.{counted};
 ghost use Rattle.cube.specs.Cubes.{one, code, Good, holds, HoldsAt};
 ghost use Rattle.cube.specs.Lists.{recordWidth, cubesOf, trues, listValue, truthVector};
-ghost use Rattle.cube.specs.Calls.{valued, valueOutcome, vectorOutcome, vectorAfter};
+ghost use Rattle.cube.specs.Calls.{checkAt, valued, valueOutcome, vectorOutcome, vectorAfter};
 
 // Variables of a truth vector, at most.
 pub const VECTOR_VARIABLES: usize = 8;
@@ -48,17 +48,30 @@ fn trues_at(n: usize, list: &[u8], a: u32) -> usize
     t
 }
 
-// The value of a list at the assignment a: refusals 1 to 4 and 6, or the bit.
+// Checking a list and an assignment of its variables: refusals 1 to 4 and 6, or the count of its records.
+pub fn check_at(n: usize, list: &[u8], a: u64) -> Counted
+    ensures { λ r. ⌜ counted r ≡ checkAt n (now (list .entry)) a ⌝ }
+{
+    match list::check(n, list) {
+        Counted::Refused(r) => Counted::Refused(r),
+        Counted::Count(count) => {
+            if a >> n != 0 {
+                return Counted::Refused(Refusal::new(6, 0));
+            }
+            Counted::Count(count)
+        }
+    }
+}
+
+// The value of a list at the assignment a: refusals 1 to 4 and 6, or the bit and the number of true products.
 pub fn value(n: usize, list: &[u8], a: u64) -> Valued
     ensures { λ r. ⌜ valued r ≡ valueOutcome n (now (list .entry)) a ⌝ }
 {
-    match list::check(n, list) {
+    match check_at(n, list, a) {
         Counted::Refused(r) => Valued::Refused(r),
         Counted::Count(_) => {
-            if a >> n != 0 {
-                return Valued::Refused(Refusal::new(6, 0));
-            }
-            Valued::Bit((trues_at(n, list, a as u32) % 2) as u8)
+            let trues = trues_at(n, list, a as u32);
+            Valued::Bit((trues % 2) as u8, trues)
         }
     }
 }

@@ -9,6 +9,8 @@ use Rattle.druthmoy.proofs.dm_check.Kinds as dm-check-kinds
 use Rattle.druthmoy.proofs.dm_check.Reads as dm-check-reads
 use Rattle.druthmoy.proofs.dm_value.Kinds as dm-value-kinds
 use Rattle.druthmoy.proofs.dm_value.Reads as dm-value-reads
+use Rattle.druthmoy.proofs.dm_reasons.Kinds as dm-reasons-kinds
+use Rattle.druthmoy.proofs.dm_reasons.Reads as dm-reasons-reads
 use Rattle.druthmoy.proofs.dm_truth_vector.Kinds as dm-truth-vector-kinds
 use Rattle.druthmoy.proofs.dm_truth_vector.Reads as dm-truth-vector-reads
 use Rattle.druthmoy.proofs.dm_coefficients.Kinds as dm-coefficients-kinds
@@ -33,6 +35,9 @@ dm-check-determined κs a z z′ ws ws′ p q = (refl, ap (λ (w : List ℕ). (t
 
 pub dm-value-determined : Determined 2 dm-value-kinds.ps dm-value-kinds.r dm-value-reads.Learnt
 dm-value-determined κs a z z′ ws ws′ p q = (refl, ap (λ (w : List ℕ). (tt, (tt, (tt, (w, tt))))) (same p q))
+
+pub dm-reasons-determined : Determined 3 dm-reasons-kinds.ps dm-reasons-kinds.r dm-reasons-reads.Learnt
+dm-reasons-determined κs a z z′ ws ws′ p q = (refl, ap₂ (λ (w b : List ℕ). (tt, (tt, (tt, (b, (w, tt)))))) (same (p .0) (q .0)) (same (p .1) (q .1)))
 
 pub dm-truth-vector-determined : Determined 3 dm-truth-vector-kinds.ps dm-truth-vector-kinds.r dm-truth-vector-reads.Learnt
 dm-truth-vector-determined κs a z z′ ws ws′ p q = (refl, ap₂ (λ (w b : List ℕ). (tt, (tt, (b, (w, tt))))) (same (p .0) (q .0)) (same (p .1) (q .1)))

@@ -1,6 +1,7 @@
 // Answers as eight words: the number of a refusal, its place, and six values; of a refusal the first value is its number of differing variables.
 use cube::Valued;
 use polarity::Best;
+use reasons::Reasoned;
 use records::Counted;
 use records::Refusal;
 use script::Finished;
@@ -11,6 +12,7 @@ ghost use mathlib.Core.Path.{_≡_};
 ghost use mathlib.Core.List.{[], _∷_};
 ghost use Rattle.records.specs.Answers.{accepted, refused, counted};
 ghost use Rattle.cube.specs.Calls.{valued};
+ghost use Rattle.reasons.specs.Calls.{reasoned};
 ghost use Rattle.polarity.specs.Calls.{found};
 ghost use Rattle.script.specs.Calls.{finished};
 ghost use Rattle.settling.specs.declared.Settled.the-variants.{Burned};
@@ -47,13 +49,23 @@ pub(crate) fn put_counted(answer: &mut [u64; 8], r: Counted)
     }
 }
 
-// The bit, or a refusal.
+// The bit and the number of true products, or a refusal.
 pub(crate) fn put_valued(answer: &mut [u64; 8], r: Valued)
     ensures { λ _. ⌜ now (answer .exit) ≡ words (valued r) ⌝ }
 {
     match r {
-        Valued::Bit(bit) => put_values(answer, bit as usize, 0),
+        Valued::Bit(bit, trues) => put_values(answer, bit as usize, trues),
         Valued::Refused(why) => put_refusal(answer, why),
+    }
+}
+
+// The number of true products and the bit, or a refusal.
+pub(crate) fn put_reasoned(answer: &mut [u64; 8], r: Reasoned)
+    ensures { λ _. ⌜ now (answer .exit) ≡ words (reasoned r) ⌝ }
+{
+    match r {
+        Reasoned::Shown(number, bit) => put_values(answer, number, bit as usize),
+        Reasoned::Refused(why) => put_refusal(answer, why),
     }
 }
 

@@ -5,6 +5,7 @@ ghost use mathlib.Core.Path.{_≡_};
 ghost use lib.ListN.{length};
 ghost use Rattle.cube.specs.Lists.{mostVariables};
 ghost use Rattle.cube.specs.Calls.{checkList, valueOutcome, vectorOutcome, vectorAfter};
+ghost use Rattle.reasons.specs.Calls.{reasonsOutcome, reasonsAfter};
 ghost use Rattle.converters.specs.Calls.{wideOutcome, wideAfter, narrowOutcome, narrowAfter};
 ghost use Rattle.polarity.specs.Calls.{coefficientsOutcome, coefficientsAfter, backAfter, formOutcome, formAfter, bestOutcome};
 ghost use Rattle.script.specs.Calls.{runOutcome, runAfter};
@@ -20,13 +21,23 @@ pub extern "C" fn dm_check(n: u64, list: &[u8], answer: &mut [u64; 8])
     answers::put_counted(answer, counted);
 }
 
-// The value of a list at the assignment a. Values: the bit.
+// The value of a list at the assignment a. Values: the bit and the number of true products.
 #[no_mangle]
 pub extern "C" fn dm_value(n: u64, list: &[u8], a: u64, answer: &mut [u64; 8])
     ensures { λ _. ⌜ now (answer .exit) ≡ words (valueOutcome n (now (list .entry)) a) ⌝ }
 {
     let valued = cube::value::value(n as usize, list, a);
     answers::put_valued(answer, valued);
+}
+
+// The places of the products of a list that are true at the assignment a. Values: their number and the bit.
+#[no_mangle]
+pub extern "C" fn dm_reasons(n: u64, list: &[u8], a: u64, out: &mut [u8], answer: &mut [u64; 8])
+    ensures { λ _. ⌜ now (answer .exit) ≡ words (reasonsOutcome n (now (list .entry)) a (length (now (out .entry)))) ⌝ }
+    ensures { λ _. ⌜ now (out .exit) ≡ reasonsAfter n (now (list .entry)) a (now (out .entry)) ⌝ }
+{
+    let reasoned = reasons::reasons(n as usize, list, a, out);
+    answers::put_reasoned(answer, reasoned);
 }
 
 // The truth vector of a list. Values: 2^n.

@@ -6,22 +6,21 @@ use mathlib.Core.Bool.{Bool, true, false, cond, _||_}
 use mathlib.Core.List.{List, [], _∷_, map}
 use Prim.Native.Nat.{ℕ, zero, suc, _+_, _-_, _^_, _<_}
 use native.Mathlib.Decide.{ℕ-discrete}
-use native.Mathlib.Nat.{le-refl}
 use native.Mathlib.Omega.{arith}
 use lib.Arith.{lt-of-le-ne}
 use lib.Dec.{eqb}
 use borrow.Author.Tests.{eq-eqb, ne-eqb}
 use Rattle.bits.specs.Bits.{bit}
-use Rattle.bits.specs.Below.{those}
+use Rattle.bits.specs.Below.{those, Ascending}
 use Rattle.bits.specs.Sums.{oneIf, All}
 use Rattle.bits.proofs.Bits.{bit-lt}
 use Rattle.bits.proofs.Bools.{one-lt}
-use Rattle.bits.proofs.Below.{those-same, those-cong}
+use Rattle.bits.proofs.Below.{those-ascending, those-same, those-cong}
 use Rattle.cube.specs.declared.Cube.{Cube}
 use Rattle.cube.specs.Cubes.{codeOf, code, Good}
 use Rattle.cube.specs.Lists.{listValue}
 use Rattle.cube.proofs.Codes.{code-absent, code-present, cube-ext, good-seen}
-use Rattle.polarity.specs.Forms.{coefficient, product, formFrom, formList, Ascending, variables, Form}
+use Rattle.polarity.specs.Forms.{coefficient, product, formFrom, formList, variables, Form}
 use Rattle.polarity.specs.Words.{nonzero}
 use Rattle.polarity.proofs.Forms.{product-code, product-good, form-good}
 use Rattle.polarity.proofs.Theorems.{literal-of-polarity-missing, form-unique}
@@ -107,19 +106,6 @@ those-has (suc m) k (x ∷ l) a b =
     ]
 
 -- ---- the form is one, and any other is equal to it
-
-ascending-from : (k : ℕ) (l : List ℕ) → Ascending (suc k) l → Ascending k l
-ascending-from k [] a = tt
-ascending-from k (x ∷ l) a = (omega (arith, a .0), a .1)
-
-those-ascending : (f : ℕ → Bool) (m k : ℕ) → Ascending k (those f m k)
-unfolding those
-those-ascending f zero k = tt
-those-ascending f (suc m) k = go (f k) (those-ascending f m (suc k))
-  where
-    go : (b : Bool) → Ascending (suc k) (those f m (suc k)) → Ascending k (cond b (k ∷ those f m (suc k)) (those f m (suc k)))
-    go true a = (le-refl k, a)
-    go false a = ascending-from k (those f m (suc k)) a
 
 variables-of : (p : ℕ) (l : List ℕ) → map variables (map (product p) l) ≡ l
 variables-of p [] = refl

@@ -1,6 +1,6 @@
--- What an accepted check of a vector says; and a call that writes to the front of a buffer, by its outcome.
+-- What an accepted check of a vector says.
 -- Assumes nothing.
-use mathlib.Core.Path.{_≡_, refl, sym, ap, _∙_}
+use mathlib.Core.Path.{_≡_, refl, sym, ap}
 use mathlib.Core.Bool.{true}
 use mathlib.Core.List.{List, [], _∷_}
 use Prim.Native.Nat.{ℕ, _^_, _<_, _≤_}
@@ -11,9 +11,8 @@ use lib.Pow.{pow-mono}
 use borrow.Author.Tests.{leb-true, eqb-true}
 use Rattle.bits.specs.Sums.{All}
 use Rattle.bits.proofs.Sums.{all-get-or}
-use Rattle.records.specs.declared.Refusal.{Refusal}
-use Rattle.records.specs.Answers.{Outcome, accepted, refused, afterCall}
-use Rattle.records.proofs.Answers.{unless-accepted, unless-at-accepted, accepted-values, after-accepted, after-refused}
+use Rattle.records.specs.Answers.{accepted}
+use Rattle.records.proofs.Answers.{unless-accepted, unless-at-accepted, accepted-values}
 use Rattle.cube.specs.Lists.{vectorVariables}
 use Rattle.polarity.specs.Vectors.{byteAt, Vector, isBit, checkVector}
 
@@ -38,11 +37,3 @@ check-long n l m e = ap (λ (v : List ℕ). getD v 0 0) (check-says n l (m ∷ [
 
 pub vector-most : (n : ℕ) (l : List ℕ) → Vector n l → 2 ^ n ≤ 256
 vector-most n l v = pow-mono (v .few)
-
--- ---- a call that leaves `new` where it is accepted, and the buffer as it was where it is refused
-
-pub call-refused : (o : Outcome) (new out : List ℕ) (r : Refusal) → o ≡ refused r → (refused r ≡ o) × (out ≡ afterCall o new out)
-call-refused o new out r e = (sym e, sym (after-refused o new out r e))
-
-pub call-accepted : (o : Outcome) (new out v out′ : List ℕ) → o ≡ accepted v → out′ ≡ new → (accepted v ≡ o) × (out′ ≡ afterCall o new out)
-call-accepted o new out v out′ e f = (sym e, f ∙ sym (after-accepted o new out v e))

@@ -2,13 +2,13 @@
 -- Assumes nothing.
 use mathlib.Core.Bool.{not, cond}
 use mathlib.Core.Logic.{_≢_}
-use mathlib.Core.List.{List, [], _∷_, map}
-use Prim.Native.Nat.{ℕ, suc, _%_, _^_, _≤_}
+use mathlib.Core.List.{List, map}
+use Prim.Native.Nat.{ℕ, _%_, _^_}
 use lib.Bits.{bitAnd, bitXor}
 use lib.Dec.{eqb}
 use lib.ListN.{length}
 use Rattle.bits.specs.Bits.{bit, within}
-use Rattle.bits.specs.Below.{sumBelow, those, firstBelow}
+use Rattle.bits.specs.Below.{sumBelow, those, Ascending, firstBelow}
 use Rattle.bits.specs.Sums.{All}
 use Rattle.cube.specs.declared.Cube.{Cube}
 use Rattle.cube.specs.Cubes.{code, Good}
@@ -47,11 +47,6 @@ abbrev pub size : ℕ → ℕ → (ℕ → ℕ) → ℕ
 size n p f = length (formList n p f)
 
 -- ---- any form
-
--- the numbers from k on, ascending
-abbrev pub Ascending : ℕ → List ℕ → Type 0
-Ascending k [] = Unit {0}
-Ascending k (x ∷ l) = (k ≤ x) × Ascending (suc x) l
 
 -- a cube's set of variables
 abbrev pub variables : Cube → ℕ

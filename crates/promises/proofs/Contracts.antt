@@ -5,6 +5,7 @@ use mathlib.Core.List.{List, [], _∷_}
 use Prim.Native.Nat.{ℕ}
 use Rattle.records.specs.Answers.{counted}
 use Rattle.cube.specs.Calls.{valued}
+use Rattle.reasons.specs.Calls.{reasoned}
 use Rattle.polarity.specs.Calls.{found}
 use Rattle.script.specs.Calls.{finished}
 use Rattle.settling.specs.Calls.{settled}
@@ -12,6 +13,8 @@ use Rattle.cube.proofs.list.check.Kinds as check-kinds
 use Rattle.cube.proofs.list.check.Reads as check-reads
 use Rattle.cube.proofs.value.value.Kinds as value-kinds
 use Rattle.cube.proofs.value.value.Reads as value-reads
+use Rattle.reasons.proofs.reasons.Kinds as reasons-kinds
+use Rattle.reasons.proofs.reasons.Reads as reasons-reads
 use Rattle.cube.proofs.value.truth_vector.Kinds as truth-vector-kinds
 use Rattle.cube.proofs.value.truth_vector.Reads as truth-vector-reads
 use Rattle.converters.proofs.wide_from_narrow.wide_from_narrow.Kinds as wide-from-narrow-kinds
@@ -34,6 +37,8 @@ use Rattle.druthmoy.proofs.dm_check.Kinds as dm-check-kinds
 use Rattle.druthmoy.proofs.dm_check.Reads as dm-check-reads
 use Rattle.druthmoy.proofs.dm_value.Kinds as dm-value-kinds
 use Rattle.druthmoy.proofs.dm_value.Reads as dm-value-reads
+use Rattle.druthmoy.proofs.dm_reasons.Kinds as dm-reasons-kinds
+use Rattle.druthmoy.proofs.dm_reasons.Reads as dm-reasons-reads
 use Rattle.druthmoy.proofs.dm_truth_vector.Kinds as dm-truth-vector-kinds
 use Rattle.druthmoy.proofs.dm_truth_vector.Reads as dm-truth-vector-reads
 use Rattle.druthmoy.proofs.dm_coefficients.Kinds as dm-coefficients-kinds
@@ -52,7 +57,7 @@ use Rattle.druthmoy.proofs.dm_wide_from_narrow.Kinds as dm-wide-from-narrow-kin
 use Rattle.druthmoy.proofs.dm_wide_from_narrow.Reads as dm-wide-from-narrow-reads
 use Rattle.druthmoy.proofs.dm_narrow_from_wide.Kinds as dm-narrow-from-wide-kinds
 use Rattle.druthmoy.proofs.dm_narrow_from_wide.Reads as dm-narrow-from-wide-reads
-use Rattle.promises.specs.Calls.{Call, check, value, truthVector, coefficients, vectorBack, writeForm, bestPolarity, run, settle, wideFromNarrow, narrowFromWide, answers, leaves, wordsOf, Faced}
+use Rattle.promises.specs.Calls.{Call, check, value, reasons, truthVector, coefficients, vectorBack, writeForm, bestPolarity, run, settle, wideFromNarrow, narrowFromWide, answers, leaves, wordsOf, Faced}
 use Rattle.promises.specs.Contracts.{IsCalled, IsFaced}
 
 -- ---- from Rattle
@@ -68,6 +73,12 @@ pub value-called : IsCalled 1 value-kinds.ps value-kinds.r value-reads.Learnt
     (λ κs a ws. []) (λ κs z. valued z)
 unfolding answers leaves
 value-called κs a z ws p = record { answer = p; left = refl }
+
+pub reasons-called : IsCalled 2 reasons-kinds.ps reasons-kinds.r reasons-reads.Learnt
+    (λ κs a. reasons (a .0) (a .1 .0 .now) (a .1 .1 .0) (a .1 .1 .1 .0 .now))
+    (λ κs a ws. ws .1 .1 .1 .0 ∷ []) (λ κs z. reasoned z)
+unfolding answers leaves
+reasons-called κs a z ws p = record { answer = p .0; left = ap (λ (b : List ℕ). b ∷ []) (p .1) }
 
 pub truth-vector-called : IsCalled 2 truth-vector-kinds.ps truth-vector-kinds.r truth-vector-reads.Learnt
     (λ κs a. truthVector (a .0) (a .1 .0 .now) (a .1 .1 .0 .now))
@@ -140,6 +151,12 @@ pub dm-value-faced : IsFaced 2 dm-value-kinds.ps dm-value-kinds.r dm-value-reads
     (λ κs a ws. []) (λ κs a ws. ws .1 .1 .1 .0)
 unfolding answers leaves wordsOf
 dm-value-faced κs a z ws p = faced _ _ _ p refl
+
+pub dm-reasons-faced : IsFaced 3 dm-reasons-kinds.ps dm-reasons-kinds.r dm-reasons-reads.Learnt
+    (λ κs a. reasons (a .0) (a .1 .0 .now) (a .1 .1 .0) (a .1 .1 .1 .0 .now))
+    (λ κs a ws. ws .1 .1 .1 .0 ∷ []) (λ κs a ws. ws .1 .1 .1 .1 .0)
+unfolding answers leaves wordsOf
+dm-reasons-faced κs a z ws p = faced _ _ _ (p .0) (ap (λ (b : List ℕ). b ∷ []) (p .1))
 
 pub dm-truth-vector-faced : IsFaced 3 dm-truth-vector-kinds.ps dm-truth-vector-kinds.r dm-truth-vector-reads.Learnt
     (λ κs a. truthVector (a .0) (a .1 .0 .now) (a .1 .1 .0 .now))

@@ -24,8 +24,8 @@ use Rattle.script.specs.Scripts.{stepsOf}
 use Rattle.script.specs.Calls.{runOf, atStep, ofStep, ranOutcome, ranWork}
 use Rattle.script.proofs.Refusals.{stopped-steps, refused-stops}
 use Rattle.settling.specs.Calls.{ranSettled, ranBurned}
-use Rattle.promises.specs.Calls.{Call, check, value, truthVector, coefficients, vectorBack, writeForm, bestPolarity, run, settle, wideFromNarrow, narrowFromWide, answers, lent, leaves, Called}
-use Rattle.promises.specs.Refusals.{NoneWrong, FirstWrong, reasons, beforeSteps, RefusedBefore, StepStops, Stopped, RefusedAtStep, in-run, in-settle}
+use Rattle.promises.specs.Calls.{Call, check, value, reasons, truthVector, coefficients, vectorBack, writeForm, bestPolarity, run, settle, wideFromNarrow, narrowFromWide, answers, lent, leaves, Called}
+use Rattle.promises.specs.Refusals.{NoneWrong, FirstWrong, faults, beforeSteps, RefusedBefore, StepStops, Stopped, RefusedAtStep, in-run, in-settle}
 use Rattle.promises.specs.Accepted.{goesOn, goesOnLeaving, ScriptStops, run-stops, settle-stops, ScriptEnds}
 use Rattle.promises.proofs.Chains.{first-only, first-number, not-none}
 use Rattle.promises.proofs.Numbers.{numbered}
@@ -48,10 +48,11 @@ stops n list script work r e =
     }
 
 -- a call that went on and was refused has a script, and was refused at a step of it
-at-step : (c : Call) (r : Refusal) (buffers : List (List ℕ)) → NoneWrong (reasons c) → goesOn c ≡ refused r → buffers ≡ goesOnLeaving c → RefusedAtStep r buffers c
+at-step : (c : Call) (r : Refusal) (buffers : List (List ℕ)) → NoneWrong (faults c) → goesOn c ≡ refused r → buffers ≡ goesOnLeaving c → RefusedAtStep r buffers c
 unfolding goesOn goesOnLeaving
 at-step (check n list) r buffers none e f = absurd (not-both e)
 at-step (value n list a) r buffers none e f = absurd (not-both e)
+at-step (reasons n list a out) r buffers none e f = absurd (not-both e)
 at-step (truthVector n list out) r buffers none e f = absurd (not-both e)
 at-step (coefficients n vector p out) r buffers none e f = absurd (not-both e)
 at-step (vectorBack n vector p out) r buffers none e f = absurd (not-both e)
@@ -101,6 +102,7 @@ accepts : (c : Call) → ScriptEnds c → (v : List ℕ) × (goesOn c ≡ accept
 unfolding goesOn ScriptEnds
 accepts (check n list) s = (_, refl)
 accepts (value n list a) s = (_, refl)
+accepts (reasons n list a out) s = (_, refl)
 accepts (truthVector n list out) s = (_, refl)
 accepts (coefficients n vector p out) s = (_, refl)
 accepts (vectorBack n vector p out) s = (_, refl)
@@ -119,14 +121,14 @@ answered c = record { answer = refl; left = refl }
 
 module _ (c : Call) (o : Outcome) (buffers : List (List ℕ)) (called : Called c o buffers) where
   -- Bad input is refused: by the number and the place of the first in order that is wrong; and nothing is written.
-  pub wrong-refused : (number place : ℕ) → FirstWrong (reasons c) number place → (o ≡ refused (refusal number place)) × (buffers ≡ lent c)
+  pub wrong-refused : (number place : ℕ) → FirstWrong (faults c) number place → (o ≡ refused (refusal number place)) × (buffers ≡ lent c)
   wrong-refused number place f = go (judged c)
     where
       go : Outcomes c → (o ≡ refused (refusal number place)) × (buffers ≡ lent c)
       go (judging.wrong m p g e k) =
-          let same = first-only (reasons c) m number p place g f in
+          let same = first-only (faults c) m number p place g f in
           (called .answer ∙ e ∙ (λ i. refused (refusal (same .0 i) (same .1 i))), called .left ∙ k)
-      go (judging.right none e k) = absurd (not-none (reasons c) number place f none)
+      go (judging.right none e k) = absurd (not-none (faults c) number place f none)
 
   -- Nothing else is: what is refused was wrong, and the first in order, and nothing was written; or a step of the script was, where nothing
   -- before the steps was wrong, and then every byte of the work buffer is zero, and no list is handed out.
@@ -137,8 +139,8 @@ module _ (c : Call) (o : Outcome) (buffers : List (List ℕ)) (called : Called c
       go (judging.wrong m p g e k) =
           let same : refusal m p ≡ r = refused-same (sym e ∙ sym (called .answer) ∙ is) in
           inl (record {
-            wrong = subst (λ (x : Refusal). FirstWrong (reasons c) (x .number) (x .place)) same g;
-            number = ap (λ (x : Refusal). beforeSteps (x .number)) (sym same) ∙ first-number (reasons c) (numbered c) m p g;
+            wrong = subst (λ (x : Refusal). FirstWrong (faults c) (x .number) (x .place)) same g;
+            number = ap (λ (x : Refusal). beforeSteps (x .number)) (sym same) ∙ first-number (faults c) (numbered c) m p g;
             third = sym (ap (λ (x : Refusal). x .differing) same);
             nothing-written = called .left ∙ k;
           })
@@ -169,25 +171,25 @@ module _ (c : Call) (o : Outcome) (buffers : List (List ℕ)) (called : Called c
       go (inr s) = step-told s .third-else no₁
 
   -- Of an accepted call nothing is wrong ..
-  pub accepted-not-wrong : (v : List ℕ) → o ≡ accepted v → NoneWrong (reasons c)
+  pub accepted-not-wrong : (v : List ℕ) → o ≡ accepted v → NoneWrong (faults c)
   accepted-not-wrong v is = go (judged c)
     where
-      go : Outcomes c → NoneWrong (reasons c)
+      go : Outcomes c → NoneWrong (faults c)
       go (judging.wrong m p g e k) = absurd (not-both (sym is ∙ called .answer ∙ e))
       go (judging.right none e k) = none
 
   -- .. and where nothing is, the call answers and leaves what document 01 says of an accepted one, or is refused at a step; ..
-  pub not-wrong-goes-on : NoneWrong (reasons c) → (o ≡ goesOn c) × (buffers ≡ goesOnLeaving c)
+  pub not-wrong-goes-on : NoneWrong (faults c) → (o ≡ goesOn c) × (buffers ≡ goesOnLeaving c)
   not-wrong-goes-on fine = go (judged c)
     where
       go : Outcomes c → (o ≡ goesOn c) × (buffers ≡ goesOnLeaving c)
-      go (judging.wrong m p g e k) = absurd (not-none (reasons c) m p g fine)
+      go (judging.wrong m p g e k) = absurd (not-none (faults c) m p g fine)
       go (judging.right none e k) = (called .answer ∙ e, called .left ∙ k)
 
   -- .. refused exactly by the step that is refused, and with the third answer of that step, ..
-  pub not-wrong-stops : NoneWrong (reasons c) → (why : StepRefusal) (k : ℕ) → ScriptStops why k c → o ≡ refused (atStep why k)
+  pub not-wrong-stops : NoneWrong (faults c) → (why : StepRefusal) (k : ℕ) → ScriptStops why k c → o ≡ refused (atStep why k)
   not-wrong-stops fine why k s = not-wrong-goes-on fine .0 ∙ refuses s
 
   -- .. and it is accepted where the script, if the call has one, ends.
-  pub not-wrong-accepted : NoneWrong (reasons c) → ScriptEnds c → (v : List ℕ) × (o ≡ accepted v)
+  pub not-wrong-accepted : NoneWrong (faults c) → ScriptEnds c → (v : List ℕ) × (o ≡ accepted v)
   not-wrong-accepted fine s = let a = accepts c s in (a .0, not-wrong-goes-on fine .0 ∙ a .1)

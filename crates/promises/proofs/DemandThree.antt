@@ -31,7 +31,7 @@ use Rattle.settling.specs.Calls.{settled}
 use Rattle.settling.proofs.Cheapest.{burned-at, burned-first}
 use Rattle.settling.proofs.Outcomes.{AcceptedSettle, settle-checked, BurnedBy, settle-burned}
 use Rattle.promises.specs.Calls.{settle, Called}
-use Rattle.promises.specs.Refusals.{NoneWrong, reasons}
+use Rattle.promises.specs.Refusals.{NoneWrong, faults}
 use Rattle.promises.specs.Accepted.{EndOfScript, ScriptEnds}
 use Rattle.promises.specs.Burned.{burnedIn, EndsIn, BurnedFirst}
 use Rattle.promises.proofs.AnyForm.{form-shortest, form-cheapest}
@@ -39,7 +39,7 @@ use Rattle.promises.proofs.Calling.{Accepting, called-accepted, accepte
 use Rattle.promises.proofs.DemandOne.{not-wrong-accepted}
 
 -- There are such calls: one of which nothing is wrong, and whose script ends, is not refused.
-pub not-wrong-settles : (n : ℕ) (list script work out : List ℕ) (o : Outcome) (buffers : List (List ℕ)) → NoneWrong (reasons (settle n list script work out))
+pub not-wrong-settles : (n : ℕ) (list script work out : List ℕ) (o : Outcome) (buffers : List (List ℕ)) → NoneWrong (faults (settle n list script work out))
     → EndOfScript n list script work → Called (settle n list script work out) o buffers
     → (s : Settlement) × Called (settle n list script work out) (settled (settled-is.Burned s)) buffers
 unfolding ScriptEnds

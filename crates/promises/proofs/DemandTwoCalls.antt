@@ -3,7 +3,7 @@
 -- Assumes nothing.
 use mathlib.Core.Path.{_≡_, refl, sym, ap, _∙_, subst}
 use mathlib.Core.List.{List, [], _∷_, _++_}
-use Prim.Native.Nat.{ℕ, _*_, _^_, _≤_, _<_}
+use Prim.Native.Nat.{ℕ, _*_, _%_, _^_, _≤_, _<_}
 use native.Mathlib.Nat.{le-trans, mul-le-mul-left, mod-lt, zero-lt-suc}
 use lib.Bits.{bitXor}
 use lib.ListN.{length, take, drop, List·getD-append}
@@ -33,7 +33,7 @@ use Rattle.script.specs.Calls.{runOf, ranOutcome, ranWork}
 use Rattle.script.proofs.Value.{run-value}
 use Rattle.promises.specs.Calls.{Call, Called}
 use Rattle.promises.specs.Calls as call
-use Rattle.promises.specs.Refusals.{NoneWrong, recordReasons, listReasons, vectorReasons, reasons}
+use Rattle.promises.specs.Refusals.{NoneWrong, recordFaults, listFaults, vectorFaults, faults}
 use Rattle.promises.specs.Accepted.{goesOn, goesOnLeaving}
 use Rattle.promises.proofs.Chains.{none-left, none-right}
 use Rattle.promises.proofs.NotWrong.{not-at-most, not-below, is-vector, good-list, fit-script, second-fine, flat-back, list-fine}
@@ -43,7 +43,7 @@ use Rattle.promises.proofs.Calling.{only}
 -- ---- one call
 
 module _ (c : Call) (v : List ℕ) (buffers : List (List ℕ)) (called : Called c (accepted v) buffers) where
-  fine : NoneWrong (reasons c)
+  fine : NoneWrong (faults c)
   fine = accepted-not-wrong c (accepted v) buffers called v refl
 
   went-on : (accepted v ≡ goesOn c) × (buffers ≡ goesOnLeaving c)
@@ -55,10 +55,22 @@ one-value e = cc
 two-values : {x y z w : ℕ} → accepted (x ∷ y ∷ []) ≡ accepted (z ∷ w ∷ []) → (x ≡ z) × (y ≡ w)
 two-values e = (cc, cc)
 
--- The value call answers the EXOR of the list's products at the assignment.
-pub value-answers : (n : ℕ) (list : List ℕ) (a b : ℕ) → Called (call.value n list a) (accepted (b ∷ [])) [] → b ≡ oneIf (sum (λ c. holds n c a) (cubesOf list))
-unfolding goesOn
-value-answers n list a b c = one-value (went-on (call.value n list a) (b ∷ []) [] c .0) ∙ value-is-exor n (cubesOf list) a
+module _ (n : ℕ) (list : List ℕ) (a b t : ℕ) (c : Called (call.value n list a) (accepted (b ∷ t ∷ [])) []) where
+  both : (b ≡ listValue n (cubesOf list) a) × (t ≡ trues n (cubesOf list) a)
+  unfolding goesOn
+  both = two-values (went-on (call.value n list a) (b ∷ t ∷ []) [] c .0)
+
+  -- The value call answers the EXOR of the list's products at the assignment, ..
+  pub value-answers : b ≡ oneIf (sum (λ c. holds n c a) (cubesOf list))
+  value-answers = both .0 ∙ value-is-exor n (cubesOf list) a
+
+  -- .. and the number of those that are true there, whose parity it is.
+  pub value-trues : t ≡ trues n (cubesOf list) a
+  value-trues = both .1
+
+  pub value-parity : b ≡ t % 2
+  unfolding listValue
+  value-parity = both .0 ∙ ap (λ (k : ℕ). k % 2) (sym value-trues)
 
 module _ (n : ℕ) (list out out′ v : List ℕ) (c : Called (call.truthVector n list out) (accepted v) (out′ ∷ [])) where
   vector-left : out′ ≡ truthVector n (cubesOf list) ++ drop (2 ^ n) out
@@ -96,22 +108,22 @@ front n f out out′ e = ap (take (2 ^ n)) (only e) ∙ take-at (listBelow (2 ^ 
 
 -- ---- there and back
 
-module _ (n p : ℕ) (l out : List ℕ) (none : NoneWrong (reasons (call.coefficients n l p out))) where
+module _ (n p : ℕ) (l out : List ℕ) (none : NoneWrong (faults (call.coefficients n l p out))) where
   vector : Vector n l
-  unfolding reasons
-  vector = is-vector n l (none-left (vectorReasons n l) _ none)
+  unfolding faults
+  vector = is-vector n l (none-left (vectorFaults n l) _ none)
 
   low : p < 2 ^ n
-  unfolding reasons
-  low = not-at-most p (2 ^ n) (none-right (vectorReasons n l) _ none .0)
+  unfolding faults
+  low = not-at-most p (2 ^ n) (none-right (vectorFaults n l) _ none .0)
 
 -- a first call of which nothing is wrong, and a second one on what it left, into a buffer with room
 module _ (n p : ℕ) (l out out′ back back′ : List ℕ) (o q : Outcome) (long : 2 ^ n ≤ length back) where
   -- Truth vector, coefficients, truth vector: both calls are accepted, and the second returns the vector, under every polarity ..
-  pub calls-there-and-back : NoneWrong (reasons (call.coefficients n l p out))
+  pub calls-there-and-back : NoneWrong (faults (call.coefficients n l p out))
       → Called (call.coefficients n l p out) o (out′ ∷ []) → Called (call.vectorBack n (take (2 ^ n) out′) p back) q (back′ ∷ [])
       → (o ≡ accepted (2 ^ n ∷ [])) × (q ≡ accepted (2 ^ n ∷ [])) × (take (2 ^ n) back′ ≡ l)
-  unfolding goesOn goesOnLeaving reasons
+  unfolding goesOn goesOnLeaving faults
   calls-there-and-back none c d =
       let v = vector n p l out none in
       let g = not-wrong-goes-on (call.coefficients n l p out) o (out′ ∷ []) c none in
@@ -124,10 +136,10 @@ module _ (n p : ℕ) (l out out′ back back′ : List ℕ) (o q : Outcome) (lon
       )
 
   -- .. and coefficients, truth vector, coefficients too.
-  pub calls-back-and-there : NoneWrong (reasons (call.vectorBack n l p out))
+  pub calls-back-and-there : NoneWrong (faults (call.vectorBack n l p out))
       → Called (call.vectorBack n l p out) o (out′ ∷ []) → Called (call.coefficients n (take (2 ^ n) out′) p back) q (back′ ∷ [])
       → (o ≡ accepted (2 ^ n ∷ [])) × (q ≡ accepted (2 ^ n ∷ [])) × (take (2 ^ n) back′ ≡ l)
-  unfolding goesOn goesOnLeaving reasons
+  unfolding goesOn goesOnLeaving faults
   calls-back-and-there none c d =
       let v = vector n p l out none in
       let g = not-wrong-goes-on (call.vectorBack n l p out) o (out′ ∷ []) c none in
@@ -143,7 +155,7 @@ module _ (n p : ℕ) (l out out′ back back′ : List ℕ) (o q : Outcome) (lon
 
 -- coefficients, writing the form, and the value of what was written
 module _ (n p k a : ℕ) (l c c′ f f′ : List ℕ) (o q : Outcome)
-    (none : NoneWrong (reasons (call.coefficients n l p c))) (first : Called (call.coefficients n l p c) o (c′ ∷ []))
+    (none : NoneWrong (faults (call.coefficients n l p c))) (first : Called (call.coefficients n l p c) o (c′ ∷ []))
     (second : Called (call.writeForm n (take (2 ^ n) c′) p f) (accepted (k ∷ [])) (f′ ∷ []))
     (h : a < 2 ^ n) (third : Called (call.value n (take (recordWidth * k) f′) a) q []) where
   abbrev form : List Cube
@@ -157,10 +169,10 @@ module _ (n p k a : ℕ) (l c c′ f f′ : List ℕ) (o q : Outcome)
       ∙ form-cong n p (byteAt (coefficientVector n p l)) (coefficient n p (byteAt l)) (λ s b. getD-listBelow (2 ^ n) (coefficient n p (byteAt l)) s 0 b)
 
   room : length form ≤ cubeCapacity (length f)
-  unfolding reasons
+  unfolding faults
   room =
       let t = fine (call.writeForm n (take (2 ^ n) c′) p f) (k ∷ []) (f′ ∷ []) second in
-      not-below (length form) (cubeCapacity (length f)) (none-right (vectorReasons n (take (2 ^ n) c′)) _ t .1 .0)
+      not-below (length form) (cubeCapacity (length f)) (none-right (vectorFaults n (take (2 ^ n) c′)) _ t .1 .0)
 
   bytes : take (recordWidth * k) f′ ≡ flat (cubes .enc) form
   unfolding goesOn goesOnLeaving
@@ -172,28 +184,29 @@ module _ (n p k a : ℕ) (l c c′ f f′ : List ℕ) (o q : Outcome)
       ap (take (recordWidth * k)) (only (g .1) ∙ written-front cubes lawful f form fits)
       ∙ take-at (flat (cubes .enc) form) (drop (recordWidth * length form) f) (recordWidth * k) long
 
-  -- The written form's value is the vector's byte, at every assignment and under every polarity.
-  pub form-value-call : q ≡ accepted (byteAt l a ∷ [])
+  -- The written form's value is the vector's byte, at every assignment and under every polarity; the second number is of the form's products.
+  pub form-value-call : q ≡ accepted (byteAt l a ∷ trues n (formList n p (byteAt l)) a ∷ [])
   unfolding goesOn
   form-value-call =
       let v = vector n p l c none in
       let short : length form ≤ mostRecords = le-trans room (capacity-most cubes mostRecords (length f)) in
-      let more = subst (λ (b : List ℕ). NoneWrong (reasons (call.value n b a))) (sym bytes)
+      let more = subst (λ (b : List ℕ). NoneWrong (faults (call.value n b a))) (sym bytes)
       (list-fine n a form (v .few) h short (form-good n p (byteAt (take (2 ^ n) c′)))) in
       not-wrong-goes-on (call.value n (take (recordWidth * k) f′) a) q [] third more .0
-      ∙ ap (λ (b : List ℕ). accepted (listValue n (cubesOf b) a ∷ [])) bytes
-      ∙ ap (λ (m : List Cube). accepted (listValue n m a ∷ [])) (flat-back form ∙ is-form)
-      ∙ ap (λ (x : ℕ). accepted (x ∷ [])) (form-has-the-value n p (byteAt l) (v .bits) (low n p l c none) a h)
+      ∙ ap (λ (b : List ℕ). accepted (listValue n (cubesOf b) a ∷ trues n (cubesOf b) a ∷ [])) bytes
+      ∙ ap (λ (m : List Cube). accepted (listValue n m a ∷ trues n m a ∷ [])) (flat-back form ∙ is-form)
+      ∙ ap (λ (x : ℕ). accepted (x ∷ trues n (formList n p (byteAt l)) a ∷ [])) (form-has-the-value n p (byteAt l) (v .bits) (low n p l c none) a h)
 
 -- Truth vector of a list, its coefficients under any polarity, the form written from them, the form's value: it is the list's value.
-module _ (n p k a : ℕ) (list v v′ c c′ f f′ : List ℕ) (o₁ o₂ q : Outcome) (few : NoneWrong (reasons (call.truthVector n list v))) (low : p < 2 ^ n) (long : 2 ^ n ≤ length c)
+module _ (n p k a : ℕ) (list v v′ c c′ f f′ : List ℕ) (o₁ o₂ q : Outcome) (few : NoneWrong (faults (call.truthVector n list v))) (low : p < 2 ^ n) (long : 2 ^ n ≤ length c)
     (h : a < 2 ^ n) where
   pub four-calls : Called (call.truthVector n list v) o₁ (v′ ∷ [])
       → Called (call.coefficients n (take (2 ^ n) v′) p c) o₂ (c′ ∷ [])
       → Called (call.writeForm n (take (2 ^ n) c′) p f) (accepted (k ∷ [])) (f′ ∷ [])
       → Called (call.value n (take (recordWidth * k) f′) a) q []
-      → (o₁ ≡ accepted (2 ^ n ∷ [])) × (o₂ ≡ accepted (2 ^ n ∷ [])) × (q ≡ accepted (listValue n (cubesOf list) a ∷ []))
-  unfolding goesOn goesOnLeaving reasons listReasons recordReasons listValue
+      → (o₁ ≡ accepted (2 ^ n ∷ [])) × (o₂ ≡ accepted (2 ^ n ∷ []))
+      × (q ≡ accepted (listValue n (cubesOf list) a ∷ trues n (formList n p (byteAt (truthVector n (cubesOf list)))) a ∷ []))
+  unfolding goesOn goesOnLeaving faults listFaults recordFaults listValue
   four-calls first second third fourth =
       let g = not-wrong-goes-on (call.truthVector n list v) o₁ (v′ ∷ []) first few in
       let w : take (2 ^ n) v′ ≡ truthVector n (cubesOf list) = front n (listValue n (cubesOf list)) v v′ (g .1) in
@@ -202,8 +215,8 @@ module _ (n p k a : ℕ) (list v v′ c c′ f f′ : List ℕ) (o₁ o₂ q : O
         g .0,
         not-wrong-goes-on (call.coefficients n (take (2 ^ n) v′) p c) o₂ (c′ ∷ []) second none .0,
         form-value-call n p k a (take (2 ^ n) v′) c c′ f f′ o₂ q none second third h fourth
-            ∙ ap (λ (b : List ℕ). accepted (byteAt b a ∷ [])) w
-            ∙ ap (λ (x : ℕ). accepted (x ∷ [])) (getD-listBelow (2 ^ n) (listValue n (cubesOf list)) a 0 h),
+            ∙ ap (λ (b : List ℕ). accepted (byteAt b a ∷ trues n (formList n p (byteAt b)) a ∷ [])) w
+            ∙ ap (λ (x : ℕ). accepted (x ∷ trues n (formList n p (byteAt (truthVector n (cubesOf list)))) a ∷ [])) (getD-listBelow (2 ^ n) (listValue n (cubesOf list)) a 0 h),
       )
 
 -- ---- run
@@ -224,8 +237,8 @@ module _ (n : ℕ) (list script work work′ : List ℕ) (count peak : ℕ)
   -- .. and it has the given list's value at every assignment.
   pub run-keeps-value : (m : List Cube) → run n (cubeCapacity (length work)) (stepsOf script) (cubesOf list) ≡ ended m peak
       → (a : ℕ) → listValue n m a ≡ listValue n (cubesOf list) a
-  unfolding reasons
+  unfolding faults
   run-keeps-value m ran =
       let none = fine (call.run n list script work) (count ∷ peak ∷ []) (work′ ∷ []) c in
-      run-value n (cubeCapacity (length work)) (stepsOf script) (fit-script n script (none-right (listReasons cubes mostVariables n list) _ none .1))
-      (cubesOf list) (good-list mostVariables n list (none-left (listReasons cubes mostVariables n list) _ none)) m peak ran
+      run-value n (cubeCapacity (length work)) (stepsOf script) (fit-script n script (none-right (listFaults cubes mostVariables n list) _ none .1))
+      (cubesOf list) (good-list mostVariables n list (none-left (listFaults cubes mostVariables n list) _ none)) m peak ran

@@ -14,7 +14,7 @@ use Rattle.settling.specs.declared.Settled.the-variants as settled-is
 use Rattle.settling.specs.declared.Settlement.{Settlement}
 use Rattle.settling.specs.Calls.{settled}
 use Rattle.druthmoy.specs.Faces.{eight, words, settledWords}
-use Rattle.promises.specs.Calls.{Call, check, value, truthVector, coefficients, vectorBack, writeForm, bestPolarity, run, settle, wideFromNarrow, narrowFromWide, wordsOf, Faced}
+use Rattle.promises.specs.Calls.{Call, check, value, reasons, truthVector, coefficients, vectorBack, writeForm, bestPolarity, run, settle, wideFromNarrow, narrowFromWide, wordsOf, Faced}
 use Rattle.promises.specs.Faced.{polarityWord, sizeWord, SettledFace}
 use Rattle.promises.proofs.DemandOne.{refused-above-0}
 use Rattle.promises.proofs.Calling.{accepted-settled}
@@ -26,6 +26,7 @@ words-by : (o : Outcome) (P : List ℕ → Type 0) → P (words o) → P (settle
 unfolding wordsOf
 words-by o P w s (check n list) = w
 words-by o P w s (value n list a) = w
+words-by o P w s (reasons n list a out) = w
 words-by o P w s (truthVector n list out) = w
 words-by o P w s (coefficients n vector p out) = w
 words-by o P w s (vectorBack n vector p out) = w

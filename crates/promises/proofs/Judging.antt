@@ -1,4 +1,4 @@
--- Every call by its reasons: the first that is wrong is what it refuses, and then it leaves its buffers as they were; where none is, how it goes on.
+-- Every call by its faults: the first that is wrong is what it refuses, and then it leaves its buffers as they were; where none is, how it goes on.
 -- Assumes nothing.
 use mathlib.Core.Path.{_≡_, refl, ap}
 use mathlib.Core.List.{List, [], _∷_, _++_}
@@ -9,12 +9,14 @@ use lib.Dec.{leb, ltb, eqb}
 use lib.ListN.{length}
 use Rattle.records.specs.declared.Refusal.{Refusal}
 use Rattle.records.specs.Records.{Codec, listOf}
+use Rattle.records.specs.Places.{placeWidth}
 use Rattle.records.specs.Answers.{Outcome, accepted, refused, refusal, unless, andThen}
 use Rattle.records.proofs.Answers.{and-then, and-not, after-refused, after-accepted}
 use Rattle.cube.specs.declared.Cube.{Cube}
 use Rattle.cube.specs.Cubes.{good, one}
 use Rattle.cube.specs.Lists.{mostVariables, vectorVariables, mostRecords, recordWidth, cubes, cubesOf, cubeCapacity}
-use Rattle.cube.specs.Calls.{checkRecords, checkListOf, checkList, valueOutcome, vectorOutcome, vectorAfter}
+use Rattle.cube.specs.Calls.{checkRecords, checkListOf, checkList, checkAt, valueOutcome, vectorOutcome, vectorAfter}
+use Rattle.reasons.specs.Calls.{reasonsOutcome, reasonsAfter}
 use Rattle.converters.specs.NarrowRecord.{narrowWidth, narrowCubes, narrowCubesOf, narrowVariables}
 use Rattle.converters.specs.Calls.{wideOutcome, wideAfter, narrowOutcome, narrowAfter}
 use Rattle.polarity.specs.Forms.{formFrom}
@@ -23,15 +25,15 @@ use Rattle.polarity.specs.Calls.{coefficientsOutcome, coefficientsAfter, backAf
 use Rattle.script.specs.Scripts.{stepRecords, stepWidth, mostSteps, fits}
 use Rattle.script.specs.Calls.{checkScript, checkRun, runOf, runOutcome, workAfter, runAfter}
 use Rattle.settling.specs.Calls.{checkSettle, settleOutcome, settleWorkBy, settleWork, settleOutBy, settleOut}
-use Rattle.promises.specs.Calls.{Call, check, value, truthVector, coefficients, vectorBack, writeForm, bestPolarity, run, settle, wideFromNarrow, narrowFromWide, answers, lent, leaves}
-use Rattle.promises.specs.Refusals.{Reason, at, NoneWrong, FirstWrong, recordReasons, listReasons, scriptReasons, vectorReasons, reasons}
+use Rattle.promises.specs.Calls.{Call, check, value, reasons, truthVector, coefficients, vectorBack, writeForm, bestPolarity, run, settle, wideFromNarrow, narrowFromWide, answers, lent, leaves}
+use Rattle.promises.specs.Refusals.{Fault, at, NoneWrong, FirstWrong, recordFaults, listFaults, atFaults, scriptFaults, vectorFaults, faults}
 use Rattle.promises.specs.Accepted.{goesOn, goesOnLeaving}
 use Rattle.promises.proofs.Chains.{Judged, judge-end, judge-unless, judge-lowest, judge-and}
 use Rattle.promises.proofs.Chains as chains
 
 -- ---- the tests by number
 
-module _ {xs : List Reason} {o rest : Outcome} (j : Judged xs o rest) where
+module _ {xs : List Fault} {o rest : Outcome} (j : Judged xs o rest) where
   unless-le : (a b number place : ℕ) → Judged (at number place (b < a) ∷ xs) (unless (leb a b) number place o) rest
   unless-le a b number place = judge-unless (leb a b) number place (b < a) (leb-false a b) (λ t h. let l = leb-true a b t in omega arith) j
 
@@ -44,8 +46,8 @@ module _ {xs : List Reason} {o rest : Outcome} (j : Judged xs o rest) where
 -- ---- the chains
 
 -- 2 to 4, and 1 to 4, of a list of any kind of record
-by-records : (C : Codec Cube) (n : ℕ) (list : List ℕ) → Judged (recordReasons C n list) (checkRecords C n list) (accepted (length (listOf C list) ∷ []))
-unfolding recordReasons
+by-records : (C : Codec Cube) (n : ℕ) (list : List ℕ) → Judged (recordFaults C n list) (checkRecords C n list) (accepted (length (listOf C list) ∷ []))
+unfolding recordFaults
 by-records C n list =
     unless-eq
     (unless-le
@@ -53,12 +55,12 @@ by-records C n list =
     (length list / C .width) mostRecords 3 0)
     (length list % C .width) 0 2 0
 
-pub by-list : (C : Codec Cube) (limit n : ℕ) (list : List ℕ) → Judged (listReasons C limit n list) (checkListOf C limit n list) (accepted (length (listOf C list) ∷ []))
-unfolding checkListOf listReasons
+pub by-list : (C : Codec Cube) (limit n : ℕ) (list : List ℕ) → Judged (listFaults C limit n list) (checkListOf C limit n list) (accepted (length (listOf C list) ∷ []))
+unfolding checkListOf listFaults
 by-list C limit n list = unless-le (by-records C n list) n limit 1 0
 
-pub by-script : (n : ℕ) (script : List ℕ) → Judged (scriptReasons n script) (checkScript n script) (accepted (length (listOf stepRecords script) ∷ []))
-unfolding checkScript scriptReasons
+pub by-script : (n : ℕ) (script : List ℕ) → Judged (scriptFaults n script) (checkScript n script) (accepted (length (listOf stepRecords script) ∷ []))
+unfolding checkScript scriptFaults
 by-script n script =
     unless-eq
     (unless-le
@@ -66,8 +68,8 @@ by-script n script =
     (length script / stepWidth) mostSteps 8 0)
     (length script % stepWidth) 0 7 0
 
-pub by-vector : (n : ℕ) (l : List ℕ) → Judged (vectorReasons n l) (checkVector n l) (accepted (2 ^ n ∷ []))
-unfolding checkVector vectorReasons
+pub by-vector : (n : ℕ) (l : List ℕ) → Judged (vectorFaults n l) (checkVector n l) (accepted (2 ^ n ∷ []))
+unfolding checkVector vectorFaults
 by-vector n l =
     unless-le
     (unless-eq
@@ -76,23 +78,27 @@ by-vector n l =
     n vectorVariables 1 0
 
 -- what is tested of a list, and then `ys`
-after-list : (C : Codec Cube) (limit n : ℕ) (list : List ℕ) (ys : List Reason) (o rest : Outcome)
-    → Judged ys o rest → Judged (listReasons C limit n list ++ ys) (andThen (checkListOf C limit n list) o) rest
-after-list C limit n list ys o rest j = judge-and (listReasons C limit n list) ys (checkListOf C limit n list) o rest _ (by-list C limit n list) j
+after-list : (C : Codec Cube) (limit n : ℕ) (list : List ℕ) (ys : List Fault) (o rest : Outcome)
+    → Judged ys o rest → Judged (listFaults C limit n list ++ ys) (andThen (checkListOf C limit n list) o) rest
+after-list C limit n list ys o rest j = judge-and (listFaults C limit n list) ys (checkListOf C limit n list) o rest _ (by-list C limit n list) j
 
-after-vector : (n : ℕ) (l : List ℕ) (ys : List Reason) (o rest : Outcome)
-    → Judged ys o rest → Judged (vectorReasons n l ++ ys) (andThen (checkVector n l) o) rest
-after-vector n l ys o rest j = judge-and (vectorReasons n l) ys (checkVector n l) o rest _ (by-vector n l) j
+pub by-at : (n : ℕ) (list : List ℕ) (a : ℕ) → Judged (atFaults n list a) (checkAt n list a) (accepted (length (cubesOf list) ∷ []))
+unfolding checkAt atFaults
+by-at n list a = after-list cubes mostVariables n list _ _ _ (unless-lt (judge-end _) a (2 ^ n) 6 0)
+
+after-vector : (n : ℕ) (l : List ℕ) (ys : List Fault) (o rest : Outcome)
+    → Judged ys o rest → Judged (vectorFaults n l ++ ys) (andThen (checkVector n l) o) rest
+after-vector n l ys o rest j = judge-and (vectorFaults n l) ys (checkVector n l) o rest _ (by-vector n l) j
 
 -- ---- the calls
 
 -- a call is refused before the first step and leaves its buffers as they were, or goes on
 pub data Outcomes (c : Call) : Type 0 where
-  wrong : (number place : ℕ) → FirstWrong (reasons c) number place → answers c ≡ refused (refusal number place) → leaves c ≡ lent c → Outcomes c
-  right : NoneWrong (reasons c) → answers c ≡ goesOn c → leaves c ≡ goesOnLeaving c → Outcomes c
+  wrong : (number place : ℕ) → FirstWrong (faults c) number place → answers c ≡ refused (refusal number place) → leaves c ≡ lent c → Outcomes c
+  right : NoneWrong (faults c) → answers c ≡ goesOn c → leaves c ≡ goesOnLeaving c → Outcomes c
 
 -- by what it tests before the first step
-by-tests : (c : Call) (o : Outcome) (v : List ℕ) → Judged (reasons c) o (accepted v)
+by-tests : (c : Call) (o : Outcome) (v : List ℕ) → Judged (faults c) o (accepted v)
     → ((r : Refusal) → o ≡ refused r → (answers c ≡ refused r) × (leaves c ≡ lent c))
     → (o ≡ accepted v → (answers c ≡ goesOn c) × (leaves c ≡ goesOnLeaving c))
     → Outcomes c
@@ -103,12 +109,14 @@ one-buffer : {b d : List ℕ} → b ≡ d → b ∷ [] ≡ d ∷ []
 one-buffer e = ap (λ (x : List ℕ). x ∷ []) e
 
 pub judged : (c : Call) → Outcomes c
-unfolding answers lent leaves reasons goesOn goesOnLeaving valueOutcome vectorOutcome vectorAfter coefficientsOutcome coefficientsAfter backAfter formOutcome formAfter bestOutcome runOutcome runAfter checkRun checkSettle settleOutcome settleWork settleOut wideOutcome wideAfter narrowOutcome narrowAfter
+unfolding answers lent leaves faults goesOn goesOnLeaving valueOutcome reasonsOutcome reasonsAfter vectorOutcome vectorAfter coefficientsOutcome coefficientsAfter backAfter formOutcome formAfter bestOutcome runOutcome runAfter checkRun checkSettle settleOutcome settleWork settleOut wideOutcome wideAfter narrowOutcome narrowAfter
 judged (check n list) = by-tests (check n list) (checkList mostVariables n list) _ (by-list cubes mostVariables n list) (λ r e. (e, refl)) (λ e. (e, refl))
 judged (value n list a) =
-    by-tests (value n list a) (valueOutcome n list a) _
-    (after-list cubes mostVariables n list _ _ _ (unless-lt (judge-end _) a (2 ^ n) 6 0))
-    (λ r e. (e, refl)) (λ e. (e, refl))
+    by-tests (value n list a) (checkAt n list a) _ (by-at n list a) (λ r e. (and-not _ _ r e, refl)) (λ e. (and-then _ _ _ e, refl))
+judged (reasons n list a out) =
+    by-tests (reasons n list a out) (reasonsOutcome n list a (length out)) _
+    (judge-and (atFaults n list a) _ (checkAt n list a) _ _ _ (by-at n list a) (unless-le (judge-end _) (placeWidth * length (cubesOf list)) (length out) 5 0))
+    (λ r e. (e, one-buffer (after-refused _ _ out r e))) (λ e. (e, one-buffer (after-accepted _ _ out _ e)))
 judged (truthVector n list out) =
     by-tests (truthVector n list out) (vectorOutcome n list (length out)) _
     (after-list cubes vectorVariables n list _ _ _ (unless-le (judge-end _) (2 ^ n) (length out) 5 0))
@@ -150,7 +158,7 @@ judged (narrowFromWide n list out) =
     by-tests (narrowFromWide n list out) (narrowOutcome n list (length out)) _
     (unless-le
     (unless-le
-    (judge-and (recordReasons cubes n list) _ (checkRecords cubes n list) _ _ _ (by-records cubes n list)
+    (judge-and (recordFaults cubes n list) _ (checkRecords cubes n list) _ _ _ (by-records cubes n list)
     (unless-le (judge-end _) (narrowWidth * length (cubesOf list)) (length out) 5 0))
     n narrowVariables 20 0)
     n mostVariables 1 0)

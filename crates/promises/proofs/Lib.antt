@@ -8,6 +8,7 @@ pub mod DemandTwo
 pub mod AnyForm
 pub mod DemandThree
 pub mod Converters
+pub mod Reasons
 pub mod NotWrong
 pub mod DemandTwoCalls
 pub mod Faces

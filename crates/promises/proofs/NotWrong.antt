@@ -30,11 +30,11 @@ use Rattle.script.specs.Calls.{checkScript}
 use Rattle.script.proofs.Scripts.{meaning-fits}
 use Rattle.script.proofs.Scripts.{script-accepts}
 use Rattle.promises.specs.Calls as call
-use Rattle.promises.specs.Refusals.{NoneWrong, recordReasons, listReasons, scriptReasons, vectorReasons, reasons}
+use Rattle.promises.specs.Refusals.{NoneWrong, recordFaults, listFaults, atFaults, scriptFaults, vectorFaults, faults}
 use Rattle.promises.proofs.Chains.{none-both, judged-right}
 use Rattle.promises.proofs.Judging.{by-list, by-script, by-vector}
 
--- ---- a reason that is not there
+-- ---- a fault that is not there
 
 pub not-at-most : (a b : ℕ) → ((q : ℕ) → (q ≡ 0) × (b ≤ a) → ⊥) → a < b
 not-at-most a b none = lt-of-not-le (λ h. none 0 (refl, h))
@@ -45,23 +45,23 @@ not-below a b none = let l : a < suc b = lt-of-not-le (λ h. none 0 (refl, h)) i
 -- ---- what is known where nothing is wrong
 
 -- a list's cubes are good, a script's steps fit, a vector is one
-pub good-list : (limit n : ℕ) (list : List ℕ) → NoneWrong (listReasons cubes limit n list) → All (Good n) (cubesOf list)
-good-list limit n list none = list-laws.check-accepts cubes limit n list _ (judged-right (listReasons cubes limit n list) (checkList limit n list) _ (by-list cubes limit n list) none) .good
+pub good-list : (limit n : ℕ) (list : List ℕ) → NoneWrong (listFaults cubes limit n list) → All (Good n) (cubesOf list)
+good-list limit n list none = list-laws.check-accepts cubes limit n list _ (judged-right (listFaults cubes limit n list) (checkList limit n list) _ (by-list cubes limit n list) none) .good
 
-pub fit-script : (n : ℕ) (script : List ℕ) → NoneWrong (scriptReasons n script) → All (Allowed n) (stepsOf script)
+pub fit-script : (n : ℕ) (script : List ℕ) → NoneWrong (scriptFaults n script) → All (Allowed n) (stepsOf script)
 unfolding stepsOf
 fit-script n script none =
-    let s = script-accepts n script _ (judged-right (scriptReasons n script) (checkScript n script) _ (by-script n script) none) in
+    let s = script-accepts n script _ (judged-right (scriptFaults n script) (checkScript n script) _ (by-script n script) none) in
     all-map (λ r. fits n r ≡ true) (Allowed n) meaning (meaning-fits n) (listOf stepRecords script) (s .each)
 
-pub is-vector : (n : ℕ) (l : List ℕ) → NoneWrong (vectorReasons n l) → Vector n l
-is-vector n l none = check-accepts n l _ (judged-right (vectorReasons n l) (checkVector n l) _ (by-vector n l) none)
+pub is-vector : (n : ℕ) (l : List ℕ) → NoneWrong (vectorFaults n l) → Vector n l
+is-vector n l none = check-accepts n l _ (judged-right (vectorFaults n l) (checkVector n l) _ (by-vector n l) none)
 
 -- ---- of which nothing is wrong
 
 -- the bits of a function are a vector
-pub bits-fine : (n : ℕ) (f : ℕ → ℕ) → n ≤ vectorVariables → ((t : ℕ) → f t < 2) → NoneWrong (vectorReasons n (listBelow (2 ^ n) f))
-unfolding vectorReasons
+pub bits-fine : (n : ℕ) (f : ℕ → ℕ) → n ≤ vectorVariables → ((t : ℕ) → f t < 2) → NoneWrong (vectorFaults n (listBelow (2 ^ n) f))
+unfolding vectorFaults
 bits-fine n f few small = (
   (λ q w. omega (arith, w .1)),
   (
@@ -79,11 +79,11 @@ bits-fine n f few small = (
 -- nothing is wrong of a second transform under the same polarity, into a buffer with room
 module _ (n p : ℕ) (f : ℕ → ℕ) (few : n ≤ vectorVariables) (low : p < 2 ^ n) (small : (t : ℕ) → f t < 2) (l room : List ℕ)
     (is : l ≡ listBelow (2 ^ n) f) (long : 2 ^ n ≤ length room) where
-  pub second-fine : NoneWrong (reasons (call.coefficients n l p room))
-  unfolding reasons
+  pub second-fine : NoneWrong (faults (call.coefficients n l p room))
+  unfolding faults
   second-fine =
-      subst (λ (v : List ℕ). NoneWrong (reasons (call.coefficients n v p room))) (sym is)
-      (none-both (vectorReasons n (listBelow (2 ^ n) f)) _ (bits-fine n f few small) ((λ q w. omega (arith, w .1)), ((λ q w. omega (arith, w .1)), tt)))
+      subst (λ (v : List ℕ). NoneWrong (faults (call.coefficients n v p room))) (sym is)
+      (none-both (vectorFaults n (listBelow (2 ^ n) f)) _ (bits-fine n f few small) ((λ q w. omega (arith, w .1)), ((λ q w. omega (arith, w .1)), tt)))
 
 -- the cubes of a list's bytes are the list
 flat-holds : (l : List Cube) → Holds cubes (flat (cubes .enc) l) l
@@ -101,8 +101,8 @@ flat-back l =
 
 -- nothing is wrong of the value of a list of good cubes
 pub list-fine : (n a : ℕ) (l : List Cube) → n ≤ vectorVariables → a < 2 ^ n → length l ≤ mostRecords → All (Good n) l
-    → NoneWrong (reasons (call.value n (flat (cubes .enc) l) a))
-unfolding reasons listReasons recordReasons
+    → NoneWrong (faults (call.value n (flat (cubes .enc) l) a))
+unfolding faults atFaults listFaults recordFaults
 list-fine n a l few h short g =
     let long : length (flat (cubes .enc) l) ≡ recordWidth * length l = length-flat (cubes .enc) recordWidth (lawful .len) l in (
       (λ q w. omega (arith, w .1)),

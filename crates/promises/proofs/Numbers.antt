@@ -1,42 +1,47 @@
--- The numbers of the reasons that each call tests before the first step.
+-- The numbers of the faults that each call tests before the first step.
 -- Assumes nothing.
 use mathlib.Core.Path.{refl}
 use mathlib.Core.List.{List}
 use Prim.Native.Nat.{ℕ}
 use Rattle.records.specs.Records.{Codec}
 use Rattle.cube.specs.declared.Cube.{Cube}
-use Rattle.promises.specs.Calls.{Call, check, value, truthVector, coefficients, vectorBack, writeForm, bestPolarity, run, settle, wideFromNarrow, narrowFromWide}
-use Rattle.promises.specs.Refusals.{recordReasons, listReasons, scriptReasons, vectorReasons, reasons}
+use Rattle.promises.specs.Calls.{Call, check, value, reasons, truthVector, coefficients, vectorBack, writeForm, bestPolarity, run, settle, wideFromNarrow, narrowFromWide}
+use Rattle.promises.specs.Refusals.{recordFaults, listFaults, atFaults, scriptFaults, vectorFaults, faults}
 use Rattle.promises.proofs.Chains.{Numbered, numbered-both}
 
-records-numbered : (C : Codec Cube) (n : ℕ) (list : List ℕ) → Numbered (recordReasons C n list)
-unfolding recordReasons
+records-numbered : (C : Codec Cube) (n : ℕ) (list : List ℕ) → Numbered (recordFaults C n list)
+unfolding recordFaults
 records-numbered C n list = (refl, (refl, (refl, tt)))
 
-list-numbered : (C : Codec Cube) (limit n : ℕ) (list : List ℕ) → Numbered (listReasons C limit n list)
-unfolding listReasons
+list-numbered : (C : Codec Cube) (limit n : ℕ) (list : List ℕ) → Numbered (listFaults C limit n list)
+unfolding listFaults
 list-numbered C limit n list = (refl, records-numbered C n list)
 
-script-numbered : (n : ℕ) (script : List ℕ) → Numbered (scriptReasons n script)
-unfolding scriptReasons
+at-numbered : (n : ℕ) (list : List ℕ) (a : ℕ) → Numbered (atFaults n list a)
+unfolding atFaults
+at-numbered n list a = numbered-both (listFaults _ _ n list) _ (list-numbered _ _ n list) (refl, tt)
+
+script-numbered : (n : ℕ) (script : List ℕ) → Numbered (scriptFaults n script)
+unfolding scriptFaults
 script-numbered n script = (refl, (refl, (refl, tt)))
 
-vector-numbered : (n : ℕ) (vector : List ℕ) → Numbered (vectorReasons n vector)
-unfolding vectorReasons
+vector-numbered : (n : ℕ) (vector : List ℕ) → Numbered (vectorFaults n vector)
+unfolding vectorFaults
 vector-numbered n vector = (refl, (refl, (refl, tt)))
 
-pub numbered : (c : Call) → Numbered (reasons c)
-unfolding reasons
+pub numbered : (c : Call) → Numbered (faults c)
+unfolding faults
 numbered (check n list) = list-numbered _ _ n list
-numbered (value n list a) = numbered-both (listReasons _ _ n list) _ (list-numbered _ _ n list) (refl, tt)
-numbered (truthVector n list out) = numbered-both (listReasons _ _ n list) _ (list-numbered _ _ n list) (refl, tt)
-numbered (coefficients n vector p out) = numbered-both (vectorReasons n vector) _ (vector-numbered n vector) (refl, (refl, tt))
-numbered (vectorBack n vector p out) = numbered-both (vectorReasons n vector) _ (vector-numbered n vector) (refl, (refl, tt))
-numbered (writeForm n vector p out) = numbered-both (vectorReasons n vector) _ (vector-numbered n vector) (refl, (refl, tt))
+numbered (value n list a) = at-numbered n list a
+numbered (reasons n list a out) = numbered-both (atFaults n list a) _ (at-numbered n list a) (refl, tt)
+numbered (truthVector n list out) = numbered-both (listFaults _ _ n list) _ (list-numbered _ _ n list) (refl, tt)
+numbered (coefficients n vector p out) = numbered-both (vectorFaults n vector) _ (vector-numbered n vector) (refl, (refl, tt))
+numbered (vectorBack n vector p out) = numbered-both (vectorFaults n vector) _ (vector-numbered n vector) (refl, (refl, tt))
+numbered (writeForm n vector p out) = numbered-both (vectorFaults n vector) _ (vector-numbered n vector) (refl, (refl, tt))
 numbered (bestPolarity n vector) = vector-numbered n vector
-numbered (run n list script work) = numbered-both (listReasons _ _ n list) _ (list-numbered _ _ n list) (refl, script-numbered n script)
+numbered (run n list script work) = numbered-both (listFaults _ _ n list) _ (list-numbered _ _ n list) (refl, script-numbered n script)
 numbered (settle n list script work out) =
-    numbered-both (listReasons _ _ n list) _ (list-numbered _ _ n list) (refl, (refl, script-numbered n script))
-numbered (wideFromNarrow n list out) = numbered-both (listReasons _ _ n list) _ (list-numbered _ _ n list) (refl, tt)
+    numbered-both (listFaults _ _ n list) _ (list-numbered _ _ n list) (refl, (refl, script-numbered n script))
+numbered (wideFromNarrow n list out) = numbered-both (listFaults _ _ n list) _ (list-numbered _ _ n list) (refl, tt)
 numbered (narrowFromWide n list out) =
-    (refl, (refl, numbered-both (recordReasons _ n list) _ (records-numbered _ n list) (refl, tt)))
+    (refl, (refl, numbered-both (recordFaults _ n list) _ (records-numbered _ n list) (refl, tt)))

@@ -1,15 +1,18 @@
 -- What each call answers and leaves where nothing before the first step is wrong. Document 01, "Refusal numbers and places": "Accepted, a check answers
 -- the record count; value, the bit; truth vector and coefficients, either way, 2^n; writing a form, its count; best polarity, p and the size; run, count
--- and peak; settle, the counts that the program prints." The converters answer the count.
+-- and peak; settle, the counts that the program prints." With document 02, One: value answers "the number of true products" too, and reasons "their number and the
+-- bit". The converters answer the count.
 -- Assumes nothing.
 use mathlib.Core.Path.{_≡_}
 use mathlib.Core.List.{List, [], _∷_, _++_}
 use Prim.Native.Nat.{ℕ, _^_}
 use lib.ListN.{length, drop}
 use Rattle.records.specs.Records.{written, zeros}
+use Rattle.records.specs.Places.{places}
 use Rattle.records.specs.Answers.{Outcome, accepted}
 use Rattle.cube.specs.declared.Cube.{Cube}
-use Rattle.cube.specs.Lists.{cubes, cubesOf, listValue, truthVector}
+use Rattle.cube.specs.Lists.{cubes, cubesOf, trues, listValue, truthVector}
+use Rattle.reasons.specs.Calls.{truePlaces}
 use Rattle.converters.specs.NarrowRecord.{narrowCubes, narrowCubesOf}
 use Rattle.polarity.specs.Forms.{formFrom, size, bestPolarity}
 use Rattle.polarity.specs.Vectors.{byteAt, coefficientVector, vectorBack}
@@ -23,7 +26,8 @@ use Rattle.promises.specs.Refusals.{StepStops}
 
 unfoldable pub goesOn : Call → Outcome
 goesOn (call.check n list) = accepted (length (cubesOf list) ∷ [])
-goesOn (call.value n list a) = accepted (listValue n (cubesOf list) a ∷ [])
+goesOn (call.value n list a) = accepted (listValue n (cubesOf list) a ∷ trues n (cubesOf list) a ∷ [])
+goesOn (call.reasons n list a out) = accepted (length (truePlaces n (cubesOf list) a) ∷ listValue n (cubesOf list) a ∷ [])
 goesOn (call.truthVector n list out) = accepted (2 ^ n ∷ [])
 goesOn (call.coefficients n vector p out) = accepted (2 ^ n ∷ [])
 goesOn (call.vectorBack n vector p out) = accepted (2 ^ n ∷ [])
@@ -38,6 +42,7 @@ goesOn (call.narrowFromWide n list out) = accepted (length (cubesOf list) ∷ []
 unfoldable pub goesOnLeaving : Call → List (List ℕ)
 goesOnLeaving (call.check n list) = []
 goesOnLeaving (call.value n list a) = []
+goesOnLeaving (call.reasons n list a out) = written places 0 (truePlaces n (cubesOf list) a) out ∷ []
 goesOnLeaving (call.truthVector n list out) = (truthVector n (cubesOf list) ++ drop (2 ^ n) out) ∷ []
 goesOnLeaving (call.coefficients n vector p out) = (coefficientVector n p vector ++ drop (2 ^ n) out) ∷ []
 goesOnLeaving (call.vectorBack n vector p out) = (vectorBack n p vector ++ drop (2 ^ n) out) ∷ []
@@ -63,6 +68,7 @@ pub data ScriptStops (why : StepRefusal) (k : ℕ) : Call → Type 0 where
 unfoldable pub ScriptEnds : Call → Type 0
 ScriptEnds (call.check n list) = Unit {0}
 ScriptEnds (call.value n list a) = Unit {0}
+ScriptEnds (call.reasons n list a out) = Unit {0}
 ScriptEnds (call.truthVector n list out) = Unit {0}
 ScriptEnds (call.coefficients n vector p out) = Unit {0}
 ScriptEnds (call.vectorBack n vector p out) = Unit {0}

@@ -7,6 +7,7 @@ use lib.ListN.{length}
 use Rattle.records.specs.Answers.{Outcome}
 use Rattle.cube.specs.Lists.{mostVariables}
 use Rattle.cube.specs.Calls.{checkList, valueOutcome, vectorOutcome, vectorAfter}
+use Rattle.reasons.specs.Calls.{reasonsOutcome, reasonsAfter}
 use Rattle.converters.specs.Calls.{wideOutcome, wideAfter, narrowOutcome, narrowAfter}
 use Rattle.polarity.specs.Calls.{coefficientsOutcome, coefficientsAfter, backAfter, formOutcome, formAfter, bestOutcome}
 use Rattle.script.specs.Calls.{runOutcome, runAfter}
@@ -19,6 +20,8 @@ pub data Call : Type 0 where
   check : ℕ → List ℕ → Call
   -- "Value": n, the list, the assignment
   value : ℕ → List ℕ → ℕ → Call
+  -- "Write the places of all products true there" (document 02, One): n, the list, the assignment, out
+  reasons : ℕ → List ℕ → ℕ → List ℕ → Call
   -- "Truth vector of a list": n, the list, out
   truthVector : ℕ → List ℕ → List ℕ → Call
   -- "Coefficients, and back": n, the vector or the coefficients, the polarity, out
@@ -40,6 +43,7 @@ pub data Call : Type 0 where
 unfoldable pub answers : Call → Outcome
 answers (check n list) = checkList mostVariables n list
 answers (value n list a) = valueOutcome n list a
+answers (reasons n list a out) = reasonsOutcome n list a (length out)
 answers (truthVector n list out) = vectorOutcome n list (length out)
 answers (coefficients n vector p out) = coefficientsOutcome n vector p (length out)
 answers (vectorBack n vector p out) = coefficientsOutcome n vector p (length out)
@@ -54,6 +58,7 @@ answers (narrowFromWide n list out) = narrowOutcome n list (length out)
 unfoldable pub lent : Call → List (List ℕ)
 lent (check n list) = []
 lent (value n list a) = []
+lent (reasons n list a out) = out ∷ []
 lent (truthVector n list out) = out ∷ []
 lent (coefficients n vector p out) = out ∷ []
 lent (vectorBack n vector p out) = out ∷ []
@@ -68,6 +73,7 @@ lent (narrowFromWide n list out) = out ∷ []
 unfoldable pub leaves : Call → List (List ℕ)
 leaves (check n list) = []
 leaves (value n list a) = []
+leaves (reasons n list a out) = reasonsAfter n list a out ∷ []
 leaves (truthVector n list out) = vectorAfter n list out ∷ []
 leaves (coefficients n vector p out) = coefficientsAfter n vector p out ∷ []
 leaves (vectorBack n vector p out) = backAfter n vector p out ∷ []
@@ -87,6 +93,7 @@ pub record Called (c : Call) (o : Outcome) (buffers : List (List ℕ)) : Type 0 
 unfoldable pub wordsOf : Call → Outcome → List ℕ
 wordsOf (check n list) o = words o
 wordsOf (value n list a) o = words o
+wordsOf (reasons n list a out) o = words o
 wordsOf (truthVector n list out) o = words o
 wordsOf (coefficients n vector p out) o = words o
 wordsOf (vectorBack n vector p out) o = words o

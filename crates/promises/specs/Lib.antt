@@ -3,5 +3,6 @@ pub mod Contracts
 pub mod Refusals
 pub mod Accepted
 pub mod Burned
+pub mod Reasons
 pub mod Faced
 pub mod Marked

@@ -11,6 +11,7 @@ use lib.Dec.{eqb, leb}
 use lib.ListN.{length, getD}
 use Rattle.records.specs.declared.Refusal.{Refusal}
 use Rattle.records.specs.Records.{Codec, listOf, zeros}
+use Rattle.records.specs.Places.{placeWidth}
 use Rattle.cube.specs.declared.Cube.{Cube}
 use Rattle.cube.specs.Cubes.{good, one}
 use Rattle.cube.specs.Lists.{mostVariables, vectorVariables, mostRecords, recordWidth, cubes, cubesOf, cubeCapacity}
@@ -23,9 +24,9 @@ use Rattle.steps.specs.Effects.{StepRefused, byStep, thirdAnswer}
 use Rattle.script.specs.Run.{Refused}
 use Rattle.script.specs.Scripts.{stepRecords, stepWidth, mostSteps, fits, stepsOf}
 use Rattle.script.specs.Calls.{ofStep}
-use Rattle.promises.specs.Calls.{Call, check, value, truthVector, coefficients, vectorBack, writeForm, bestPolarity, run, settle, wideFromNarrow, narrowFromWide, lent}
+use Rattle.promises.specs.Calls.{Call, check, value, reasons, truthVector, coefficients, vectorBack, writeForm, bestPolarity, run, settle, wideFromNarrow, narrowFromWide, lent}
 
--- ---- a reason to refuse
+-- ---- a fault
 
 -- "the lowest record that breaks the rule": the test fails at this place, and at none below it
 pub record Lowest {A : Type 0} (test : A → Bool) (d : A) (l : List A) (place : ℕ) : Type 0 where
@@ -34,91 +35,97 @@ pub record Lowest {A : Type 0} (test : A → Bool) (d : A) (l : List A) (place :
   pub passed : (i : ℕ) → i < place → test (getD l i d) ≡ true
 
 -- a row of document 01's table for some input: its number; "when", and the place, or the test that a list's elements have to pass
-pub data Reason : Type 1 where
-  at : ℕ → ℕ → Type 0 → Reason
-  lowest : {A : Type 0} → ℕ → (A → Bool) → A → List A → Reason
+pub data Fault : Type 1 where
+  at : ℕ → ℕ → Type 0 → Fault
+  lowest : {A : Type 0} → ℕ → (A → Bool) → A → List A → Fault
 
-abbrev pub reasonNumber : Reason → ℕ
-reasonNumber (at number place when) = number
-reasonNumber (lowest number test d l) = number
+abbrev pub faultNumber : Fault → ℕ
+faultNumber (at number place when) = number
+faultNumber (lowest number test d l) = number
 
--- the reason is there, at this place
-abbrev pub Wrong : Reason → ℕ → Type 0
+-- the fault is there, at this place
+abbrev pub Wrong : Fault → ℕ → Type 0
 Wrong (at number place when) q = (q ≡ place) × when
 Wrong (lowest number test d l) q = Lowest test d l q
 
 -- none of them is there
-abbrev pub NoneWrong : List Reason → Type 0
+abbrev pub NoneWrong : List Fault → Type 0
 NoneWrong [] = Unit {0}
 NoneWrong (x ∷ xs) = ((q : ℕ) → Wrong x q → ⊥) × NoneWrong xs
 
 -- the first of them that is there has this number, and is at this place
-abbrev pub FirstWrong : List Reason → ℕ → ℕ → Type 0
+abbrev pub FirstWrong : List Fault → ℕ → ℕ → Type 0
 FirstWrong [] number place = ⊥
-FirstWrong (x ∷ xs) number place = ((number ≡ reasonNumber x) × Wrong x place) ⊎ (((q : ℕ) → Wrong x q → ⊥) × FirstWrong xs number place)
+FirstWrong (x ∷ xs) number place = ((number ≡ faultNumber x) × Wrong x place) ⊎ (((q : ℕ) → Wrong x q → ⊥) × FirstWrong xs number place)
 
 -- ---- the order of each call
 
 -- 2 to 4, of a list of this kind of record
-unfoldable pub recordReasons : Codec Cube → ℕ → List ℕ → List Reason
-recordReasons C n list =
+unfoldable pub recordFaults : Codec Cube → ℕ → List ℕ → List Fault
+recordFaults C n list =
     at 2 0 (length list % C .width ≢ 0)
     ∷ at 3 0 (mostRecords < length list / C .width)
     ∷ lowest 4 (good n) one (listOf C list)
     ∷ []
 
 -- "Checking a list: 1 to 4", for a call that takes up to `limit` variables
-unfoldable pub listReasons : Codec Cube → ℕ → ℕ → List ℕ → List Reason
-listReasons C limit n list = at 1 0 (limit < n) ∷ recordReasons C n list
+unfoldable pub listFaults : Codec Cube → ℕ → ℕ → List ℕ → List Fault
+listFaults C limit n list = at 1 0 (limit < n) ∷ recordFaults C n list
+
+-- "1 to 4, 6": "assignment has a bit at or above n"
+unfoldable pub atFaults : ℕ → List ℕ → ℕ → List Fault
+atFaults n list a = listFaults cubes mostVariables n list ++ (at 6 0 (2 ^ n ≤ a) ∷ [])
 
 -- "7, 8, 9"
-unfoldable pub scriptReasons : ℕ → List ℕ → List Reason
-scriptReasons n script =
+unfoldable pub scriptFaults : ℕ → List ℕ → List Fault
+scriptFaults n script =
     at 7 0 (length script % stepWidth ≢ 0)
     ∷ at 8 0 (mostSteps < length script / stepWidth)
     ∷ lowest 9 (fits n) (stepRecords .none) (listOf stepRecords script)
     ∷ []
 
 -- "1, 14": "vector or coefficient length not 2^n (place 2^n), else a byte above 1", "lowest such byte"
-unfoldable pub vectorReasons : ℕ → List ℕ → List Reason
-vectorReasons n vector =
+unfoldable pub vectorFaults : ℕ → List ℕ → List Fault
+vectorFaults n vector =
     at 1 0 (vectorVariables < n)
     ∷ at 14 (2 ^ n) (length vector ≢ 2 ^ n)
     ∷ lowest 14 isBit 0 vector
     ∷ []
 
-unfoldable pub reasons : Call → List Reason
+unfoldable pub faults : Call → List Fault
 -- "Checking a list: 1 to 4"
-reasons (check n list) = listReasons cubes mostVariables n list
--- "Value: 1 to 4, 6": "assignment has a bit at or above n"
-reasons (value n list a) = listReasons cubes mostVariables n list ++ (at 6 0 (2 ^ n ≤ a) ∷ [])
+faults (check n list) = listFaults cubes mostVariables n list
+-- "Value: 1 to 4, 6"
+faults (value n list a) = atFaults n list a
+-- "Refusals: those of the value call, then 5 for a buffer shorter than 2 bytes a record" (document 02, One)
+faults (reasons n list a out) = atFaults n list a ++ (at 5 0 (length out < placeWidth * length (cubesOf list)) ∷ [])
 -- "Truth vector of a list: 1 to 4, 5 (2^n bytes)"
-reasons (truthVector n list out) = listReasons cubes vectorVariables n list ++ (at 5 0 (length out < 2 ^ n) ∷ [])
+faults (truthVector n list out) = listFaults cubes vectorVariables n list ++ (at 5 0 (length out < 2 ^ n) ∷ [])
 -- "Coefficients, and back: 1, 14, 15, 5": "polarity has a bit at or above n"
-reasons (coefficients n vector p out) = vectorReasons n vector ++ (at 15 0 (2 ^ n ≤ p) ∷ at 5 0 (length out < 2 ^ n) ∷ [])
-reasons (vectorBack n vector p out) = vectorReasons n vector ++ (at 15 0 (2 ^ n ≤ p) ∷ at 5 0 (length out < 2 ^ n) ∷ [])
+faults (coefficients n vector p out) = vectorFaults n vector ++ (at 15 0 (2 ^ n ≤ p) ∷ at 5 0 (length out < 2 ^ n) ∷ [])
+faults (vectorBack n vector p out) = vectorFaults n vector ++ (at 15 0 (2 ^ n ≤ p) ∷ at 5 0 (length out < 2 ^ n) ∷ [])
 -- "Writing a form's list from its coefficients: 1, 14, 15, 5 (capacity at least its count)"
-reasons (writeForm n vector p out) =
-    vectorReasons n vector ++ (at 15 0 (2 ^ n ≤ p) ∷ at 5 0 (cubeCapacity (length out) < length (formFrom n p (byteAt vector))) ∷ [])
+faults (writeForm n vector p out) =
+    vectorFaults n vector ++ (at 15 0 (2 ^ n ≤ p) ∷ at 5 0 (cubeCapacity (length out) < length (formFrom n p (byteAt vector))) ∷ [])
 -- "Best polarity of a truth vector: 1, 14"
-reasons (bestPolarity n vector) = vectorReasons n vector
+faults (bestPolarity n vector) = vectorFaults n vector
 -- "Run: 1 to 5, 7, 8, 9, then steps in turn": "the work capacity must be at least the given count"
-reasons (run n list script work) =
-    listReasons cubes mostVariables n list ++ (at 5 0 (cubeCapacity (length work) < length (cubesOf list)) ∷ scriptReasons n script)
+faults (run n list script work) =
+    listFaults cubes mostVariables n list ++ (at 5 0 (cubeCapacity (length work) < length (cubesOf list)) ∷ scriptFaults n script)
 -- "Settle: the same; 5 tests work, then output, against the given count"
-reasons (settle n list script work out) =
-    listReasons cubes mostVariables n list
+faults (settle n list script work out) =
+    listFaults cubes mostVariables n list
     ++ (at 5 0 (cubeCapacity (length work) < length (cubesOf list))
     ∷ at 5 0 (cubeCapacity (length out) < length (cubesOf list))
-    ∷ scriptReasons n script)
+    ∷ scriptFaults n script)
 -- Wide from narrow: 1 to 4 of an old list, and "5, last, for an output too short" (document 02, Seven): 8 bytes a record
-reasons (wideFromNarrow n list out) =
-    listReasons narrowCubes narrowVariables n list ++ (at 5 0 (length out < recordWidth * length (narrowCubesOf list)) ∷ [])
+faults (wideFromNarrow n list out) =
+    listFaults narrowCubes narrowVariables n list ++ (at 5 0 (length out < recordWidth * length (narrowCubesOf list)) ∷ [])
 -- "narrow from wide gives 20 for n above 16, after 1 and before 2" (document 02, Seven); 5 by 4 bytes a record
-reasons (narrowFromWide n list out) =
+faults (narrowFromWide n list out) =
     at 1 0 (mostVariables < n)
     ∷ at 20 0 (narrowVariables < n)
-    ∷ (recordReasons cubes n list ++ (at 5 0 (length out < narrowWidth * length (cubesOf list)) ∷ []))
+    ∷ (recordFaults cubes n list ++ (at 5 0 (length out < narrowWidth * length (cubesOf list)) ∷ []))
 
 -- ---- a refused call
 
@@ -128,7 +135,7 @@ beforeSteps number = (leb 1 number && leb number 9) || (eqb number 14 || (eqb nu
 
 -- found before the first step: the first in order that is wrong; "A refusal found before the first step writes nothing", and "the third answer is 0"
 pub record RefusedBefore (r : Refusal) (buffers : List (List ℕ)) (c : Call) : Type 0 where
-  pub wrong : FirstWrong (reasons c) (r .number) (r .place)
+  pub wrong : FirstWrong (faults c) (r .number) (r .place)
   pub number : beforeSteps (r .number) ≡ true
   pub third : r .differing ≡ 0
   pub nothing-written : buffers ≡ lent c
@@ -148,7 +155,7 @@ pub record Stopped (n : ℕ) (list script work : List ℕ) (r : Refusal) : Type 
 
 -- found at a step, where nothing before the steps was wrong: "leaves every byte of the work buffer zero and the output untouched"
 pub data RefusedAtStep (r : Refusal) (buffers : List (List ℕ)) : Call → Type 0 where
-  in-run : (n : ℕ) (list script work : List ℕ) → NoneWrong (reasons (run n list script work)) → Stopped n list script work r
+  in-run : (n : ℕ) (list script work : List ℕ) → NoneWrong (faults (run n list script work)) → Stopped n list script work r
       → buffers ≡ zeros (length work) ∷ [] → RefusedAtStep r buffers (run n list script work)
-  in-settle : (n : ℕ) (list script work out : List ℕ) → NoneWrong (reasons (settle n list script work out)) → Stopped n list script work r
+  in-settle : (n : ℕ) (list script work out : List ℕ) → NoneWrong (faults (settle n list script work out)) → Stopped n list script work r
       → buffers ≡ zeros (length work) ∷ out ∷ [] → RefusedAtStep r buffers (settle n list script work out)

@@ -82,6 +82,14 @@ after-refused o new old r e = ap (λ (x : Outcome). afterCall x new old) e
 pub after-accepted : (o : Outcome) (new old v : List ℕ) → o ≡ accepted v → afterCall o new old ≡ new
 after-accepted o new old v e = ap (λ (x : Outcome). afterCall x new old) e
 
+-- ---- a call that leaves `new` where it is accepted, and the buffer as it was where it is refused
+
+pub call-refused : (o : Outcome) (new out : List ℕ) (r : Refusal) → o ≡ refused r → (refused r ≡ o) × (out ≡ afterCall o new out)
+call-refused o new out r e = (sym e, sym (after-refused o new out r e))
+
+pub call-accepted : (o : Outcome) (new out v out′ : List ℕ) → o ≡ accepted v → out′ ≡ new → (accepted v ≡ o) × (out′ ≡ afterCall o new out)
+call-accepted o new out v out′ e f = (sym e, f ∙ sym (after-accepted o new out v e))
+
 -- ---- the answer read back
 
 pub counted-back : Outcome → Counted

@@ -3,9 +3,11 @@ pub mod Filling
 pub mod Images
 pub mod Records
 pub mod Fields
+pub mod Places
 pub mod Looking
 pub mod Striding
 pub mod Counting
+pub mod Picking
 pub mod Answers
 pub mod Checks
 pub mod Determined

@@ -8,7 +8,7 @@ use native.Mathlib.Omega.{arith}
 use mathlib.Core.List.{List, [], _∷_, _++_, append-assoc, append-nil}
 use lib.Dec.{ltb}
 use lib.ListN.{length, take, drop, getD, set, replicate, length-append, length-replicate, length-drop, List·getD-eq-default}
-use lib.Seq.{sets, length-sets, sets-eq, drop-drop}
+use lib.Seq.{sets, length-sets, sets-eq, drop-drop, drop-at}
 use borrow.Author.Tests.{lt-ltb, le-ltb}
 use borrow.Rule.Slice.PartMut.{putMid}
 use Rattle.bits.proofs.Below.{length-listBelow, getD-listBelow, is-listBelow}
@@ -226,3 +226,24 @@ module _ {A : Type 0} (C : Codec A) (K : Lawful C) where
   pub written-front : (b : List ℕ) (l : List A) → C .width * length l ≤ length b
       → written C 0 l b ≡ flat (C .enc) l ++ drop (C .width * length l) b
   written-front b l h = written-past [] b 0 l (sym (mul-zero (C .width))) h
+
+  -- every byte after the list is as it was
+  pub written-rest : (b : List ℕ) (l : List A) → C .width * length l ≤ length b → drop (C .width * length l) (written C 0 l b) ≡ drop (C .width * length l) b
+  written-rest b l h =
+      ap (drop (C .width * length l)) (written-front b l h)
+      ∙ drop-at (flat (C .enc) l) (drop (C .width * length l) b) (C .width * length l) (length-flat (C .enc) (C .width) (K .len) l)
+
+  -- what was written is read back, where a record within a front of bytes is read the same whatever comes after
+  module _ (front : (s t : List ℕ) (i : ℕ) → i < length s / C .width → C .read (s ++ t) i ≡ C .read s i)
+      (b : List ℕ) (l : List A) (h : C .width * length l ≤ length b) where
+    pub written-read : (i : ℕ) → i < length l → C .read (written C 0 l b) i ≡ getD l i (C .none)
+    written-read i hi =
+        let s : List ℕ = flat (C .enc) l in
+        let here : i < length s / C .width =
+        subst (λ (m : ℕ). i < m) (sym (ap length (list-flat C K l)) ∙ length-list C s) hi in
+        ap (λ (x : List ℕ). C .read x i) (written-front b l h)
+        ∙ front s (drop (C .width * length l) b) i here ∙ sym (list-at C s i (C .none) here) ∙ ap (λ (m : List A). getD m i (C .none)) (list-flat C K l)
+
+    pub written-records : records C (length l) (written C 0 l b) ≡ l
+    unfolding records
+    written-records = sym (is-listBelow (C .none) l (length l) (C .read (written C 0 l b)) refl (λ i hi. sym (written-read i hi)))

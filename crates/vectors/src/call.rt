@@ -36,6 +36,11 @@ fn value(n: usize, list: &[u8], a: usize) {
     print::valued(value::value(n, list, a as u64));
 }
 
+fn reasons(n: usize, list: &[u8], a: usize, out: &mut [u8]) {
+    print::reasoned(reasons::reasons(n, list, a as u64, out));
+    print::bytes(out);
+}
+
 fn vector(n: usize, list: &[u8], out: &mut [u8]) {
     print::counted(value::truth_vector(n, list, out));
     print::bytes(out);
@@ -53,6 +58,10 @@ fn on_list(name: usize, h: Head, list: &[u8], script: &[u8], out: &mut [u8]) {
     }
     if name == head::VALUE {
         value(h.n, list, h.given);
+        return;
+    }
+    if name == head::REASONS {
+        reasons(h.n, list, h.given, out);
         return;
     }
     if name == head::VECTOR {

@@ -8,23 +8,25 @@ pub(crate) const CHECK: usize = 1;
 
 pub(crate) const VALUE: usize = 2;
 
-pub(crate) const VECTOR: usize = 3;
+pub(crate) const REASONS: usize = 3;
 
-pub(crate) const RUN: usize = 4;
+pub(crate) const VECTOR: usize = 4;
 
-pub(crate) const WIDE: usize = 5;
+pub(crate) const RUN: usize = 5;
 
-pub(crate) const NARROW: usize = 6;
+pub(crate) const WIDE: usize = 6;
 
-pub(crate) const TEST: usize = 7;
+pub(crate) const NARROW: usize = 7;
 
-pub(crate) const BEST: usize = 8;
+pub(crate) const TEST: usize = 8;
 
-pub(crate) const FORM: usize = 9;
+pub(crate) const BEST: usize = 9;
 
-pub(crate) const COEFFICIENTS: usize = 10;
+pub(crate) const FORM: usize = 10;
 
-pub(crate) const BACK: usize = 11;
+pub(crate) const COEFFICIENTS: usize = 11;
+
+pub(crate) const BACK: usize = 12;
 
 // A number and the place after it; 0 and the same place where there is none.
 pub(crate) struct Numeral {
@@ -48,11 +50,18 @@ fn either(row: &[u8], a: &[u8], x: usize, b: &[u8], y: usize) -> ReadNumber {
     }
 }
 
+fn name_by_r(row: &[u8], first: u8) -> ReadNumber {
+    if first == b'r' {
+        return either(row, b"run ", RUN, b"reasons ", REASONS);
+    }
+    place::word_at(row, 0, b"test ", TEST)
+}
+
 fn name_by_b(row: &[u8], first: u8) -> ReadNumber {
     if first == b'b' {
         return either(row, b"best ", BEST, b"back ", BACK);
     }
-    either(row, b"run ", RUN, b"test ", TEST)
+    name_by_r(row, first)
 }
 
 fn name_by_w(row: &[u8], first: u8) -> ReadNumber {

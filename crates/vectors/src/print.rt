@@ -5,6 +5,7 @@ use cube::Valued;
 use cube::list;
 use libc::STDOUT_FILENO;
 use polarity::Best;
+use reasons::Reasoned;
 use records::Counted;
 use records::Refusal;
 use script::Finished;
@@ -50,12 +51,27 @@ pub(crate) fn counted(answer: Counted) {
     }
 }
 
+// The bit, and how many products are true.
 pub(crate) fn valued(answer: Valued) {
     match answer {
-        Valued::Bit(b) => {
+        Valued::Bit(b, trues) => {
             number(b"= ", b as usize);
+            number(b" trues ", trues);
         }
         Valued::Refused(r) => {
+            refused(r);
+        }
+    }
+}
+
+// How many products are true, and the bit.
+pub(crate) fn reasoned(answer: Reasoned) {
+    match answer {
+        Reasoned::Shown(trues, b) => {
+            number(b"= ", trues);
+            number(b" bit ", b as usize);
+        }
+        Reasoned::Refused(r) => {
             refused(r);
         }
     }

@@ -1,32 +1,41 @@
--- The value call and the truth vector by cases: what each of their returns answers and leaves.
+-- The check of a list and an assignment, the value call and the truth vector by cases: what each of their returns answers and leaves.
 -- Assumes nothing.
 use mathlib.Core.Path.{_≡_, sym, ap, _∙_}
 use mathlib.Core.List.{List, [], _∷_, _++_}
 use Prim.Native.Nat.{ℕ, _%_, _^_, _≤_, _<_}
 use native.Mathlib.Omega.{arith}
 use lib.ListN.{length, drop}
-use borrow.Author.Tests.{lt-ltb, le-ltb, le-leb, lt-leb}
+use borrow.Author.Tests.{le-ltb, le-leb, lt-leb}
 use Rattle.records.specs.declared.Refusal.{Refusal}
 use Rattle.records.specs.Answers.{Outcome, accepted, refused, refusal}
 use Rattle.records.proofs.Answers.{and-then, and-not, after-accepted, after-refused}
-use Rattle.cube.specs.Lists.{cubesOf, trues, listValue, truthVector, mostVariables, vectorVariables}
-use Rattle.cube.specs.Calls.{checkList, valueOutcome, vectorOutcome, vectorAfter}
+use Rattle.cube.specs.Lists.{cubes, cubesOf, trues, listValue, truthVector, mostVariables, vectorVariables}
+use Rattle.cube.specs.Calls.{checkList, checkAt, valueOutcome, vectorOutcome, vectorAfter}
+use Rattle.cube.proofs.Lists.{check-accepts, count-is}
+use Rattle.cube.proofs.Calls.{accepts-at}
 
--- ---- value
+-- ---- a list and an assignment
 
 module _ (n : ℕ) (b : List ℕ) (a : ℕ) where
-  pub value-refused : (r : Refusal) → checkList mostVariables n b ≡ refused r → refused r ≡ valueOutcome n b a
+  module _ (count : ℕ) (e : checkList mostVariables n b ≡ accepted (count ∷ [])) where
+    pub at-far : (r : Refusal) → r ≡ refusal 6 0 → 2 ^ n ≤ a → refused r ≡ checkAt n b a
+    unfolding checkAt
+    at-far r er h = ap refused er ∙ sym (and-then _ _ _ e ∙ simp (le-ltb _ _ h))
+
+    pub at-count : a < 2 ^ n → accepted (count ∷ []) ≡ checkAt n b a
+    at-count h =
+        ap (λ (k : ℕ). accepted (k ∷ [])) (count-is cubes mostVariables n b count e)
+        ∙ sym (accepts-at n b a (record { list = check-accepts cubes mostVariables n b _ e; below = h }))
+
+  -- ---- value
+
+  pub value-refused : (r : Refusal) → checkAt n b a ≡ refused r → refused r ≡ valueOutcome n b a
   unfolding valueOutcome
   value-refused r e = sym (and-not _ _ r e)
 
-  module _ (v : List ℕ) (e : checkList mostVariables n b ≡ accepted v) where
-    pub value-far : (r : Refusal) → r ≡ refusal 6 0 → 2 ^ n ≤ a → refused r ≡ valueOutcome n b a
-    unfolding valueOutcome
-    value-far r er h = ap refused er ∙ sym (and-then _ _ v e ∙ simp (le-ltb _ _ h))
-
-    pub value-bit : (t : ℕ) → t ≡ trues n (cubesOf b) a → a < 2 ^ n → accepted (t % 2 ∷ []) ≡ valueOutcome n b a
-    unfolding valueOutcome listValue
-    value-bit t et h = ap (λ (x : ℕ). accepted (x % 2 ∷ [])) et ∙ sym (and-then _ _ v e ∙ simp (lt-ltb _ _ h))
+  pub value-bit : (v : List ℕ) → checkAt n b a ≡ accepted v → (t : ℕ) → t ≡ trues n (cubesOf b) a → accepted (t % 2 ∷ t ∷ []) ≡ valueOutcome n b a
+  unfolding valueOutcome listValue
+  value-bit v e t et = ap (λ (x : ℕ). accepted (x % 2 ∷ x ∷ [])) et ∙ sym (and-then _ _ v e)
 
 -- ---- truth vector
 

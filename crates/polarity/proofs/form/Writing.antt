@@ -1,30 +1,26 @@
 -- The loops over coefficients: counting the products of a form, and writing them; and the call by its tests.
 -- Assumes nothing.
-use mathlib.Core.Path.{_≡_, refl, sym, ap, ap₂, _∙_, subst}
-use mathlib.Core.Bool.{true, not}
+use mathlib.Core.Path.{_≡_, refl, sym, ap, _∙_, subst}
 use mathlib.Core.List.{List, [], _∷_, map}
-use Prim.Native.Nat.{ℕ, _+_, _-_, _^_, _<_, _≤_, zero-le}
-use native.Mathlib.Nat.{sub-zero}
+use Prim.Native.Nat.{ℕ, _+_, _^_, _<_, _≤_, zero-le}
 use native.Mathlib.Numerals.{add-one}
 use native.Mathlib.Omega.{arith}
 use lib.ListN.{length}
-use borrow.Author.Tests.{ne-eqb, le-leb, lt-leb, lt-ltb, le-ltb}
+use borrow.Author.Tests.{le-leb, lt-leb, lt-ltb, le-ltb}
 use Rattle.bits.specs.Below.{sumBelow, those}
 use Rattle.bits.specs.Sums.{oneIf}
 use Rattle.bits.proofs.Bools.{one-lt}
 use Rattle.records.specs.declared.Refusal.{Refusal}
 use Rattle.records.specs.Answers.{accepted, refused, refusal}
-use Rattle.records.specs.Records.{stored, written}
+use Rattle.records.specs.Records.{written}
 use Rattle.records.proofs.Answers.{and-then, and-not}
-use Rattle.records.proofs.Records.{length-stored}
-use Rattle.cube.specs.declared.Cube.{Cube}
+use Rattle.records.proofs.Picking.{Picking, picked-all}
 use Rattle.cube.specs.Lists.{cubes, cubeCapacity}
 use Rattle.polarity.specs.Forms.{product, formFrom}
 use Rattle.polarity.specs.Vectors.{byteAt, Vector, checkVector}
 use Rattle.polarity.specs.Calls.{formOutcome}
 use Rattle.polarity.specs.Words.{nonzero}
 use Rattle.polarity.proofs.Vectors.{check-accepts, check-long}
-use Rattle.bits.proofs.Below.{those-next, those-skip, those-end}
 use Rattle.polarity.proofs.Forms.{form-length}
 
 -- ---- counting
@@ -54,52 +50,15 @@ module _ (l : List ℕ) where
 
 -- ---- writing
 
--- what is left of the form, written from the place on, makes the whole
-pub record Writing (n p : ℕ) (l out₀ out : List ℕ) (place s : ℕ) : Type 0 where
-  pub long : length out ≡ length out₀
-  pub within : s ≤ length l
-  pub few : place ≤ s
-  pub left : written cubes place (map (product p) (those (λ t. nonzero (byteAt l t)) (length l - s) s)) out ≡ written cubes 0 (formFrom n p (byteAt l)) out₀
+-- the sets below s have been looked at, and the products of those with a coefficient are written
+abbrev pub Writing : ℕ → List ℕ → List ℕ → List ℕ → ℕ → ℕ → Type 0
+Writing p l out₀ out place s = Picking cubes (λ t. nonzero (byteAt l t)) (product p) (length l) out₀ out place s
 
-module _ (n p : ℕ) (l out₀ : List ℕ) (v : Vector n l) where
-  pub writing-none : Writing n p l out₀ out₀ 0 0
-  unfolding formFrom
-  writing-none = record {
-    long = refl;
-    within = zero-le;
-    few = zero-le;
-    left = ap (λ (m : ℕ). written cubes 0 (map (product p) (those (λ t. nonzero (byteAt l t)) m 0)) out₀) (sub-zero (length l) ∙ v .long);
-  }
-
-  module _ (out : List ℕ) (place s : ℕ) (W : Writing n p l out₀ out place s) where
-    abbrev rest : ℕ → List Cube
-    rest k = map (product p) (those (λ t. nonzero (byteAt l t)) (length l - k) k)
-
-    pub writing-zero : s < length l → byteAt l s ≡ 0 → Writing n p l out₀ out place (s + 1)
-    writing-zero h e = record {
-      long = W .long;
-      within = omega arith;
-      few = omega (arith, W .few);
-      left = ap (λ (r : List Cube). written cubes place r out) (sym (ap (map (product p)) (those-skip (λ t. nonzero (byteAt l t)) (length l) s h (ap nonzero e)))) ∙ W .left;
-    }
-
-    pub writing-more : (c : Cube) (out′ : List ℕ) → s < length l → (byteAt l s ≡ 0 → ⊥) → c ≡ product p s → out′ ≡ stored cubes out place c
-        → Writing n p l out₀ out′ (place + 1) (s + 1)
-    unfolding written
-    writing-more c out′ h d ec eo =
-        let put : out′ ≡ stored cubes out place (product p s) = eo ∙ ap (stored cubes out place) ec in
-        let here : nonzero (byteAt l s) ≡ true = ap not (ne-eqb (byteAt l s) 0 d) in
-        record {
-          long = ap length put ∙ length-stored cubes out place (product p s) ∙ W .long;
-          within = omega arith;
-          few = omega (arith, W .few);
-          left = ap₂ (λ (k : ℕ) (b : List ℕ). written cubes k (rest (s + 1)) b) (add-one place) put
-              ∙ ap (λ (r : List Cube). written cubes place r out) (sym (ap (map (product p)) (those-next (λ t. nonzero (byteAt l t)) (length l) s h here))) ∙ W .left;
-        }
-
-    pub writing-all : length l ≤ s → out ≡ written cubes 0 (formFrom n p (byteAt l)) out₀
-    unfolding written
-    writing-all h = ap (λ (r : List ℕ). written cubes place (map (product p) r) out) (sym (those-end (λ t. nonzero (byteAt l t)) (length l) s h)) ∙ W .left
+pub writing-all : (n p : ℕ) (l out₀ out : List ℕ) (place s : ℕ) → Vector n l → Writing p l out₀ out place s → length l ≤ s
+    → out ≡ written cubes 0 (formFrom n p (byteAt l)) out₀
+unfolding formFrom
+writing-all n p l out₀ out place s v W h =
+    picked-all _ _ _ _ _ _ _ _ W h ∙ ap (λ (m : ℕ). written cubes 0 (map (product p) (those (λ t. nonzero (byteAt l t)) m 0)) out₀) (v .long)
 
 -- ---- the call, by its tests
 

@@ -8,10 +8,10 @@ use borrow.Author.Needs.{needs}
 use Rattle.records.specs.Answers.{accepted, counted}
 use Rattle.cube.specs.Lists.{cubesOf}
 use Rattle.cube.specs.Calls.{checkList}
-use Rattle.cube.proofs.Lists.{check-accepts, all-good-more}
+use Rattle.cube.proofs.Lists.{check-accepts, count-is, count-most, all-good-more}
 use Rattle.converters.specs.NarrowRecord.{narrowVariables}
 use Rattle.converters.specs.Calls.{narrowAfter}
-use Rattle.converters.proofs.Calls.{count-is, count-most, list-refused, out-short, all-written, narrow-chain, narrow-1, narrow-20}
+use Rattle.converters.proofs.Calls.{list-refused, out-short, all-written, narrow-chain, narrow-1, narrow-20}
 use Rattle.converters.proofs.narrow_from_wide.narrow_from_wide.Statement.{statement}
 use Rattle.converters.proofs.narrow_from_wide.narrow_from_wide.Tie as tie
 

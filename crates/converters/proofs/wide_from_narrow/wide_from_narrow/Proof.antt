@@ -8,7 +8,8 @@ use Rattle.records.specs.Answers.{accepted, counted}
 use Rattle.cube.specs.Calls.{checkListOf}
 use Rattle.converters.specs.NarrowRecord.{narrowCubes, narrowVariables}
 use Rattle.converters.specs.Calls.{wideAfter}
-use Rattle.converters.proofs.Calls.{count-is, count-most, list-refused, out-short, all-written, wide-chain}
+use Rattle.cube.proofs.Lists.{count-is, count-most}
+use Rattle.converters.proofs.Calls.{list-refused, out-short, all-written, wide-chain}
 use Rattle.converters.proofs.wide_from_narrow.wide_from_narrow.Statement.{statement}
 use Rattle.converters.proofs.wide_from_narrow.wide_from_narrow.Tie as tie
 

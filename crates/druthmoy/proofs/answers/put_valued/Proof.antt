@@ -24,7 +24,6 @@ put-refusal-requires : tie.Need-put-refusal-requires
 put-refusal-requires c κs = search needs
 
 returns : tie.Need-returns
-unfolding words
 returns c = words-of words (c .put-values .ensures) (sym (ap valued (c .before .before .before .r .given .1)))
 
 returns-2 : tie.Need-returns-2

@@ -1,25 +1,29 @@
 -- `form::put_form` meets its contract: the loop keeps `Writing`.
 -- Assumes nothing.
-use mathlib.Core.Path.{sym, subst₂}
+use mathlib.Core.Path.{sym, ap, subst₂}
+use mathlib.Core.Bool.{not}
 use mathlib.Core.Logic.{⊎-elim}
 use mathlib.Core.List.{List}
 use Prim.Native.Nat.{ℕ, _+_, _-_}
 use native.Mathlib.Omega.{arith}
 use lib.ListN.{length}
 use borrow.Author.Needs.{needs}
+use borrow.Author.Tests.{ne-eqb}
+use Rattle.records.proofs.Picking.{picking-none, picking-skip, picking-more}
+use Rattle.polarity.specs.Words.{nonzero}
 use Rattle.polarity.proofs.Vectors.{vector-most}
-use Rattle.polarity.proofs.form.Writing.{Writing, writing-none, writing-zero, writing-more, writing-all}
+use Rattle.polarity.proofs.form.Writing.{Writing, writing-all}
 use Rattle.polarity.proofs.form.put_form.Statement.{statement}
 use Rattle.polarity.proofs.form.put_form.Tie as tie
 
 abbrev Inv-loop : tie.InvT-loop
-Inv-loop n coefficients p out₀ place₀ s₀ out place s = Writing n p coefficients out₀ out place s
+Inv-loop n coefficients p out₀ place₀ s₀ out place s = Writing p coefficients out₀ out place s
 
 abbrev μ-loop : tie.MeasureT-loop
 μ-loop n coefficients p out₀ place₀ s₀ out place s = length coefficients - s
 
 loop-holds : tie.Need-loop-holds Inv-loop μ-loop
-loop-holds c = search writing-none
+loop-holds c = picking-none _ _ _ _ _
 
 shared-slice-read-if1 : tie.Need-shared-slice-read-if1 Inv-loop μ-loop
 shared-slice-read-if1 c = search needs
@@ -49,10 +53,10 @@ loop-again c =
     let l = c .before .before .before in
     let s = l .before .before .before in
     let b = c .before .before .loop-test .taken in
-    let again : List ℕ → ℕ → Type 0 = λ (out : List ℕ) (place : ℕ). Writing (s .args .n) (s .args .p) (s .args .coefficients .now) (s .args .out .now) out place (l .loop .s + 1) in
+    let again : List ℕ → ℕ → Type 0 = λ (out : List ℕ) (place : ℕ). Writing (s .args .p) (s .args .coefficients .now) (s .args .out .now) out place (l .loop .s + 1) in
     ⊎-elim
-    (λ w. subst₂ again (sym (w .6)) (sym (w .7)) (writing-more _ _ _ _ (s .pre) _ _ _ (l .loop .inv) _ _ b (w .0 .taken) (w .2 .ensures) (w .3 .ensures)))
-    (λ w. subst₂ again (sym (w .1)) (sym (w .2)) (writing-zero _ _ _ _ (s .pre) _ _ _ (l .loop .inv) b (w .0 .left)))
+    (λ w. subst₂ again (sym (w .6)) (sym (w .7)) (picking-more _ _ _ _ _ _ _ _ (l .loop .inv) _ _ b (ap not (ne-eqb _ 0 (w .0 .taken))) (w .2 .ensures) (w .3 .ensures)))
+    (λ w. subst₂ again (sym (w .1)) (sym (w .2)) (picking-skip _ _ _ _ _ _ _ _ (l .loop .inv) b (ap nonzero (w .0 .left))))
     (c .if1 .came)
 
 same-length : tie.Need-same-length Inv-loop μ-loop

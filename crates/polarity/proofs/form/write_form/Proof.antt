@@ -4,9 +4,10 @@ use mathlib.Core.Path.{_≡_, sym, ap, _∙_}
 use mathlib.Core.List.{[], _∷_}
 use native.Mathlib.Omega.{arith}
 use Rattle.records.specs.Answers.{accepted, counted}
+use Rattle.records.proofs.Answers.{call-refused, call-accepted}
 use Rattle.polarity.specs.Vectors.{Vector, checkVector}
 use Rattle.polarity.specs.Calls.{formAfter}
-use Rattle.polarity.proofs.Vectors.{check-accepts, check-long, vector-most, call-refused, call-accepted}
+use Rattle.polarity.proofs.Vectors.{check-accepts, check-long, vector-most}
 use Rattle.polarity.proofs.form.Writing.{form-refused, form-15, form-5, form-0}
 use borrow.Author.Needs.{needs}
 use Rattle.polarity.proofs.form.write_form.Statement.{statement}

@@ -5,8 +5,8 @@ use mathlib.Core.List.{[], _∷_}
 use lib.ListN.{length}
 use lib.Seq.{length-take-le}
 use Rattle.records.specs.Answers.{accepted, counted}
+use Rattle.records.proofs.Answers.{call-refused, call-accepted}
 use Rattle.polarity.specs.Calls.{coefficientsOutcome}
-use Rattle.polarity.proofs.Vectors.{call-refused, call-accepted}
 use Rattle.polarity.proofs.transform.Room.{AcceptedTransform, room-accepts, transform-put}
 use borrow.Author.Needs.{needs}
 use Rattle.polarity.proofs.transform.transform.Statement.{statement}
