@@ -3,8 +3,8 @@
 use Prim.Native.Nat.{_-_, _≤_}
 use lib.ListN.{length}
 use borrow.Author.Needs.{needs}
-use Rattle.settle_cases.proofs.cases.Statement.{statement}
-use Rattle.settle_cases.proofs.cases.Tie as tie
+use Rattle.program_cases.proofs.cases.Statement.{statement}
+use Rattle.program_cases.proofs.cases.Tie as tie
 
 abbrev Inv-loop : tie.InvT-loop
 Inv-loop table p₀ p = p ≤ length table

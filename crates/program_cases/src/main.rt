@@ -1,5 +1,6 @@
-// Cases of `settle`, a row each in the file `cases`: the line, the list's file and the script's file, with a bar between them. Each row is printed, and after it
-// what the program prints for it. A row that begins with `#` is a remark.
+// Cases of the programs, a row each in the file `cases`, with a bar between its parts: `settle`, the line, the list's file and the script's file; or `why`, the
+// line, the label's line and the list's file. Each row is printed, and after it what that program prints for it: nothing, where no program has the name. A row
+// that begins with `#` is a remark.
 use libc::STDOUT_FILENO;
 ghost use Prim.Native.Nat.{_≤_};
 ghost use lib.ListN.{length};
@@ -36,17 +37,29 @@ fn past(text: &[u8], p: usize) -> usize
     p
 }
 
-// What the program prints for the three parts of a row.
+// What the program of a name prints for its line and the two parts after it.
+fn program(name: &[u8], line: &[u8], second: &[u8], third: &[u8]) {
+    if check::same(name, b"settle") {
+        map_files::settle_named(line, second, third);
+    }
+    if check::same(name, b"why") {
+        why_files::why_named(line, second, third);
+    }
+}
+
+// What is printed for the four parts of a row.
 fn case(row: &[u8]) {
     let start: usize = 0;
     let a = find(row, start, BAR);
     let b = past(row, a);
     let c = find(row, b, BAR);
     let d = past(row, c);
-    map_files::settle_named(&row[start..a], &row[b..c], &row[d..]);
+    let e = find(row, d, BAR);
+    let f = past(row, e);
+    program(&row[start..a], &row[b..c], &row[d..e], &row[f..]);
 }
 
-// One row: printed, and settled where it is no remark.
+// One row: printed, and run where it is no remark.
 fn row(text: &[u8]) {
     io::write_all(STDOUT_FILENO, text);
     io::write_all(STDOUT_FILENO, b"\n");

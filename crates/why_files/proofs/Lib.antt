@@ -1,0 +1,2 @@
+-- The laws of a label's line. Assumes nothing.
+pub mod Labels

@@ -1,0 +1,2 @@
+-- What the contract of a label's line cites. Assumes nothing.
+pub mod Labels

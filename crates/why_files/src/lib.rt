@@ -1,0 +1,81 @@
+// Why a label goes to its slot, from files: the number of variables and the label from two lines, the list from a file; the places of the products that are true
+// there are printed.
+mod label;
+
+use program::file;
+use program::line;
+use program::line::Line;
+use program::print;
+use reasons::Reasoned;
+use records::Refusal;
+use records::numbers;
+
+// Bytes of the places of the longest list.
+const PLACES_BYTES: usize = reasons::PLACE_WIDTH * cube::list::MOST_RECORDS;
+
+fn place_line(place: u16) {
+    print::number(b"", place as usize);
+    print::text(b"\n");
+}
+
+// Every place of a buffer, one a line.
+fn places(bytes: &[u8]) {
+    let number = bytes.len() / reasons::PLACE_WIDTH;
+    let mut k: usize = 0;
+    while k < number {
+        place_line(numbers::number2_at(bytes, reasons::PLACE_WIDTH * k));
+        k += 1;
+    }
+}
+
+// The reasons written to a buffer, and what is printed of them.
+fn show_by(n: usize, list: &[u8], a: u64, out: &mut [u8]) {
+    match reasons::reasons(n, list, a, out) {
+        Reasoned::Refused(r) => {
+            print::refusal(r);
+        }
+        Reasoned::Shown(number, _) => {
+            let end = reasons::PLACE_WIDTH * number;
+            places(&out[..end]);
+        }
+    }
+}
+
+// The same, with a buffer that has room for the reasons of every list.
+fn show(n: usize, list: &[u8], a: u64) {
+    let mut out = [0u8; PLACES_BYTES];
+    show_by(n, list, a, &mut out);
+}
+
+// The list read, and its reasons at the label.
+fn load_list(n: usize, a: u64, path: &[u8]) {
+    let mut list = [0u8; file::LIST_BYTES];
+    let l = file::load(path, &mut list);
+    if !l.found {
+        print::no_file();
+        return;
+    }
+    let count = l.count;
+    show(n, &list[..count], a);
+}
+
+// The label of a line in the map of a line and of a file that is named: the first line, then the list, then the label.
+pub fn why_named(line: &[u8], label: &[u8], list_path: &[u8]) {
+    match line::variables_in(line) {
+        Line::Bad => {
+            print::refusal(Refusal::new(1, 0));
+        }
+        Line::Number(n) => {
+            load_list(n, label::label_in(label), list_path);
+        }
+    }
+}
+
+// The program: two lines of standard input, and `map.cub`. A first line that is longer than what is read of it is refused, whatever is read as the second.
+pub fn run() {
+    let mut first = [0u8; line::VARIABLE_BYTES];
+    let count = line::read(&mut first);
+    let mut second = [0u8; label::LABEL_BYTES];
+    let digits = line::read(&mut second);
+    why_named(&first[..count], &second[..digits], b"map.cub");
+}
