@@ -15,7 +15,7 @@ ghost use Rattle.bits.specs.Sums.{All, oneIf};
 ghost use Rattle.bits.specs.Packed.{bitAt, both, literalBits};
 ghost use Rattle.records.specs.Answers.{counted};
 ghost use Rattle.cube.specs.Cubes.{one, code, Good, holds, HoldsAt};
-ghost use Rattle.cube.specs.Lists.{recordWidth, cubesOf, trues, listValue, truthVector};
+ghost use Rattle.cube.specs.Lists.{recordWidth, mostRecords, cubesOf, trues, listValue, truthVector};
 ghost use Rattle.cube.specs.Calls.{checkAt, valued, valueOutcome, vectorOutcome, vectorAfter};
 
 // Variables of a truth vector, at most.
@@ -32,20 +32,21 @@ fn true_at(list: &[u8], i: usize, a: u32) -> bool
     Cube { seen, value }.holds_at(a)
 }
 
-// How many products of a list of good cubes are true at a.
+// How many products of a list of good cubes are true at a. The count has as many bits as a mask, so that the compiler counts as many at once as it compares.
 fn trues_at(n: usize, list: &[u8], a: u32) -> usize
     requires { ⌜ All (Good n) (cubesOf (now list)) ⌝ }
+    requires { ⌜ length (now list) / recordWidth ≤ mostRecords ⌝ }
     requires { ⌜ a < 2 ^ n ⌝ }
     ensures { λ r. ⌜ r ≡ trues n (cubesOf (now (list .entry))) a ⌝ }
 {
     let count = list.len() / list::RECORD_WIDTH;
-    let mut t: usize = 0;
+    let mut t: u32 = 0;
     let mut i: usize = 0;
     while i < count {
-        t += true_at(list, i, a) as usize;
+        t += true_at(list, i, a) as u32;
         i += 1;
     }
-    t
+    t as usize
 }
 
 // Checking a list and an assignment of its variables: refusals 1 to 4 and 6, or the count of its records.
@@ -118,6 +119,7 @@ fn value_bits(list: &[u8]) -> Packed
 // The value at each of so many assignments, to the front of a buffer, one by one.
 fn fill_each(n: usize, assignments: usize, list: &[u8], out: &mut [u8])
     requires { ⌜ All (Good n) (cubesOf (now list)) ⌝ }
+    requires { ⌜ length (now list) / recordWidth ≤ mostRecords ⌝ }
     requires { ⌜ (assignments ≡ 2 ^ n) × (assignments ≤ 4) ⌝ }
     requires { ⌜ assignments ≤ length (now out) ⌝ }
     ensures { λ _. ⌜ now (out .exit) ≡ truthVector n (cubesOf (now (list .entry))) ++ drop (2 ^ n) (now (out .entry)) ⌝ }
@@ -132,6 +134,7 @@ fn fill_each(n: usize, assignments: usize, list: &[u8], out: &mut [u8])
 // The value at each of so many assignments, to the front of a buffer. A product at four assignments costs less than its bits at 256.
 fn fill_vector(n: usize, assignments: usize, list: &[u8], out: &mut [u8])
     requires { ⌜ All (Good n) (cubesOf (now list)) ⌝ }
+    requires { ⌜ length (now list) / recordWidth ≤ mostRecords ⌝ }
     requires { ⌜ (assignments ≡ 2 ^ n) × (n ≤ 8) ⌝ }
     requires { ⌜ assignments ≤ length (now out) ⌝ }
     ensures { λ _. ⌜ now (out .exit) ≡ truthVector n (cubesOf (now (list .entry))) ++ drop (2 ^ n) (now (out .entry)) ⌝ }

@@ -19,7 +19,7 @@ cast-trues-at : tie.Need-cast-trues-at Inv-loop μ-loop
 cast-trues-at c = omega arith
 
 trues-at-requires : tie.Need-trues-at-requires Inv-loop μ-loop
-trues-at-requires c κs = (c .before .before .before .before .pre .0, omega arith)
+trues-at-requires c κs = let pre = c .before .before .before .before .pre in (pre .0, (pre .1 .0, omega arith))
 
 cast-out : tie.Need-cast-out Inv-loop μ-loop
 cast-out c = omega arith

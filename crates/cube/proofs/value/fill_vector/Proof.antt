@@ -8,7 +8,7 @@ use Rattle.cube.proofs.value.fill_vector.Statement.{statement}
 use Rattle.cube.proofs.value.fill_vector.Tie as tie
 
 fill-each-requires : tie.Need-fill-each-requires
-fill-each-requires c κs = let s = c .before .before .before .before in (s .pre .0, ((s .pre .1 .0 .0, c .before .if1 .taken), s .pre .1 .1))
+fill-each-requires c κs = let s = c .before .before .before .before in (s .pre .0, (s .pre .1 .0, ((s .pre .1 .1 .0 .0, c .before .if1 .taken), s .pre .1 .1 .1)))
 
 returns : tie.Need-returns
 returns c = c .before .before .fill-each .ensures
@@ -20,7 +20,7 @@ slice-relend-prefix-put : tie.Need-slice-relend-prefix-put
 slice-relend-prefix-put c = search needs
 
 slice-aggregate-put : tie.Need-slice-aggregate-put
-slice-aggregate-put c = sym (length-take-le _ _ (c .before .before .before .before .before .pre .1 .1))
+slice-aggregate-put c = sym (length-take-le _ _ (c .before .before .before .before .before .pre .1 .1 .1))
 
 put-requires : tie.Need-put-requires
 put-requires c κs = search needs
@@ -35,7 +35,7 @@ returns-2 : tie.Need-returns-2
 returns-2 c =
     let c₄ = c .before .before .before .before in
     let s = c₄ .before .before .before .before in
-    vector-is _ _ _ _ (s .pre .1 .0 .0) (s .pre .1 .0 .1) (s .pre .0) (s .pre .1 .1) _ (c₄ .value-bits .ensures) _ (c .before .before .put .ensures)
+    vector-is _ _ _ _ (s .pre .1 .1 .0 .0) (s .pre .1 .1 .0 .1) (s .pre .0) (s .pre .1 .1 .1) _ (c₄ .value-bits .ensures) _ (c .before .before .put .ensures)
 
 pub fill-vector-spec : {M : Type 1} → statement M
 fill-vector-spec =

@@ -29,7 +29,7 @@ loop-again : tie.Need-loop-again Inv-loop μ-loop
 loop-again c =
     let s = c .before .before .before .before in
     let at = c .before .before in
-    let true-there = mask-at (s .args .n) (cubesOf (s .args .list .now)) (s .args .a) (at .loop .i) (s .pre .0) (s .pre .1)
+    let true-there = mask-at (s .args .n) (cubesOf (s .args .list .now)) (s .args .a) (at .loop .i) (s .pre .0) (s .pre .1 .1)
     _ refl (c .true-at .result) (c .true-at .ensures .fixed) in
     counting-next cubes (λ c. holds (s .args .n) c (s .args .a)) _ _ _ (at .loop .inv) (c .before .loop-test .taken)
     _ refl (c .true-at .result) true-there
@@ -38,13 +38,16 @@ cast-t : tie.Need-cast-t Inv-loop μ-loop
 cast-t c = search needs
 
 add-t : tie.Need-add-t Inv-loop μ-loop
-add-t c = omega (arith, one-lt (c .true-at .result))
+add-t c = omega (arith, one-lt (c .true-at .result), c .before .before .loop .inv .few, c .before .before .before .before .pre .1 .0)
 
 add-i : tie.Need-add-i Inv-loop μ-loop
 add-i c = search needs
 
 loop-less : tie.Need-loop-less Inv-loop μ-loop
 loop-less c = search needs
+
+cast-result : tie.Need-cast-result Inv-loop μ-loop
+cast-result c = omega (arith, c .before .loop .inv .few, c .before .loop .inv .within, c .before .before .before .pre .1 .0)
 
 returns : tie.Need-returns Inv-loop μ-loop
 unfolding trues
@@ -63,4 +66,5 @@ trues-at-spec =
     add-i
     loop-less
     loop-again
+    cast-result
     returns)

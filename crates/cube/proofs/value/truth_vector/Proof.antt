@@ -48,7 +48,7 @@ returns c =
 fill-vector-requires : tie.Need-fill-vector-requires
 fill-vector-requires c κs =
     let s = c .before .before in
-    (list-is s .good, ((power-is s, list-is s .few), c .before .if1 .left))
+    (list-is s .good, (list-is s .short, ((power-is s, list-is s .few), c .before .if1 .left)))
 
 returns-2 : tie.Need-returns-2
 returns-2 c =

@@ -35,7 +35,7 @@ cast-trues-at : tie.Need-cast-trues-at
 cast-trues-at c = omega (arith, pow-mono (passes c .list .few), passes c .below)
 
 trues-at-requires : tie.Need-trues-at-requires
-trues-at-requires c κs = (passes c .list .good, passes c .below)
+trues-at-requires c κs = (passes c .list .good, (passes c .list .short, passes c .below))
 
 cast-t10 : tie.Need-cast-t10
 cast-t10 c = search needs
