@@ -20,8 +20,8 @@
  * A truth vector is 2^n bytes, each 0 or 1, indexed by assignment; coefficients are 2^n bytes, each 0 or 1, indexed by
  * the set of variables. A set bit k of a polarity means that variable k appears only complemented.
  *
- * The limit of n is 32 for check, value, run, settle and narrow from wide, 16 for wide from narrow, and 8 for the other
- * calls.
+ * The limit of n is 32 for check, value, reasons, run, settle and narrow from wide, 16 for wide from narrow, and 8 for the
+ * other calls.
  *
  * A buffer is passed as a pointer and a length in bytes. Pointers are not null, even where a length is 0, need no
  * alignment (but answer, which is aligned as uint64_t is), and no buffer that a call writes overlaps another argument.
@@ -105,12 +105,23 @@ void dm_check(uint64_t n,
               const uint8_t *list, size_t list_length,
               uint64_t *answer);
 
-/* The list's value at an assignment: the parity of how many of its products are true there. answer[2]: 0 or 1.
+/* The list's value at an assignment: the parity of how many of its products are true there. answer[2]: 0 or 1;
+ * answer[3]: how many are true.
  * Refuses, in this order: 1, 2, 3, 4, 6. */
 void dm_value(uint64_t n,
               const uint8_t *list, size_t list_length,
               uint64_t a,
               uint64_t *answer);
+
+/* The reasons of that value: the places of all products that are true at an assignment, ascending, 2 bytes each,
+ * little-endian. answer[2]: their number; answer[3]: the value, 0 or 1, which is their number's parity.
+ * Writes the first 2 * number bytes of out, and no other byte; a refusal writes none.
+ * Refuses, in this order: 1, 2, 3, 4, 6, 5 (out_length below 2 bytes for each product of the list, true or not). */
+void dm_reasons(uint64_t n,
+                const uint8_t *list, size_t list_length,
+                uint64_t a,
+                uint8_t *out, size_t out_length,
+                uint64_t *answer);
 
 /* The list's values at all assignments. answer[2]: 2^n.
  * Writes the first 2^n bytes of out, and no other byte; a refusal writes none.

@@ -39,6 +39,19 @@ pub fn few_records(count: usize, n: u32) -> Vec<u8> {
         .collect()
 }
 
+/// `count` cubes over n variables. About half of them, in no regular order, are true at `a`.
+pub fn half_true_list(count: usize, n: u32, a: u32) -> Vec<u8> {
+    let mut random = Random(count as u64 + u64::from(n));
+    let mask = ((1u64 << n) - 1) as u32;
+    (0..count)
+        .flat_map(|_| {
+            let seen = random.next() as u32 & mask | 1;
+            let differing = random.next() as u32 & 1;
+            record(seen, a & seen ^ differing)
+        })
+        .collect()
+}
+
 /// The old list of a list over at most 16 variables: the low halves of both masks.
 pub fn narrow_list(list: &[u8]) -> Vec<u8> {
     list.as_chunks::<8>().0.iter().flat_map(|&[a, b, _, _, c, d, _, _]| [a, b, c, d]).collect()

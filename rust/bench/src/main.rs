@@ -9,7 +9,9 @@ mod measure;
 mod plain;
 
 use druthmoy::words;
-use inputs::{bits, exchanges, few_records, joins, mixed, narrow_list, paired_list, record, step, turns};
+use inputs::{
+    bits, exchanges, few_records, half_true_list, joins, mixed, narrow_list, paired_list, record, step, turns,
+};
 use plain::{ByBytes, ByWords};
 use std::hint::black_box;
 
@@ -26,6 +28,7 @@ fn main() {
     println!("|---|---|---:|---:|---:|---:|");
     let mut highest: f64 = 0.0;
     lists(&mut highest);
+    reasons(&mut highest);
     converters(&mut highest);
     polarities(&mut highest);
     scripts(&mut highest);
@@ -75,6 +78,26 @@ fn lists(highest: &mut f64) {
             Some(|_: &mut [u8], out: &mut [u8]| {
                 answered(|answer| plain::truth_vector::<ByBytes>(n, black_box(list), out, answer))
             }),
+        );
+    }
+}
+
+fn reasons(highest: &mut f64) {
+    for (n, list, trues, size) in [
+        (4, half_true_list(4, 4, 5), 3, "4 records, 3 true, n = 4"),
+        (32, paired_list(RECORDS, 32, 1), 1, "4,096 records, 1 true, n = 32"),
+        (32, half_true_list(RECORDS, 32, 5), 2019, "4,096 records, 2,019 true, n = 32"),
+        (32, record(0, 0).repeat(RECORDS), RECORDS as u64, "4,096 records, all true, n = 32"),
+    ] {
+        let list = &list;
+        assert_eq!(words::value(n, list, 5)[3], trues, "{size}");
+        row(
+            highest,
+            "reasons",
+            size,
+            |_, out| words::reasons(n, black_box(list), 5, out),
+            |_, out| answered(|answer| plain::reasons(n, black_box(list), 5, out, answer)),
+            SAME_WAY,
         );
     }
 }

@@ -13,7 +13,7 @@ mod vectors;
 mod words;
 
 pub use converters::{narrow_from_wide, wide_from_narrow};
-pub use lists::{check, truth_vector, value};
+pub use lists::{check, reasons, truth_vector, value};
 pub use script::run;
 pub use settling::settle;
 pub use vectors::{ByBytes, ByWords, best_polarity, coefficients, vector, write_form};

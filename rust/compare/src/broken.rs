@@ -1,7 +1,7 @@
 //! The rules that a step breaks, each looked at by itself: the first of them is answered.
 
 use crate::differ::Case;
-use model::cube::{Cube, RECORD, decoded};
+use model::cube::{Cube, RECORD};
 use model::script::{self, STEP, Step, differing};
 
 /// The refusals at a step, in the order in which they are tested.
@@ -26,7 +26,7 @@ pub fn can_differ_in(number: u64, differing: u64) -> bool {
 /// `place`; none where that one breaks rule 9 and those before it break nothing.
 pub fn broken_in(case: &Case, place: usize) -> Vec<u64> {
     let n = case.n as usize;
-    let mut list: Vec<Cube> = case.input.chunks(RECORD).filter_map(|record| decoded(n, record)).collect();
+    let mut list = case.cubes();
     let capacity = (case.work.len() / RECORD).min(4096);
     for step in case.script.chunks(STEP).take(place + 1).filter_map(|bytes| script::decoded(n, bytes)) {
         let broken = broken(&list, step, capacity);

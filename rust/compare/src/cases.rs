@@ -6,7 +6,7 @@ use crate::broken::AT_A_STEP;
 use crate::differ::{Call, Case};
 use crate::random::Random;
 use crate::scripts;
-use model::cube::{Cube, NARROW_RECORD, RECORD, encoded_list, encoded_narrow_list};
+use model::cube::{Cube, NARROW_RECORD, PLACE, RECORD, encoded_list, encoded_narrow_list};
 use model::polarity::coefficients;
 use model::refusal::ORDERS;
 use model::script::{self, STEP, encoded_script};
@@ -44,7 +44,7 @@ impl Faults {
 pub fn case(random: &mut Random, call: Call) -> Case {
     let faults = &Faults::draw(random, call);
     match call {
-        Call::Check | Call::Value | Call::TruthVector => list_case(random, faults, call),
+        Call::Check | Call::Value | Call::Reasons | Call::TruthVector => list_case(random, faults, call),
         Call::Coefficients | Call::Vector | Call::WriteForm | Call::BestPolarity => bits_case(random, faults, call),
         Call::Run | Call::Settle => script_case(random, faults, call),
         Call::WideFromNarrow | Call::NarrowFromWide => converter_case(random, faults, call),
@@ -57,8 +57,15 @@ fn list_case(random: &mut Random, faults: &Faults, call: Call) -> Case {
     let n = variables(random, faults, width, limit);
     let count = count(random, faults);
     let cubes = cubes(random, width, count);
-    let number = if call == Call::Value { pattern(random, width, faults.has(6)) } else { 0 };
-    let out = if call == Call::TruthVector { lent(random, 1 << width, faults.has(5)) } else { vec![] };
+    let number = match call {
+        Call::Value | Call::Reasons => assignment(random, faults, width, &cubes),
+        _ => 0,
+    };
+    let out = match call {
+        Call::Reasons => lent(random, PLACE * count, faults.has(5)),
+        Call::TruthVector => lent(random, 1 << width, faults.has(5)),
+        _ => vec![],
+    };
     let input = list_bytes(random, faults, width, RECORD, encoded_list(&cubes));
     Case { call, n, input, number, script: vec![], work: vec![], out }
 }
@@ -309,6 +316,20 @@ fn bits(random: &mut Random, width: usize) -> Vec<u8> {
         }
         _ => random.bits(length),
     }
+}
+
+/// An assignment; in half of the cases one of the products is true there.
+fn assignment(random: &mut Random, faults: &Faults, width: usize, cubes: &[Cube]) -> u64 {
+    let any = pattern(random, width, faults.has(6));
+    if cubes.is_empty() || random.one_in(2) {
+        return any;
+    }
+    let cube = &cubes[random.below(cubes.len())];
+    cube.iter().enumerate().fold(any, |a, (k, code)| match code {
+        0 => a & !(1 << k),
+        1 => a | 1 << k,
+        _ => a,
+    })
 }
 
 /// An assignment or a polarity, with a bit at or above the number of variables if that is wanted.

@@ -3,7 +3,7 @@
 
 use crate::differ::Case;
 use model::cost::standing;
-use model::cube::{Cube, RECORD, decoded, truth_vector};
+use model::cube::{Cube, RECORD, truth_vector};
 use model::polarity;
 use model::script::{self, STEP, Step};
 use std::fmt;
@@ -19,7 +19,7 @@ struct Candidates {
 impl Candidates {
     fn of(case: &Case, best: usize) -> Candidates {
         let n = case.n as usize;
-        let given: Vec<Cube> = case.input.chunks(RECORD).filter_map(|record| decoded(n, record)).collect();
+        let given = case.cubes();
         let steps: Vec<Step> = case.script.chunks(STEP).filter_map(|bytes| script::decoded(n, bytes)).collect();
         let capacity = (case.work.len() / RECORD).min(4096);
         let mut before_the_undoing = given.clone();

@@ -1,7 +1,8 @@
 //! One call of the library beside the same call of the model: answers, and every byte of every buffer.
 
-use druthmoy::{Fixed, Refusal, Run, Settled, words};
+use druthmoy::{Fixed, Refusal, Run, Settled, Value, words};
 use model::calls;
+use model::cube::{Cube, RECORD, decoded};
 use std::fmt;
 
 /// The calls, in the order of `model::refusal::ORDERS`.
@@ -9,6 +10,7 @@ use std::fmt;
 pub enum Call {
     Check,
     Value,
+    Reasons,
     TruthVector,
     Coefficients,
     Vector,
@@ -21,9 +23,10 @@ pub enum Call {
 }
 
 impl Call {
-    pub const ALL: [Call; 11] = [
+    pub const ALL: [Call; 12] = [
         Call::Check,
         Call::Value,
+        Call::Reasons,
         Call::TruthVector,
         Call::Coefficients,
         Call::Vector,
@@ -51,6 +54,13 @@ pub struct Case {
     pub out: Vec<u8>,
 }
 
+impl Case {
+    /// The cubes of the list, without the bad ones.
+    pub fn cubes(&self) -> Vec<Cube> {
+        self.input.chunks(RECORD).filter_map(|record| decoded(self.n as usize, record)).collect()
+    }
+}
+
 /// What comes out of a call.
 #[derive(PartialEq)]
 struct After {
@@ -59,7 +69,8 @@ struct After {
     out: Vec<u8>,
 }
 
-/// Compares one case three ways: the library's words, its named answers, the model. Answers the words.
+/// Compares one case three ways: the library's words, its named answers, the model; and reasons with value. Answers the
+/// words.
 pub fn compare(case: &Case) -> Result<[u64; 8], String> {
     let expected = by_model(case);
     let got = by_words(case).map_err(|touched| format!("{touched}\n{case}"))?;
@@ -70,7 +81,21 @@ pub fn compare(case: &Case) -> Result<[u64; 8], String> {
     if named != expected {
         return Err(format!("wrapper and model differ\n{case}\nwrapper:\n{named}\nmodel:\n{expected}"));
     }
+    if case.call == Call::Reasons {
+        beside_value(case, &expected.answer)?;
+    }
     Ok(expected.answer)
+}
+
+/// Document 02, One: reasons answers the number and the bit that value answers, and refuses what value does, "then 5".
+fn beside_value(case: &Case, reasons: &[u64; 8]) -> Result<(), String> {
+    let value = compare(&Case { call: Call::Value, out: vec![], ..case.clone() })?;
+    let agree = match (reasons, value) {
+        ([0, 0, trues, bit, ..], [0, 0, ..]) => [*bit, *trues] == value[2..4],
+        ([5, ..], [0, ..]) => true,
+        _ => *reasons == value,
+    };
+    if agree { Ok(()) } else { Err(format!("reasons answers {reasons:?}, value {value:?}\n{case}")) }
 }
 
 fn by_model(case: &Case) -> After {
@@ -80,6 +105,7 @@ fn by_model(case: &Case) -> After {
     let outcome = match case.call {
         Call::Check => calls::check(n, input),
         Call::Value => calls::value(n, input, number),
+        Call::Reasons => calls::reasons(n, input, number, &mut out),
         Call::TruthVector => calls::truth_vector(n, input, &mut out),
         Call::Coefficients => calls::coefficients(n, input, number, &mut out),
         Call::Vector => calls::vector(n, input, number, &mut out),
@@ -104,6 +130,7 @@ fn by_words(case: &Case) -> Result<After, String> {
         match case.call {
             Call::Check => words::check(n, input),
             Call::Value => words::value(n, input, number),
+            Call::Reasons => words::reasons(n, input, number, out),
             Call::TruthVector => words::truth_vector(n, input, out),
             Call::Coefficients => words::coefficients(n, input, number, out),
             Call::Vector => words::vector(n, input, number, out),
@@ -132,7 +159,10 @@ fn by_names(case: &Case) -> After {
     let one = |value: u64| vec![value];
     let named: Result<Vec<u64>, Refusal> = match case.call {
         Call::Check => druthmoy::check(n, input).map(one),
-        Call::Value => druthmoy::value(n, input, number).map(|bit| vec![bit as u64]),
+        Call::Value => druthmoy::value(n, input, number).map(|Value { bit, trues }| vec![bit as u64, trues]),
+        Call::Reasons => {
+            druthmoy::reasons(n, input, number, &mut out).map(|Value { bit, trues }| vec![trues, bit as u64])
+        }
         Call::TruthVector => druthmoy::truth_vector(n, input, &mut out).map(one),
         Call::Coefficients => druthmoy::coefficients(n, input, number, &mut out).map(one),
         Call::Vector => druthmoy::vector(n, input, number, &mut out).map(one),
@@ -151,7 +181,7 @@ fn by_names(case: &Case) -> After {
     let mut answer = [0; 8];
     match named {
         Ok(values) => answer[2..2 + values.len()].copy_from_slice(&values),
-        Err(refusal) => answer[..3].copy_from_slice(&[refusal.reason.number(), refusal.place, refusal.differing]),
+        Err(refusal) => answer[..3].copy_from_slice(&[refusal.fault.number(), refusal.place, refusal.differing]),
     }
     After { answer, work, out }
 }

@@ -9,6 +9,7 @@ use model::script::encoded_script;
 pub fn all() -> Result<(), String> {
     let parts = [
         values_and_forms(),
+        reasons(),
         single_runs(),
         refused_steps(),
         settled(),
@@ -33,13 +34,38 @@ type Example = (Case, Vec<u64>);
 
 fn values_and_forms() -> Vec<Example> {
     vec![
-        (value(0, &[""]), vec![0, 0, 1]),
-        (value(0, &["", ""]), vec![0, 0, 0]),
+        (value(0, &[""]), vec![0, 0, 1, 1]),
+        (value(0, &["", ""]), vec![0, 0, 0, 2]),
         (on_bits(Call::BestPolarity, 2, &[0, 1, 1, 0], 0), vec![0, 0, 0, 2]),
         (on_bits(Call::BestPolarity, 2, &[0, 1, 1, 1], 0), vec![0, 0, 3, 2]),
         (on_bits(Call::BestPolarity, 0, &[1], 0), vec![0, 0, 0, 1]),
         (on_bits(Call::WriteForm, 2, &[1, 0, 0, 1], 3), vec![0, 0, 2]),
         (on_bits(Call::BestPolarity, 8, &[1; 256], 0), vec![0, 0, 0, 1]),
+    ]
+}
+
+/// Document 02, One. What is written is compared with the model's.
+fn reasons() -> Vec<Example> {
+    let list = ["1--", "000", "-1-", "11-", "0-1"];
+    let on = |n, input: Vec<u8>, number, room| Case { input, number, out: vec![7; room], ..empty(Call::Reasons, n) };
+    let shown = |n, list: &[&str], a, room| on(n, records(list), a, room);
+    let zeros = |count| vec![0; RECORD * count];
+    vec![
+        (shown(3, &list, 0b011, 10), vec![0, 0, 3, 1]),
+        (shown(3, &list, 0b110, 13), vec![0, 0, 2, 0]),
+        (shown(3, &list, 0b000, 10), vec![0, 0, 1, 1]),
+        (shown(2, &["1-", "01"], 0, 4), vec![0, 0, 0, 0]),
+        (shown(0, &["", ""], 0, 4), vec![0, 0, 2, 0]),
+        (shown(32, &[], 0, 0), vec![0, 0, 0, 0]),
+        // Room for the true products, and not for all.
+        (shown(3, &list, 0b011, 9), vec![5, 0]),
+        (shown(2, &["1-", "01"], 0, 0), vec![5, 0]),
+        (shown(3, &list, 0b1000, 9), vec![6, 0]),
+        (shown(2, &list, 0b1000, 9), vec![4, 1]),
+        (on(32, zeros(4096), 5, 2 * 4096), vec![0, 0, 4096, 0]),
+        (on(32, zeros(4095), 5, 2 * 4096), vec![0, 0, 4095, 1]),
+        (on(32, zeros(4096), 5, 2 * 4096 - 1), vec![5, 0]),
+        (on(32, zeros(4097), 5, 2 * 4097), vec![3, 0]),
     ]
 }
 
@@ -192,8 +218,8 @@ fn long_labels() -> Vec<Example> {
     vec![
         (Case { input: list.clone(), ..empty(Call::Check, 32) }, vec![0, 0, 1]),
         (Case { input: list.clone(), ..empty(Call::Check, 31) }, vec![4, 0]),
-        (at(0x7fff_ffff), vec![0, 0, 1]),
-        (at(0xffff_ffff), vec![0, 0, 0]),
+        (at(0x7fff_ffff), vec![0, 0, 1, 1]),
+        (at(0xffff_ffff), vec![0, 0, 0, 0]),
         (at(1 << 32), vec![6, 0]),
         (run(31, 0), vec![0, 0, 1, 1]),
         (run(32, 0), vec![9, 0]),

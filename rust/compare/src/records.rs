@@ -1,7 +1,7 @@
-//! The wrapper's cubes, steps and reasons against the model's: same bytes, same text, same numbers.
+//! The wrapper's cubes, steps and faults against the model's: same bytes, same text, same numbers.
 
 use crate::random::Random;
-use druthmoy::{Cube, Reason, Step};
+use druthmoy::{Cube, Fault, Step};
 use model::refusal::ORDERS;
 use model::{cube, script};
 use std::collections::BTreeSet;
@@ -13,19 +13,19 @@ pub fn all(seed: u64) -> Result<(), String> {
         same_cube(&mut random)?;
         same_step(&mut random)?;
     }
-    same_reasons()?;
+    same_faults()?;
     println!("{EACH} cubes written out, read and as records of both widths; {EACH} steps as records");
     Ok(())
 }
 
-/// The reasons are the numbers that the calls can answer, ascending, and each is found by its number.
-fn same_reasons() -> Result<(), String> {
+/// The faults are the numbers that the calls can answer, ascending, and each is found by its number.
+fn same_faults() -> Result<(), String> {
     let numbers: BTreeSet<u64> = ORDERS.iter().flat_map(|(_, numbers)| numbers.iter().copied()).collect();
-    let found: Vec<Option<Reason>> = numbers.iter().map(|&number| Reason::from_number(number)).collect();
-    if found != Reason::ALL.map(Some) || Reason::ALL.iter().any(|reason| !numbers.contains(&reason.number())) {
-        return Err(format!("the wrapper has {:?}, the calls answer {numbers:?}", Reason::ALL));
+    let found: Vec<Option<Fault>> = numbers.iter().map(|&number| Fault::from_number(number)).collect();
+    if found != Fault::ALL.map(Some) || Fault::ALL.iter().any(|fault| !numbers.contains(&fault.number())) {
+        return Err(format!("the wrapper has {:?}, the calls answer {numbers:?}", Fault::ALL));
     }
-    println!("{} reasons by their numbers", numbers.len());
+    println!("{} faults by their numbers", numbers.len());
     Ok(())
 }
 

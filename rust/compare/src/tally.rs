@@ -2,6 +2,7 @@
 
 use crate::choices::Choices;
 use crate::differ::{Call, Case};
+use crate::labels::Labels;
 use crate::refused_steps::RefusedSteps;
 use model::cube::RECORD;
 use model::refusal::ORDERS;
@@ -11,11 +12,12 @@ use std::fmt;
 #[derive(Default)]
 pub struct Tally {
     /// By call, then by refusal number; 0 counts the accepted calls.
-    answers: [[u64; 21]; 11],
+    answers: [[u64; 21]; 12],
     /// Steps of accepted runs by operation.
     steps: [u64; 6],
     refused_steps: RefusedSteps,
     choices: Choices,
+    labels: Labels,
     /// Accepted lists of 32 variables with a literal at the last of them.
     with_the_last_variable: u64,
     longest_list: usize,
@@ -29,6 +31,9 @@ impl Tally {
         self.answers[case.call as usize][number] += 1;
         if number == 0 && case.n == 32 && case.input.chunks(RECORD).any(|record| record[3] >= 0x80) {
             self.with_the_last_variable += 1;
+        }
+        if case.call == Call::Reasons {
+            self.labels.add(case, answer);
         }
         let has_script = matches!(case.call, Call::Run | Call::Settle);
         match number {
@@ -49,7 +54,7 @@ impl Tally {
     }
 
     /// The refusals that the documents give a call and that were not met, and those met that they do not give; and what
-    /// is amiss with refused steps and with choices.
+    /// is amiss with refused steps, with choices and with labels.
     pub fn amiss(&self) -> Vec<String> {
         let mut amiss = Vec::new();
         for ((name, numbers), answers) in ORDERS.iter().zip(&self.answers) {
@@ -65,6 +70,7 @@ impl Tally {
         }
         amiss.extend(self.refused_steps.amiss());
         amiss.extend(self.choices.amiss());
+        amiss.extend(self.labels.amiss());
         amiss
     }
 }
@@ -92,6 +98,7 @@ impl fmt::Display for Tally {
         writeln!(f, "steps of accepted scripts: {drops} drops, {joins} joins, {splits} splits, {turns} turns, {ls} L")?;
         write!(f, "{}", self.refused_steps)?;
         write!(f, "{}", self.choices)?;
+        write!(f, "{}", self.labels)?;
         writeln!(f, "accepted lists with a literal at variable 31: {}", self.with_the_last_variable)?;
         write!(
             f,

@@ -1,7 +1,14 @@
 //! The calls: each answers what it found, or the refusal that it met.
 
-use crate::refusal::{Reason, Refusal};
+use crate::refusal::{Fault, Refusal};
 use crate::words::{self, Words};
+
+/// A list's value at an assignment, and the number of products that are true there, whose parity it is.
+#[derive(Clone, Copy, Debug, PartialEq, Eq)]
+pub struct Value {
+    pub bit: bool,
+    pub trues: u64,
+}
 
 /// A best polarity and the number of products of its form.
 #[derive(Clone, Copy, Debug, PartialEq, Eq)]
@@ -34,8 +41,14 @@ pub fn check(n: u64, list: &[u8]) -> Result<u64, Refusal> {
 }
 
 /// The list's value at an assignment.
-pub fn value(n: u64, list: &[u8], a: u64) -> Result<bool, Refusal> {
-    accepted(words::value(n, list, a)).map(|[bit, ..]| bit == 1)
+pub fn value(n: u64, list: &[u8], a: u64) -> Result<Value, Refusal> {
+    accepted(words::value(n, list, a)).map(|[bit, trues, ..]| Value { bit: bit == 1, trues })
+}
+
+/// Writes the places of the products that are true at an assignment, ascending, 2 bytes each, to the front of `out`, which
+/// has room for the places of all products; answers the list's value.
+pub fn reasons(n: u64, list: &[u8], a: u64, out: &mut [u8]) -> Result<Value, Refusal> {
+    accepted(words::reasons(n, list, a, out)).map(|[trues, bit, ..]| Value { bit: bit == 1, trues })
 }
 
 /// Writes the list's values at all assignments to the front of `out`; answers how many.
@@ -92,7 +105,7 @@ fn accepted([number, place, values @ ..]: Words) -> Result<[u64; 6], Refusal> {
     if number == 0 {
         return Ok(values);
     }
-    let reason = Reason::from_number(number).expect("the library answers refusal numbers from 1 to 11 and 13 to 20");
+    let fault = Fault::from_number(number).expect("the library answers refusal numbers from 1 to 11 and 13 to 20");
     let [differing, ..] = values;
-    Err(Refusal { reason, place, differing })
+    Err(Refusal { fault, place, differing })
 }

@@ -15,14 +15,26 @@
 //! assert_eq!(burned.take(settled.burned as usize).collect::<Vec<_>>(), ["--", "00"]);
 //! ```
 //!
+//! The products that are true at a label, by their places, say why it has its bit:
+//!
+//! ```
+//! use druthmoy::{Cube, PLACE, RECORD, Value, reasons};
+//!
+//! let list: Vec<u8> = ["1-", "00", "-1"].iter().flat_map(|text| text.parse::<Cube>().unwrap().record()).collect();
+//! let mut out = vec![0; PLACE * (list.len() / RECORD)];
+//! assert_eq!(reasons(2, &list, 3, &mut out), Ok(Value { bit: false, trues: 2 }));
+//! let places = out.as_chunks().0.iter().map(|&place| u16::from_le_bytes(place));
+//! assert_eq!(places.take(2).collect::<Vec<_>>(), [0, 2]);
+//! ```
+//!
 //! A refusal at a step that has two cubes says in how many variables they differ:
 //!
 //! ```
-//! use druthmoy::{Cube, Reason, Refusal, Step, run};
+//! use druthmoy::{Cube, Fault, Refusal, Step, run};
 //!
 //! let list: Vec<u8> = ["1-0", "-10"].iter().flat_map(|text| text.parse::<Cube>().unwrap().record()).collect();
 //! let refusal = run(3, &list, &Step::Join { i: 0, j: 1 }.record(), &mut vec![0; list.len()]).unwrap_err();
-//! assert_eq!(refusal, Refusal { reason: Reason::JoinNotOne, place: 0, differing: 2 });
+//! assert_eq!(refusal, Refusal { fault: Fault::JoinNotOne, place: 0, differing: 2 });
 //! assert_eq!(refusal.to_string(), "refused 17 at 0");
 //! ```
 //!
@@ -45,11 +57,11 @@ mod refusal;
 pub mod words;
 
 pub use calls::{
-    Fixed, Run, Settled, best_polarity, check, coefficients, narrow_from_wide, run, settle, truth_vector, value,
-    vector, wide_from_narrow, write_form,
+    Fixed, Run, Settled, Value, best_polarity, check, coefficients, narrow_from_wide, reasons, run, settle,
+    truth_vector, value, vector, wide_from_narrow, write_form,
 };
-pub use records::{Cube, NARROW_RECORD, NotACube, RECORD, Step};
-pub use refusal::{Reason, Refusal};
+pub use records::{Cube, NARROW_RECORD, NotACube, PLACE, RECORD, Step};
+pub use refusal::{Fault, Refusal};
 
 #[cfg(feature = "standin")]
 use standin as _;

@@ -3,6 +3,15 @@
 unsafe extern "C" {
     pub fn dm_check(n: u64, list: *const u8, list_length: usize, answer: *mut u64);
     pub fn dm_value(n: u64, list: *const u8, list_length: usize, a: u64, answer: *mut u64);
+    pub fn dm_reasons(
+        n: u64,
+        list: *const u8,
+        list_length: usize,
+        a: u64,
+        out: *mut u8,
+        out_length: usize,
+        answer: *mut u64,
+    );
     pub fn dm_truth_vector(
         n: u64,
         list: *const u8,

@@ -1,4 +1,4 @@
-//! The records that lists and scripts are made of.
+//! The records that lists and scripts are made of, and the width of a place.
 
 use std::fmt;
 use std::str::FromStr;
@@ -6,6 +6,9 @@ use std::str::FromStr;
 /// Bytes of a cube's record, and of the record that it has in an old list.
 pub const RECORD: usize = 8;
 pub const NARROW_RECORD: usize = 4;
+
+/// Bytes of a place among reasons.
+pub const PLACE: usize = 2;
 
 /// A cube: its literals by two masks, bit k for variable k.
 #[derive(Clone, Copy, Debug, Default, PartialEq, Eq, Hash)]

@@ -5,7 +5,7 @@ use std::fmt;
 /// Why a call was refused. The discriminant is the number that document 01 or 02 gives it.
 #[derive(Clone, Copy, Debug, PartialEq, Eq, Hash)]
 #[repr(u64)]
-pub enum Reason {
+pub enum Fault {
     /// n above the call's limit.
     TooManyVariables = 1,
     /// List length not a multiple of 8, or of 4 for an old list.
@@ -47,43 +47,43 @@ pub enum Reason {
     TooManyForNarrow = 20,
 }
 
-impl Reason {
-    /// All reasons, by number.
-    pub const ALL: [Reason; 19] = [
-        Reason::TooManyVariables,
-        Reason::ListLength,
-        Reason::TooManyRecords,
-        Reason::BadRecord,
-        Reason::BufferTooSmall,
-        Reason::Assignment,
-        Reason::ScriptLength,
-        Reason::TooManySteps,
-        Reason::BadStep,
-        Reason::PlaceOutside,
-        Reason::SamePlace,
-        Reason::Full,
-        Reason::BadVector,
-        Reason::Polarity,
-        Reason::DropUnequal,
-        Reason::JoinNotOne,
-        Reason::TurnNotTwo,
-        Reason::TurnAgree,
-        Reason::TooManyForNarrow,
+impl Fault {
+    /// All faults, by number.
+    pub const ALL: [Fault; 19] = [
+        Fault::TooManyVariables,
+        Fault::ListLength,
+        Fault::TooManyRecords,
+        Fault::BadRecord,
+        Fault::BufferTooSmall,
+        Fault::Assignment,
+        Fault::ScriptLength,
+        Fault::TooManySteps,
+        Fault::BadStep,
+        Fault::PlaceOutside,
+        Fault::SamePlace,
+        Fault::Full,
+        Fault::BadVector,
+        Fault::Polarity,
+        Fault::DropUnequal,
+        Fault::JoinNotOne,
+        Fault::TurnNotTwo,
+        Fault::TurnAgree,
+        Fault::TooManyForNarrow,
     ];
 
     pub fn number(self) -> u64 {
         self as u64
     }
 
-    pub fn from_number(number: u64) -> Option<Reason> {
-        Reason::ALL.into_iter().find(|reason| reason.number() == number)
+    pub fn from_number(number: u64) -> Option<Fault> {
+        Fault::ALL.into_iter().find(|fault| fault.number() == number)
     }
 }
 
-/// A refusal: its reason, which has the number, its place and the number of differing variables.
+/// A refusal: its fault, which has the number, its place and the number of differing variables.
 #[derive(Clone, Copy, Debug, PartialEq, Eq, Hash)]
 pub struct Refusal {
-    pub reason: Reason,
+    pub fault: Fault,
     pub place: u64,
     /// The number of variables in which the two cubes of the step differ, as they stood before it; 0 in every refusal
     /// but 16 to 19.
@@ -93,7 +93,7 @@ pub struct Refusal {
 /// As the program prints it.
 impl fmt::Display for Refusal {
     fn fmt(&self, f: &mut fmt::Formatter) -> fmt::Result {
-        write!(f, "refused {} at {}", self.reason.number(), self.place)
+        write!(f, "refused {} at {}", self.fault.number(), self.place)
     }
 }
 

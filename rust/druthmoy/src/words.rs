@@ -28,6 +28,15 @@ pub fn value(n: u64, list: &[u8], a: u64) -> Words {
 }
 
 #[inline]
+pub fn reasons(n: u64, list: &[u8], a: u64, out: &mut [u8]) -> Words {
+    let mut answer = UNANSWERED;
+    unsafe {
+        raw::dm_reasons(n, list.as_ptr(), list.len(), a, out.as_mut_ptr(), out.len(), answer.as_mut_ptr());
+    }
+    answer
+}
+
+#[inline]
 pub fn truth_vector(n: u64, list: &[u8], out: &mut [u8]) -> Words {
     let mut answer = UNANSWERED;
     unsafe {

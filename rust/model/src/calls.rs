@@ -1,6 +1,6 @@
 //! The library's calls over bytes: what each refuses, in document 01's order, what it answers and what it writes.
 
-use crate::cube::{self, Cube, NARROW_RECORD, RECORD, encoded_list, encoded_narrow_list};
+use crate::cube::{self, Cube, NARROW_RECORD, PLACE, RECORD, encoded_list, encoded_narrow_list, encoded_places};
 use crate::polarity;
 use crate::refusal::{Refusal, refuse_at_if, refuse_if};
 use crate::script::{self, STEP, Step};
@@ -31,10 +31,19 @@ pub fn check(n: u64, list: &[u8]) -> Outcome {
     Ok(vec![list.len() as u64])
 }
 
+/// Document 02, One: "the value call also answers with the number of true products".
 pub fn value(n: u64, list: &[u8], a: u64) -> Outcome {
-    let list = checked_list(n, MOST_VARIABLES, list)?;
-    refuse_if(has_bit_from(n, a), 6)?;
-    Ok(vec![cube::value(&list, a) as u64])
+    let list = checked_list_at(n, list, a)?;
+    Ok(vec![cube::value(&list, a) as u64, cube::trues(&list, a) as u64])
+}
+
+/// The same: "answer their number and the bit"; "those of the value call, then 5 for a buffer shorter than 2 bytes a record".
+pub fn reasons(n: u64, list: &[u8], a: u64, out: &mut [u8]) -> Outcome {
+    let list = checked_list_at(n, list, a)?;
+    refuse_if(out.len() < PLACE * list.len(), 5)?;
+    let places = cube::reasons(&list, a);
+    write_front(out, &encoded_places(&places));
+    Ok(vec![places.len() as u64, cube::value(&list, a) as u64])
 }
 
 pub fn truth_vector(n: u64, list: &[u8], out: &mut [u8]) -> Outcome {
@@ -125,6 +134,13 @@ pub fn narrow_from_wide(n: u64, list: &[u8], out: &mut [u8]) -> Outcome {
 /// Rules 1 to 4.
 fn checked_list(n: u64, limit: u64, list: &[u8]) -> Result<Vec<Cube>, Refusal> {
     checked_records(n, limit, RECORD, list)
+}
+
+/// Rules 1 to 4 and 6.
+fn checked_list_at(n: u64, list: &[u8], a: u64) -> Result<Vec<Cube>, Refusal> {
+    let list = checked_list(n, MOST_VARIABLES, list)?;
+    refuse_if(has_bit_from(n, a), 6)?;
+    Ok(list)
 }
 
 /// Rules 1 to 4 of records that have so many bytes.

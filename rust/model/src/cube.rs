@@ -9,6 +9,9 @@ pub const RECORD: usize = 8;
 /// Bytes of a record of an old list.
 pub const NARROW_RECORD: usize = 4;
 
+/// Bytes of a place. Document 02, One: "2 bytes each".
+pub const PLACE: usize = 2;
+
 /// The product is true where each literal that stands in it is.
 pub fn is_true(cube: &Cube, a: u64) -> bool {
     cube.iter().enumerate().all(|(k, &code)| match code {
@@ -18,9 +21,19 @@ pub fn is_true(cube: &Cube, a: u64) -> bool {
     })
 }
 
+/// "How many of its products are true there."
+pub fn trues(list: &[Cube], a: u64) -> usize {
+    list.iter().filter(|cube| is_true(cube, a)).count()
+}
+
 /// "A list's value at an assignment is the parity of how many of its products are true there."
 pub fn value(list: &[Cube], a: u64) -> u8 {
-    (list.iter().filter(|cube| is_true(cube, a)).count() % 2) as u8
+    (trues(list, a) % 2) as u8
+}
+
+/// Document 02, One: "the places of all products true there, ascending".
+pub fn reasons(list: &[Cube], a: u64) -> Vec<usize> {
+    (0..list.len()).filter(|&place| is_true(&list[place], a)).collect()
 }
 
 /// The values at all assignments, in order.
@@ -65,6 +78,11 @@ pub fn encoded_list(list: &[Cube]) -> Vec<u8> {
 /// The records of an old list, end to end.
 pub fn encoded_narrow_list(list: &[Cube]) -> Vec<u8> {
     list.iter().flat_map(encoded::<NARROW_RECORD>).collect()
+}
+
+/// The bytes of places, end to end.
+pub fn encoded_places(places: &[usize]) -> Vec<u8> {
+    places.iter().flat_map(|place| [(place % 256) as u8, (place / 256) as u8]).collect()
 }
 
 /// A cube written out: `0`, `1` or `-` per variable.

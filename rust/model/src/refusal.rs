@@ -25,9 +25,10 @@ pub fn refuse_cubes_if(broken: bool, number: u64, place: usize, differing: &[usi
 }
 
 /// The numbers that each call can answer, in the order in which it tests them.
-pub const ORDERS: [(&str, &[u64]); 11] = [
+pub const ORDERS: [(&str, &[u64]); 12] = [
     ("check", &[1, 2, 3, 4]),
     ("value", &[1, 2, 3, 4, 6]),
+    ("reasons", &[1, 2, 3, 4, 6, 5]),
     ("truth_vector", &[1, 2, 3, 4, 5]),
     ("coefficients", &[1, 14, 15, 5]),
     ("vector", &[1, 14, 15, 5]),

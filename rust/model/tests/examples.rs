@@ -3,7 +3,7 @@
 
 use model::calls::{self, Outcome, words};
 use model::cost::standing;
-use model::cube::{Cube, RECORD, encoded_list, encoded_narrow_list, read, truth_vector, value, written};
+use model::cube::{Cube, RECORD, encoded_list, encoded_narrow_list, read, reasons, truth_vector, value, written};
 use model::polarity::{Best, best, coefficients, form, vector};
 use model::program::printed;
 use model::refusal::Refusal;
@@ -124,6 +124,49 @@ fn values_without_variables() {
     assert_eq!(value(&[], 0), 0);
 }
 
+/// Document 02, One.
+#[test]
+fn places_of_the_true_products() {
+    let cubes = list(&["1--", "000", "-1-", "11-", "0-1"]);
+    assert_eq!(reasons(&cubes, 0b011), [0, 2, 3]);
+    assert_eq!(reasons(&cubes, 0b110), [2, 4]);
+    assert_eq!(reasons(&cubes, 0b000), [1]);
+    assert_eq!(reasons(&list(&["1-", "01"]), 0), [0; 0]);
+    assert_eq!(reasons(&list(&["", ""]), 0), [0, 1]);
+    assert_eq!(reasons(&[], 0), [0; 0]);
+}
+
+#[test]
+fn reasons_in_a_lent_buffer() {
+    let list = records(&["1--", "000", "-1-", "11-", "0-1"]);
+    let shown = |a, room: usize| {
+        let mut out = vec![7; room];
+        let outcome = calls::reasons(3, &list, a, &mut out);
+        (outcome, out)
+    };
+    assert_eq!(shown(0b011, 10), (Ok(vec![3, 1]), vec![0, 0, 2, 0, 3, 0, 7, 7, 7, 7]));
+    assert_eq!(shown(0b110, 11), (Ok(vec![2, 0]), vec![2, 0, 4, 0, 7, 7, 7, 7, 7, 7, 7]));
+    // Room for the true products, and not for all.
+    assert_eq!(shown(0b011, 9), (refused(5, 0), vec![7; 9]));
+    assert_eq!(shown(0b1000, 9), (refused(6, 0), vec![7; 9]));
+    assert_eq!(calls::value(3, &list, 0b011), Ok(vec![1, 3]));
+    assert_eq!(calls::value(3, &list, 0b110), Ok(vec![0, 2]));
+
+    let mut out = [7; 4];
+    assert_eq!(calls::reasons(0, &records(&["", ""]), 0, &mut out), Ok(vec![2, 0]));
+    assert_eq!(out, [0, 0, 1, 0]);
+    assert_eq!(calls::reasons(2, &records(&["1-", "01"]), 0, &mut [7; 4]), Ok(vec![0, 0]));
+    assert_eq!(calls::reasons(32, &[], 0, &mut []), Ok(vec![0, 0]));
+}
+
+#[test]
+fn reasons_of_the_longest_list() {
+    let mut out = vec![7; 2 * 4096];
+    assert_eq!(calls::reasons(32, &[0; RECORD * 4096], 5, &mut out), Ok(vec![4096, 0]));
+    assert_eq!((&out[2 * 255..][..4], &out[2 * 4095..]), (&[0xff, 0, 0, 1][..], &[0xff, 0x0f][..]));
+    assert_eq!(calls::reasons(32, &[0; RECORD * 4096], 5, &mut out[1..]), refused(5, 0));
+}
+
 #[test]
 fn what_the_program_prints() {
     let script = encoded_script(&[Join { i: 1, j: 2 }, Turn { v: 0, i: 0, j: 1 }]);
@@ -164,6 +207,7 @@ fn limits() {
     let (mut work, mut out) = ([0; RECORD], [0; RECORD]);
     assert_eq!(calls::check(33, &[]), refused(1, 0));
     assert_eq!(calls::value(33, &[], 0), refused(1, 0));
+    assert_eq!(calls::reasons(33, &[], 0, &mut out), refused(1, 0));
     assert_eq!(calls::truth_vector(33, &[], &mut out), refused(1, 0));
     assert_eq!(calls::coefficients(33, &[], 0, &mut out), refused(1, 0));
     assert_eq!(calls::vector(33, &[], 0, &mut out), refused(1, 0));
@@ -180,8 +224,8 @@ fn the_last_of_thirty_two_variables() {
     let last = records(&[&format!("{}0", "-".repeat(31))]);
     assert_eq!(last, [0, 0, 0, 0x80, 0, 0, 0, 0]);
     assert_eq!(calls::check(31, &last), refused(4, 0));
-    assert_eq!(calls::value(32, &last, 0x7fff_ffff), Ok(vec![1]));
-    assert_eq!(calls::value(32, &last, 0xffff_ffff), Ok(vec![0]));
+    assert_eq!(calls::value(32, &last, 0x7fff_ffff), Ok(vec![1, 1]));
+    assert_eq!(calls::value(32, &last, 0xffff_ffff), Ok(vec![0, 0]));
     assert_eq!(calls::value(32, &last, 1 << 32), refused(6, 0));
     let mut work = [7; RECORD];
     let exchanges = encoded_script(&[L { v: 31, literal: 0 }, L { v: 31, literal: 1 }]);

@@ -24,6 +24,22 @@ pub unsafe extern "C" fn dm_value(n: u64, list: *const u8, list_length: usize, a
 }
 
 #[unsafe(no_mangle)]
+pub unsafe extern "C" fn dm_reasons(
+    n: u64,
+    list: *const u8,
+    list_length: usize,
+    a: u64,
+    out: *mut u8,
+    out_length: usize,
+    answer: *mut u64,
+) {
+    unsafe {
+        let out = from_raw_parts_mut(out, out_length);
+        give(calls::reasons(n, from_raw_parts(list, list_length), a, out), answer)
+    }
+}
+
+#[unsafe(no_mangle)]
 pub unsafe extern "C" fn dm_truth_vector(
     n: u64,
     list: *const u8,

@@ -1,10 +1,12 @@
-//! Check and value: one masked comparison a record; and the truth vector, in either way.
+//! Check, value and reasons: one masked comparison a record; and the truth vector, in either way.
 
 use super::cube::{Cube, RECORD, VARIABLES, variables_below};
 use super::vectors::Way;
 use super::{Refusal, Words, refusal, refuse_if, words};
 
 pub type Records<'a> = &'a [[u8; RECORD]];
+
+const PLACE: usize = 2;
 
 #[inline(never)]
 pub fn check(n: u64, list: &[u8], answer: &mut Words) {
@@ -14,6 +16,11 @@ pub fn check(n: u64, list: &[u8], answer: &mut Words) {
 #[inline(never)]
 pub fn value(n: u64, list: &[u8], a: u64, answer: &mut Words) {
     *answer = words(try_value(n, list, a));
+}
+
+#[inline(never)]
+pub fn reasons(n: u64, list: &[u8], a: u64, out: &mut [u8], answer: &mut Words) {
+    *answer = words(try_reasons(n, list, a, out));
 }
 
 #[inline(never)]
@@ -55,14 +62,37 @@ fn first_bad(n: u64, records: Records) -> Option<usize> {
     None
 }
 
-fn value_at(records: Records, a: u32) -> u8 {
-    (records.iter().filter(|record| Cube::read(record).holds_at(a)).count() & 1) as u8
-}
-
-fn try_value(n: u64, list: &[u8], a: u64) -> Result<[u64; 1], Refusal> {
+/// Rules 1 to 4 and 6.
+fn checked_at(n: u64, list: &[u8], a: u64) -> Result<Records<'_>, Refusal> {
     let records = checked(n, VARIABLES, list)?;
     refuse_if(a >> n != 0, 6)?;
-    Ok([value_at(records, a as u32) as u64])
+    Ok(records)
+}
+
+fn try_value(n: u64, list: &[u8], a: u64) -> Result<[u64; 2], Refusal> {
+    let records = checked_at(n, list, a)?;
+    let trues = records.iter().filter(|record| Cube::read(record).holds_at(a as u32)).count();
+    Ok([trues & 1, trues].map(|word| word as u64))
+}
+
+fn try_reasons(n: u64, list: &[u8], a: u64, out: &mut [u8]) -> Result<[u64; 2], Refusal> {
+    let records = checked_at(n, list, a)?;
+    refuse_if(out.len() < PLACE * records.len(), 5)?;
+    let trues = write_places(records, a as u32, out);
+    Ok([trues, trues & 1].map(|word| word as u64))
+}
+
+/// The places of the true products; answers how many.
+fn write_places(records: Records, a: u32, out: &mut [u8]) -> usize {
+    let (entries, _) = out.as_chunks_mut::<PLACE>();
+    let mut trues = 0;
+    for (place, record) in records.iter().enumerate() {
+        if Cube::read(record).holds_at(a) {
+            entries[trues] = (place as u16).to_le_bytes();
+            trues += 1;
+        }
+    }
+    trues
 }
 
 fn try_truth_vector<W: Way>(n: u64, list: &[u8], out: &mut [u8]) -> Result<[u64; 1], Refusal> {
