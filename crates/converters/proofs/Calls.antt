@@ -3,10 +3,10 @@
 -- Assumes nothing.
 use mathlib.Core.Path.{_≡_, refl, sym, ap, _∙_, subst}
 use mathlib.Core.List.{List, [], _∷_}
-use Prim.Native.Nat.{ℕ, _*_, _/_, _≤_, _<_}
+use Prim.Native.Nat.{ℕ, _*_, _≤_, _<_}
 use native.Mathlib.Omega.{arith}
 use lib.Dec.{leb}
-use lib.ListN.{length, getD}
+use lib.ListN.{length}
 use borrow.Author.Tests.{le-leb, lt-leb, leb-true}
 use Rattle.records.specs.declared.Refusal.{Refusal}
 use Rattle.records.specs.Answers.{Outcome, accepted, refused, refusal, unless, andThen, afterCall}
@@ -14,7 +14,7 @@ use Rattle.records.specs.Records.{Codec, listOf, written}
 use Rattle.records.proofs.Answers.{accepted-values, and-then, and-not, unless-passes, unless-fails, unless-accepted, both-accepted, call-refused, call-accepted}
 use Rattle.records.proofs.Records.{length-list}
 use Rattle.cube.specs.declared.Cube.{Cube}
-use Rattle.cube.specs.Lists.{mostVariables, mostRecords, cubes}
+use Rattle.cube.specs.Lists.{mostVariables, cubes}
 use Rattle.cube.specs.Calls.{checkListOf}
 use Rattle.cube.proofs.Lists.{AcceptedList, check-records, check-accepts, accepts-check, count-is}
 use Rattle.converters.specs.NarrowRecord.{narrowWidth, narrowCubes, narrowVariables}

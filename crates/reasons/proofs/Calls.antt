@@ -13,7 +13,7 @@ use Rattle.records.specs.Records.{written}
 use Rattle.records.specs.Places.{placeWidth, places}
 use Rattle.records.proofs.Answers.{accepted-values, and-then, and-not, unless-passes, unless-fails, unless-accepted, both-accepted, call-refused, call-accepted}
 use Rattle.records.proofs.Records.{length-list}
-use Rattle.cube.specs.Lists.{cubes, cubesOf, trues, listValue}
+use Rattle.cube.specs.Lists.{cubes, cubesOf, listValue}
 use Rattle.cube.specs.Calls.{checkAt}
 use Rattle.cube.proofs.Calls.{AcceptedAt, at-accepts, count-at}
 use Rattle.reasons.specs.Calls.{truePlaces, reasonsOutcome, reasonsAfter}
