@@ -1,4 +1,5 @@
--- The laws of a line's number and of reading a line. Assumes nothing.
+-- The laws of a line's number, of reading a line and of printing one. Assumes nothing.
 pub mod Counts
 pub mod Lines
+pub mod Texts
 pub mod Determined

@@ -1,13 +1,15 @@
--- A number's digits: the last one, and those before it.
+-- A number's digits: the last one and those before it, and how many they are.
 -- Assumes nothing.
-use mathlib.Core.Path.{_≡_, refl, sym, ap, _∙_}
+use mathlib.Core.Path.{_≡_, refl, sym, ap}
+use mathlib.Core.Logic.{⊎-elim}
 use mathlib.Core.Bool.{Bool, true, false, cond}
 use mathlib.Core.List.{List, [], _∷_, _++_}
-use Prim.Native.Nat.{ℕ, zero, suc, _+_, _*_, _-_, _/_, _%_, _≤_, _<_}
+use Prim.Native.Nat.{ℕ, zero, suc, _+_, _*_, _-_, _/_, _%_, _^_, _≤_, _<_}
 use native.Mathlib.Omega.{arith}
 use lib.Dec.{ltb, leb}
+use lib.ListN.{length, length-append}
 use borrow.Author.Tests.{ltb-false, leb-true, le-ltb, lt-ltb, le-leb, lt-leb}
-use Rattle.bits.proofs.Bools.{same-bool}
+use Rattle.bits.proofs.Bools.{same-bool, below-or}
 use Rattle.text.specs.Places.{Laid}
 use Rattle.text.specs.Numbers.{decimalBy, decimal}
 use Rattle.text.proofs.Laying.{after}
@@ -36,6 +38,15 @@ unfolding decimalBy
 decimal-large zero h = absurd (omega arith)
 decimal-large (suc x) h =
     simp (le-ltb (suc x) 10 h) (ap (λ (s : List ℕ). s ++ ((48 + suc x % 10) ∷ [])) (enough x (suc x / 10) (suc x / 10) (omega arith) (omega arith)))
+
+-- a number below 10^k has at most k digits, where k is not 0
+pub decimal-short : (k x : ℕ) → x < 10 ^ suc k → length (decimal x) ≤ suc k
+decimal-short zero x h = rw (decimal-small x (omega arith)) (omega arith)
+decimal-short (suc k) x h =
+    ⊎-elim
+    (λ (small : x < 10). rw (decimal-small x small) (omega arith))
+    (λ (large : 10 ≤ x). rw (decimal-large x large) (simp length-append (omega (arith, decimal-short k (x / 10) (omega arith)))))
+    (below-or x 10)
 
 -- the test for one more digit, with no number above `most` on the way
 pub digit-above : (x d most : ℕ) → most < d → false ≡ leb (x * 10 + d) most

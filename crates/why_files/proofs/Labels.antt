@@ -1,33 +1,21 @@
 -- For readers: what a label's line gives, and that a line that is no number is refused by 6.
 -- Assumes nothing.
 use mathlib.Core.Path.{_≡_, ap, _∙_}
-use mathlib.Core.Logic.{⊎-elim}
 use mathlib.Core.List.{List}
-use Prim.Native.Nat.{ℕ, zero, suc, _/_, _^_, _≤_, _<_}
+use Prim.Native.Nat.{ℕ, _^_, _<_}
 use native.Mathlib.Omega.{arith}
-use lib.ListN.{length, length-append}
 use lib.Pow.{pow-mono}
 use borrow.Author.Tests.{le-ltb}
-use Rattle.bits.proofs.Bools.{below-or}
 use Rattle.records.specs.Answers.{refused, refusal}
 use Rattle.records.proofs.Answers.{and-then, unless-fails}
 use Rattle.cube.specs.Lists.{cubes, mostVariables}
 use Rattle.cube.specs.Calls.{checkAt}
 use Rattle.cube.proofs.Lists.{AcceptedList, accepts-check}
 use Rattle.text.specs.Numbers.{decimal}
-use Rattle.text.proofs.Numbers.{decimal-small, decimal-large}
+use Rattle.text.proofs.Numbers.{decimal-short}
 use Rattle.program.specs.declared.line.Line.the-variants.{Number, Bad}
 use Rattle.program.proofs.Lines.{decimal-line}
 use Rattle.why_files.specs.Labels.{noLabel, labelNumber, labelOf, labelLine}
-
--- a number below 10^k has at most k digits, where k is not 0
-decimal-short : (k x : ℕ) → x < 10 ^ suc k → length (decimal x) ≤ suc k
-decimal-short zero x h = rw (decimal-small x (omega arith)) (omega arith)
-decimal-short (suc k) x h =
-    ⊎-elim
-    (λ (small : x < 10). rw (decimal-small x small) (omega arith))
-    (λ (large : 10 ≤ x). rw (decimal-large x large) (simp length-append (omega (arith, decimal-short k (x / 10) (omega arith)))))
-    (below-or x 10)
 
 -- a line of a number gives that number
 pub label-number : (l : List ℕ) (a : ℕ) → labelNumber l ≡ Number a → labelLine l ≡ a

@@ -9,13 +9,33 @@ use program::print;
 use reasons::Reasoned;
 use records::Refusal;
 use records::numbers;
+ghost use mathlib.Core.Path.{_≡_};
+ghost use mathlib.Core.List.{[], _∷_, _++_};
+ghost use Prim.Native.Nat.{_<_};
+ghost use lib.ListN.{length, take};
+ghost use Rattle.io.specs.Counts.{Counts};
+ghost use Rattle.text.specs.Numbers.{decimal};
 
 // Bytes of the places of the longest list.
 const PLACES_BYTES: usize = reasons::PLACE_WIDTH * cube::list::MOST_RECORDS;
 
+// A place's digits, at most five of a number of two bytes, and its newline.
+const LINE_BYTES: usize = 6;
+
+// A place in decimal and its newline at the front of a line, which has room for them, and how long they are.
+fn spell(place: u16, line: &mut [u8]) -> usize
+    requires { ⌜ length (decimal place) < length (now line) ⌝ }
+    ensures { λ r. ⌜ Counts r (now (line .exit)) ⌝ }
+    ensures { λ r. ⌜ take r (now (line .exit)) ≡ decimal place ++ (10 ∷ []) ⌝ }
+{
+    let end = text::number::put_number(line, 0, place as usize);
+    text::place::put_byte(line, end, b'\n')
+}
+
 fn place_line(place: u16) {
-    print::number(b"", place as usize);
-    print::text(b"\n");
+    let mut line = [0u8; LINE_BYTES];
+    let end = spell(place, &mut line);
+    print::text(&line[..end]);
 }
 
 // Every place of a buffer, one a line.

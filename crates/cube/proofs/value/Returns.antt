@@ -8,7 +8,7 @@ use lib.ListN.{length, drop}
 use borrow.Author.Tests.{le-ltb, le-leb, lt-leb}
 use Rattle.records.specs.declared.Refusal.{Refusal}
 use Rattle.records.specs.Answers.{Outcome, accepted, refused, refusal}
-use Rattle.records.proofs.Answers.{and-then, and-not, after-accepted, after-refused}
+use Rattle.records.proofs.Answers.{and-then, and-not, unless-passes, unless-fails, call-refused, call-accepted}
 use Rattle.cube.specs.Lists.{cubes, cubesOf, trues, listValue, truthVector, mostVariables, vectorVariables}
 use Rattle.cube.specs.Calls.{checkList, checkAt, valueOutcome, vectorOutcome, vectorAfter}
 use Rattle.cube.proofs.Lists.{check-accepts, count-is}
@@ -40,30 +40,24 @@ module _ (n : ℕ) (b : List ℕ) (a : ℕ) where
 -- ---- truth vector
 
 -- what a call answers, and the buffer after it
-pub record Vectored (n : ℕ) (b out : List ℕ) (o : Outcome) (out′ : List ℕ) : Type 0 where
-  pub answer : o ≡ vectorOutcome n b (length out)
-  pub buffer : out′ ≡ vectorAfter n b out
+abbrev pub Vectored : ℕ → List ℕ → List ℕ → Outcome → List ℕ → Type 0
+Vectored n b out o out′ = (o ≡ vectorOutcome n b (length out)) × (out′ ≡ vectorAfter n b out)
 
 module _ (n : ℕ) (b out : List ℕ) where
-  refusing : (r : Refusal) → refused r ≡ vectorOutcome n b (length out) → Vectored n b out (refused r) out
-  unfolding vectorAfter
-  refusing r e = record { answer = e; buffer = sym (after-refused _ _ out r (sym e)) }
-
   pub vector-refused : (r : Refusal) → checkList vectorVariables n b ≡ refused r → Vectored n b out (refused r) out
-  unfolding vectorOutcome
-  vector-refused r e = refusing r (sym (and-not _ _ r e))
+  unfolding vectorOutcome vectorAfter
+  vector-refused r e = call-refused _ _ out r (and-not _ _ r e)
 
-  module _ (v : List ℕ) (e : checkList vectorVariables n b ≡ accepted v) where
-    pub vector-short : (r : Refusal) → r ≡ refusal 5 0 → (assignments : ℕ) → assignments ≡ 2 ^ n → length out < assignments → Vectored n b out (refused r) out
-    unfolding vectorOutcome
-    vector-short r er assignments es h =
+  module _ (v : List ℕ) (e : checkList vectorVariables n b ≡ accepted v) (assignments : ℕ) (es : assignments ≡ 2 ^ n) where
+    pub vector-short : (r : Refusal) → r ≡ refusal 5 0 → length out < assignments → Vectored n b out (refused r) out
+    unfolding vectorOutcome vectorAfter
+    vector-short r er h =
         let short : length out < 2 ^ n = omega arith in
-        refusing r (ap refused er ∙ sym (and-then _ _ v e ∙ simp (lt-leb _ _ short)))
+        call-refused _ _ out r (and-then _ _ v e ∙ unless-fails _ 5 0 _ (lt-leb _ _ short) ∙ ap refused (sym er))
 
-    pub vector-done : (assignments : ℕ) → assignments ≡ 2 ^ n → assignments ≤ length out → (out′ : List ℕ) → out′ ≡ truthVector n (cubesOf b) ++ drop (2 ^ n) out
+    pub vector-done : assignments ≤ length out → (out′ : List ℕ) → out′ ≡ truthVector n (cubesOf b) ++ drop (2 ^ n) out
         → Vectored n b out (accepted (assignments ∷ [])) out′
     unfolding vectorOutcome vectorAfter
-    vector-done assignments es h out′ eo =
+    vector-done h out′ eo =
         let room : 2 ^ n ≤ length out = omega arith in
-        let is : vectorOutcome n b (length out) ≡ accepted (2 ^ n ∷ []) = and-then _ _ v e ∙ simp (le-leb _ _ room) in
-        record { answer = ap (λ (x : ℕ). accepted (x ∷ [])) es ∙ sym is; buffer = eo ∙ sym (after-accepted _ _ out _ is) }
+        call-accepted _ _ out _ out′ (and-then _ _ v e ∙ unless-passes _ 5 0 _ (le-leb _ _ room) ∙ ap (λ (x : ℕ). accepted (x ∷ [])) (sym es)) eo

@@ -42,8 +42,7 @@ new-requires c κs = search needs
 returns : tie.Need-returns
 returns c =
     let s = c .before .before in
-    let r = vector-short _ _ _ _ (told s) _ (c .new .ensures) _ (power-is s) (c .before .if1 .taken) in
-    (r .answer, r .buffer)
+    vector-short _ _ _ _ (told s) _ (power-is s) _ (c .new .ensures) (c .before .if1 .taken)
 
 fill-vector-requires : tie.Need-fill-vector-requires
 fill-vector-requires c κs =
@@ -51,9 +50,7 @@ fill-vector-requires c κs =
     (list-is s .good, (list-is s .short, ((power-is s, list-is s .few), c .before .if1 .left)))
 
 returns-2 : tie.Need-returns-2
-returns-2 c =
-    let r = vector-refused _ _ _ _ (sym (c .before .before .before .check-within .ensures) ∙ ap counted (c .before .r .given .1)) in
-    (r .answer, r .buffer)
+returns-2 c = vector-refused _ _ _ _ (sym (c .before .before .before .check-within .ensures) ∙ ap counted (c .before .r .given .1))
 
 same-length : tie.Need-same-length
 same-length c = search needs
@@ -62,8 +59,7 @@ returns-3 : tie.Need-returns-3
 returns-3 c =
     let c₄ = c .before .before .before .before in
     let s = c₄ .before in
-    let r = vector-done _ _ _ _ (told s) _ (power-is s) (c₄ .if1 .left) _ (c .before .before .fill-vector .ensures) in
-    (r .answer, r .buffer)
+    vector-done _ _ _ _ (told s) _ (power-is s) (c₄ .if1 .left) _ (c .before .before .fill-vector .ensures)
 
 pub truth-vector-spec : {M : Type 1} → statement M
 truth-vector-spec =

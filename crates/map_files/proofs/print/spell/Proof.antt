@@ -1,6 +1,11 @@
 -- `print::spell` meets its contract: the cube, and the newline after it.
 -- Assumes nothing.
-use Rattle.map_files.proofs.Texts.{line-counts, line-text}
+use Prim.Native.Nat.{_<_}
+use native.Mathlib.Omega.{arith}
+use lib.ListN.{length}
+use Rattle.text.specs.Cubes.{cubeText}
+use Rattle.text.proofs.Laying.{length-cube}
+use Rattle.program.proofs.Texts.{line-counts, line-text}
 use borrow.Author.Needs.{needs}
 use Rattle.map_files.proofs.print.spell.Statement.{statement}
 use Rattle.map_files.proofs.print.spell.Tie as tie
@@ -18,7 +23,12 @@ same-length : tie.Need-same-length
 same-length c = search needs
 
 returns : tie.Need-returns
-returns c = (search (line-counts, needs), search (line-text, needs))
+returns c =
+    let put = c .before .before .before .before .before .before in
+    let s = put .before .before .before in
+    let room : length (cubeText (s .args .n) (s .args .c)) < length (s .args .line .now) = omega (arith, length-cube (s .args .n) (s .args .c), s .pre .1) in
+    let byte = c .before .before .put-byte .ensures in
+    (line-counts _ (put .put-cube .ensures) byte room, line-text _ (put .put-cube .ensures) byte room)
 
 pub spell-spec : {M : Type 1} → statement M
 spell-spec =

@@ -1,2 +1,0 @@
--- The laws of printing a cube. Assumes nothing.
-pub mod Texts
