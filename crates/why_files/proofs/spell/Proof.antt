@@ -1,5 +1,6 @@
 -- `spell` meets its contract: the place in decimal, and the newline after it.
 -- Assumes nothing.
+use Rattle.text.specs.Numbers.{decimal}
 use Rattle.program.proofs.Texts.{line-counts, line-text}
 use borrow.Author.Needs.{needs}
 use Rattle.why_files.proofs.spell.Statement.{statement}
@@ -17,9 +18,9 @@ same-length c = search needs
 returns : tie.Need-returns
 returns c =
     let put = c .before .before .before .before .before .before in
+    let s = put .before .before .before in
     let byte = c .before .before .put-byte .ensures in
-    let room = put .before .before .before .pre in
-    (line-counts _ (put .put-number .ensures) byte room, line-text _ (put .put-number .ensures) byte room)
+    (line-counts (decimal (s .args .place)) (put .put-number .ensures) byte (s .pre), line-text _ (put .put-number .ensures) byte (s .pre))
 
 pub spell-spec : {M : Type 1} → statement M
 spell-spec = tie.close (tie.spec put-number-requires put-byte-requires same-length returns)
