@@ -1,5 +1,7 @@
 //! Lists, scripts and vectors of the sizes that are measured.
 
+use std::cell::Cell;
+
 /// Numbers that look random and are the same in every run (splitmix64).
 pub struct Random(pub u64);
 
@@ -50,6 +52,25 @@ pub fn half_true_list(count: usize, n: u32, a: u32) -> Vec<u8> {
             record(seen, a & seen ^ differing)
         })
         .collect()
+}
+
+/// `count` cubes over 32 variables, each of one literal: about half of them are true at any label.
+pub fn literals(count: usize) -> Vec<u8> {
+    let mut random = Random(count as u64);
+    (0..count)
+        .flat_map(|_| {
+            let seen = 1 << (random.next() % 32);
+            record(seen, random.next() as u32 & seen)
+        })
+        .collect()
+}
+
+/// `count` labels of 32 bits, one a call, again and again.
+pub fn labels(count: usize) -> impl Fn() -> u64 {
+    let mut random = Random(count as u64);
+    let labels: Vec<u64> = (0..count).map(|_| random.next() & 0xffff_ffff).collect();
+    let at = Cell::new(0);
+    move || labels[at.replace((at.get() + 1) % count)]
 }
 
 /// The old list of a list over at most 16 variables: the low halves of both masks.

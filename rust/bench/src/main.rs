@@ -10,7 +10,8 @@ mod plain;
 
 use druthmoy::words;
 use inputs::{
-    bits, exchanges, few_records, half_true_list, joins, mixed, narrow_list, paired_list, record, step, turns,
+    bits, exchanges, few_records, half_true_list, joins, labels, literals, mixed, narrow_list, paired_list, record,
+    step, turns,
 };
 use plain::{ByBytes, ByWords};
 use std::hint::black_box;
@@ -100,6 +101,17 @@ fn reasons(highest: &mut f64) {
             SAME_WAY,
         );
     }
+    // Labels that the processor has not just met: it can't foresee which products are true.
+    let list = &literals(RECORDS);
+    let (first, second) = (labels(STEPS), labels(STEPS));
+    row(
+        highest,
+        "reasons",
+        "4,096 records, half true, another label each time, n = 32",
+        |_, out| words::reasons(32, black_box(list), first(), out),
+        |_, out| answered(|answer| plain::reasons(32, black_box(list), second(), out, answer)),
+        SAME_WAY,
+    );
 }
 
 fn converters(highest: &mut f64) {
