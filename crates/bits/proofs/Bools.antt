@@ -28,6 +28,10 @@ pub and-true : (a : Bool) → (a && true) ≡ a
 and-true true = refl
 and-true false = refl
 
+pub never-true : (a : Bool) → (a ≡ true → ⊥) → a ≡ false
+never-true true h = absurd (h refl)
+never-true false h = refl
+
 pub same-bool : (a b : Bool) → (a ≡ true → b ≡ true) → (b ≡ true → a ≡ true) → a ≡ b
 same-bool true b f g = sym (f refl)
 same-bool false true f g = g refl

@@ -1,6 +1,7 @@
 pub mod Bools
 pub mod Bits
 pub mod Below
+pub mod First
 pub mod Front
 pub mod Weights
 pub mod Sums

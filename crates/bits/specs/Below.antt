@@ -2,7 +2,7 @@
 -- Assumes nothing.
 use mathlib.Core.Path.{_≡_}
 use Prim.Native.Nat.{ℕ, zero, suc, _+_, _≤_, _<_}
-use mathlib.Core.Bool.{Bool, true, cond, _&&_}
+use mathlib.Core.Bool.{Bool, true, false, cond, _&&_}
 use mathlib.Core.List.{List, [], _∷_}
 
 -- the test passes at each number below n
@@ -14,6 +14,22 @@ allBelow (suc n) f = allBelow n f && f n
 unfoldable pub those : (ℕ → Bool) → ℕ → ℕ → List ℕ
 those f zero k = []
 those f (suc m) k = cond (f k) (k ∷ those f m (suc k)) (those f m (suc k))
+
+-- the lowest of the m numbers from k on that passes the test; k + m where none does
+unfoldable pub firstFrom : (ℕ → Bool) → ℕ → ℕ → ℕ
+firstFrom f zero k = k
+firstFrom f (suc m) k = cond (f k) k (firstFrom f m (suc k))
+
+-- none of the numbers from k on, up to x, passes the test; x is at most the end
+pub record NoneTo (f : ℕ → Bool) (k end x : ℕ) : Type 0 where
+  pub low : k ≤ x
+  pub most : x ≤ end
+  pub none : (s : ℕ) → k ≤ s → s < x → f s ≡ false
+
+-- x is the lowest of the numbers from k on that passes the test, or the end
+pub record FirstIn (f : ℕ → Bool) (k end x : ℕ) : Type 0 where
+  pub before : NoneTo f k end x
+  pub passes : x < end → f x ≡ true
 
 -- numbers from k on, ascending, none of them twice
 abbrev pub Ascending : ℕ → List ℕ → Type 0

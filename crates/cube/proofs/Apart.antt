@@ -10,9 +10,10 @@ use native.Mathlib.Decide.{ℕ-discrete}
 use native.Mathlib.Omega.{arith}
 use lib.Dec.{eqb}
 use lib.ListN.{length}
-use borrow.Author.Tests.{eqb-false, eq-eqb, ne-eqb, not-true}
+use borrow.Author.Tests.{eqb-true, eqb-false, eq-eqb, ne-eqb, not-true}
 use Rattle.cube.specs.declared.Cube.{Cube}
 use Rattle.bits.specs.Sums.{oneIf}
+use Rattle.bits.proofs.Bools.{same-bool}
 use Rattle.bits.proofs.Below.{those-bounds, those-all, those-ascend, those-count, sum-cong, sum-none}
 use Rattle.cube.specs.Cubes.{code, differAt, apart, differingNumber, Good}
 use Rattle.cube.proofs.Codes.{cube-ext}
@@ -99,3 +100,11 @@ two-swap n c d p q t = record {
 pub number-same : (n : ℕ) (c : Cube) → differingNumber n c c ≡ 0
 unfolding differingNumber
 number-same n c = sum-none n _ (λ k l. ap (λ (b : Bool). oneIf (not b)) (eq-eqb (code c k) (code c k) refl))
+
+-- and two cubes differ from each other in as many variables
+pub number-swap : (n : ℕ) (c d : Cube) → differingNumber n c d ≡ differingNumber n d c
+unfolding differingNumber
+number-swap n c d = sum-cong n _ _ (λ k l. ap (λ (b : Bool). oneIf (not b)) (either (code c k) (code d k)))
+  where
+    either : (x y : ℕ) → eqb x y ≡ eqb y x
+    either x y = same-bool (eqb x y) (eqb y x) (λ e. eq-eqb y x (sym (eqb-true x y e))) (λ e. eq-eqb x y (sym (eqb-true y x e)))

@@ -39,6 +39,8 @@ use Rattle.cube.proofs.record.bare_at.Kinds as bare-at-kinds
 use Rattle.cube.proofs.record.bare_at.Reads as bare-at-reads
 use Rattle.cube.proofs.record.cube_at.Kinds as cube-at-kinds
 use Rattle.cube.proofs.record.cube_at.Reads as cube-at-reads
+use Rattle.cube.proofs.record.differing_at.Kinds as differing-at-kinds
+use Rattle.cube.proofs.record.differing_at.Reads as differing-at-reads
 use Rattle.cube.proofs.record.put_record.Kinds as put-record-kinds
 use Rattle.cube.proofs.record.put_record.Reads as put-record-reads
 use Rattle.cube.proofs.record.put_cube.Kinds as put-cube-kinds
@@ -105,6 +107,9 @@ bare-at-determined κs a z z′ ws ws′ p q = (same p q, refl)
 
 pub cube-at-determined : Determined 1 cube-at-kinds.ps cube-at-kinds.r cube-at-reads.Learnt
 cube-at-determined κs a z z′ ws ws′ p q = (same p q, refl)
+
+pub differing-at-determined : Determined 1 differing-at-kinds.ps differing-at-kinds.r differing-at-reads.Learnt
+differing-at-determined κs a z z′ ws ws′ p q = (same (p .fixed) (q .fixed), refl)
 
 pub put-record-determined : Determined 1 put-record-kinds.ps put-record-kinds.r put-record-reads.Learnt
 put-record-determined κs a z z′ ws ws′ p q = (refl, ap (λ (b : List ℕ). (b, (tt, (tt, tt)))) (same p q))

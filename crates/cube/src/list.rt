@@ -4,6 +4,7 @@ use crate::record::MASK_WIDTH;
 pub use crate::record::RECORD_WIDTH;
 pub use crate::record::bare_at;
 pub use crate::record::cube_at;
+pub use crate::record::differing_at;
 use crate::record::mask_at;
 pub use crate::record::put_cube;
 pub use crate::record::put_record;

@@ -7,7 +7,7 @@ ghost use lib.ListN.{length, getD};
 ghost use lib.Seq.{sets};
 ghost use Rattle.records.specs.Numbers.{numberAt};
 ghost use Rattle.records.specs.Records.{stored};
-ghost use Rattle.cube.specs.Cubes.{one, bare};
+ghost use Rattle.cube.specs.Cubes.{one, bare, DiffersIn};
 ghost use Rattle.cube.specs.CubeRecord.{maskWidth, recordWidth, cubes, cubesOf};
 
 // Bytes of a mask, and of a record.
@@ -73,6 +73,17 @@ pub fn bare_at(list: &[u8], i: usize) -> bool
         return true;
     }
     mask_at(list, RECORD_WIDTH * i) == 0
+}
+
+// The set of the variables in which c and the cube at a place that the list has differ.
+pub fn differing_at(list: &[u8], i: usize, c: Cube) -> u32
+    requires { ⌜ i < length (now list) / recordWidth ⌝ }
+    ensures { λ r. ⌜ DiffersIn c (getD (cubesOf (now (list .entry))) i one) r ⌝ }
+{
+    let at = RECORD_WIDTH * i;
+    let seen = mask_at(list, at);
+    let value = mask_at(list, at + MASK_WIDTH);
+    c.differing(Cube { seen, value })
 }
 
 // The cube stored at a place that the list has.

@@ -1,0 +1,9 @@
+pub mod Pairs
+pub mod Moves
+pub mod Watching
+pub mod Scanning
+pub mod Searching
+pub mod Easy
+pub mod Writing
+pub mod Calls
+pub mod Determined
