@@ -23,6 +23,8 @@ use Rattle.druthmoy.proofs.dm_best_polarity.Kinds as dm-best-polarity-k
 use Rattle.druthmoy.proofs.dm_best_polarity.Reads as dm-best-polarity-reads
 use Rattle.druthmoy.proofs.dm_run.Kinds as dm-run-kinds
 use Rattle.druthmoy.proofs.dm_run.Reads as dm-run-reads
+use Rattle.druthmoy.proofs.dm_write_script.Kinds as dm-write-script-kinds
+use Rattle.druthmoy.proofs.dm_write_script.Reads as dm-write-script-reads
 use Rattle.druthmoy.proofs.dm_settle.Kinds as dm-settle-kinds
 use Rattle.druthmoy.proofs.dm_settle.Reads as dm-settle-reads
 use Rattle.druthmoy.proofs.dm_wide_from_narrow.Kinds as dm-wide-from-narrow-kinds
@@ -56,6 +58,14 @@ dm-best-polarity-determined κs a z z′ ws ws′ p q = (refl, ap (λ (w : List 
 
 pub dm-run-determined : Determined 4 dm-run-kinds.ps dm-run-kinds.r dm-run-reads.Learnt
 dm-run-determined κs a z z′ ws ws′ p q = (refl, ap₂ (λ (w b : List ℕ). (tt, (tt, (tt, (b, (w, tt)))))) (same (p .0) (q .0)) (same (p .1) (q .1)))
+
+pub dm-write-script-determined : Determined 4 dm-write-script-kinds.ps dm-write-script-kinds.r dm-write-script-reads.Learnt
+dm-write-script-determined κs a z z′ ws ws′ p q = (
+  refl,
+  ap₂ (λ (w : List ℕ) (bs : List ℕ × List ℕ). (tt, (tt, (bs .0, (bs .1, (w, tt))))))
+      (same (p .0) (q .0))
+      (ap₂ (λ (b d : List ℕ). (b, d)) (same (p .1 .0) (q .1 .0)) (same (p .1 .1) (q .1 .1))),
+)
 
 pub dm-settle-determined : Determined 5 dm-settle-kinds.ps dm-settle-kinds.r dm-settle-reads.Learnt
 dm-settle-determined κs a z z′ ws ws′ p q = (

@@ -8,6 +8,7 @@ use script::Finished;
 use settling::Fixed;
 use settling::Settled;
 use settling::Settlement;
+use writer::Wrote;
 ghost use mathlib.Core.Path.{_≡_};
 ghost use mathlib.Core.List.{[], _∷_};
 ghost use Rattle.records.specs.Answers.{accepted, refused, counted};
@@ -15,6 +16,7 @@ ghost use Rattle.cube.specs.Calls.{valued};
 ghost use Rattle.reasons.specs.Calls.{reasoned};
 ghost use Rattle.polarity.specs.Calls.{found};
 ghost use Rattle.script.specs.Calls.{finished};
+ghost use Rattle.writer.specs.Calls.{wrote};
 ghost use Rattle.settling.specs.declared.Settled.the-variants.{Burned};
 ghost use Rattle.settling.specs.Calls.{settled};
 ghost use Rattle.druthmoy.specs.Faces.{words, settledWords};
@@ -86,6 +88,16 @@ pub(crate) fn put_finished(answer: &mut [u64; 8], r: Finished)
     match r {
         Finished::Done(count, peak) => put_values(answer, count, peak),
         Finished::Refused(why) => put_refusal(answer, why),
+    }
+}
+
+// The number of steps that are written and whether no pair is left, or a refusal.
+pub(crate) fn put_wrote(answer: &mut [u64; 8], r: Wrote)
+    ensures { λ _. ⌜ now (answer .exit) ≡ words (wrote r) ⌝ }
+{
+    match r {
+        Wrote::Script(w) => put_values(answer, w.steps, w.finished as usize),
+        Wrote::Refused(why) => put_refusal(answer, why),
     }
 }
 

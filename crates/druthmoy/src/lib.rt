@@ -9,6 +9,7 @@ ghost use Rattle.reasons.specs.Calls.{reasonsOutcome, reasonsAfter};
 ghost use Rattle.converters.specs.Calls.{wideOutcome, wideAfter, narrowOutcome, narrowAfter};
 ghost use Rattle.polarity.specs.Calls.{coefficientsOutcome, coefficientsAfter, backAfter, formOutcome, formAfter, bestOutcome};
 ghost use Rattle.script.specs.Calls.{runOutcome, runAfter};
+ghost use Rattle.writer.specs.Calls.{writeOutcome, writeWork, writeSteps};
 ghost use Rattle.settling.specs.Calls.{settleOutcome, settleWork, settleOut};
 ghost use Rattle.druthmoy.specs.Faces.{words, settledWords};
 
@@ -115,6 +116,23 @@ pub extern "C" fn dm_run(n: u64, list: &[u8], script: &[u8], work: &mut [u8], an
 {
     let finished = script::run::run(n as usize, list, script, work);
     answers::put_finished(answer, finished);
+}
+
+// Writes the easy script of a list. Values: the number of its steps, and 1 where no pair is left, else 0.
+#[no_mangle]
+pub extern "C" fn dm_write_script(
+    n: u64,
+    list: &[u8],
+    work: &mut [u8],
+    script: &mut [u8],
+    answer: &mut [u64; 8],
+)
+    ensures { λ _. ⌜ now (answer .exit) ≡ words (writeOutcome n (now (list .entry)) (length (now (work .entry))) (length (now (script .entry)))) ⌝ }
+    ensures { λ _. ⌜ now (work .exit) ≡ writeWork n (now (list .entry)) (now (work .entry)) (length (now (script .entry))) ⌝ }
+    ensures { λ _. ⌜ now (script .exit) ≡ writeSteps n (now (list .entry)) (length (now (work .entry))) (now (script .entry)) ⌝ }
+{
+    let wrote = writer::write::write_script(n as usize, list, work, script);
+    answers::put_wrote(answer, wrote);
 }
 
 // Settles a map. Values: given, peak, the script's count, the best polarity and its size (both all ones above 8 variables), burned.

@@ -19,14 +19,14 @@ pub record Accepting (n : ℕ) (list script work out : List ℕ) (s : Settlement
   pub work-is : work′ ≡ zeros (length work)
   pub out-is : out′ ≡ settleOut n list script (length work) out
 
--- the one buffer of a call, and the two of settle
+-- the one buffer of a call, and the two of another
 pub only : {x y : List ℕ} → _≡_ {A = List (List ℕ)} (x ∷ []) (y ∷ []) → x ≡ y
 only e = cc
 
-work-of : {a b x y : List ℕ} → _≡_ {A = List (List ℕ)} (a ∷ b ∷ []) (x ∷ y ∷ []) → a ≡ x
+pub work-of : {a b x y : List ℕ} → _≡_ {A = List (List ℕ)} (a ∷ b ∷ []) (x ∷ y ∷ []) → a ≡ x
 work-of e = cc
 
-out-of : {a b x y : List ℕ} → _≡_ {A = List (List ℕ)} (a ∷ b ∷ []) (x ∷ y ∷ []) → b ≡ y
+pub out-of : {a b x y : List ℕ} → _≡_ {A = List (List ℕ)} (a ∷ b ∷ []) (x ∷ y ∷ []) → b ≡ y
 out-of e = cc
 
 pub called-accepted : (n : ℕ) (list script work out work′ out′ : List ℕ) (s : Settlement)

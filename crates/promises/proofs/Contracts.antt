@@ -8,6 +8,7 @@ use Rattle.cube.specs.Calls.{valued}
 use Rattle.reasons.specs.Calls.{reasoned}
 use Rattle.polarity.specs.Calls.{found}
 use Rattle.script.specs.Calls.{finished}
+use Rattle.writer.specs.Calls.{wrote}
 use Rattle.settling.specs.Calls.{settled}
 use Rattle.cube.proofs.list.check.Kinds as check-kinds
 use Rattle.cube.proofs.list.check.Reads as check-reads
@@ -31,6 +32,8 @@ use Rattle.polarity.proofs.choose.best_polarity.Kinds as best-polarity-kinds
 use Rattle.polarity.proofs.choose.best_polarity.Reads as best-polarity-reads
 use Rattle.script.proofs.run.run.Kinds as run-kinds
 use Rattle.script.proofs.run.run.Reads as run-reads
+use Rattle.writer.proofs.write.write_script.Kinds as write-script-kinds
+use Rattle.writer.proofs.write.write_script.Reads as write-script-reads
 use Rattle.settling.proofs.settle.settle.Kinds as settle-kinds
 use Rattle.settling.proofs.settle.settle.Reads as settle-reads
 use Rattle.druthmoy.proofs.dm_check.Kinds as dm-check-kinds
@@ -51,13 +54,15 @@ use Rattle.druthmoy.proofs.dm_best_polarity.Kinds as dm-best-polarity-kinds
 use Rattle.druthmoy.proofs.dm_best_polarity.Reads as dm-best-polarity-reads
 use Rattle.druthmoy.proofs.dm_run.Kinds as dm-run-kinds
 use Rattle.druthmoy.proofs.dm_run.Reads as dm-run-reads
+use Rattle.druthmoy.proofs.dm_write_script.Kinds as dm-write-script-kinds
+use Rattle.druthmoy.proofs.dm_write_script.Reads as dm-write-script-reads
 use Rattle.druthmoy.proofs.dm_settle.Kinds as dm-settle-kinds
 use Rattle.druthmoy.proofs.dm_settle.Reads as dm-settle-reads
 use Rattle.druthmoy.proofs.dm_wide_from_narrow.Kinds as dm-wide-from-narrow-kinds
 use Rattle.druthmoy.proofs.dm_wide_from_narrow.Reads as dm-wide-from-narrow-reads
 use Rattle.druthmoy.proofs.dm_narrow_from_wide.Kinds as dm-narrow-from-wide-kinds
 use Rattle.druthmoy.proofs.dm_narrow_from_wide.Reads as dm-narrow-from-wide-reads
-use Rattle.promises.specs.Calls.{Call, check, value, reasons, truthVector, coefficients, vectorBack, writeForm, bestPolarity, run, settle, wideFromNarrow, narrowFromWide, answers, leaves, wordsOf, Faced}
+use Rattle.promises.specs.Calls.{Call, check, value, reasons, truthVector, coefficients, vectorBack, writeForm, bestPolarity, run, writeScript, settle, wideFromNarrow, narrowFromWide, answers, leaves, wordsOf, Faced}
 use Rattle.promises.specs.Contracts.{IsCalled, IsFaced}
 
 -- ---- from Rattle
@@ -115,6 +120,12 @@ pub run-called : IsCalled 3 run-kinds.ps run-kinds.r run-reads.Learnt
     (λ κs a ws. ws .1 .1 .1 .0 ∷ []) (λ κs z. finished z)
 unfolding answers leaves
 run-called κs a z ws p = record { answer = p .0; left = ap (λ (b : List ℕ). b ∷ []) (p .1) }
+
+pub write-script-called : IsCalled 3 write-script-kinds.ps write-script-kinds.r write-script-reads.Learnt
+    (λ κs a. writeScript (a .0) (a .1 .0 .now) (a .1 .1 .0 .now) (a .1 .1 .1 .0 .now))
+    (λ κs a ws. ws .1 .1 .0 ∷ ws .1 .1 .1 .0 ∷ []) (λ κs z. wrote z)
+unfolding answers leaves
+write-script-called κs a z ws p = record { answer = p .0; left = ap₂ (λ (b d : List ℕ). b ∷ d ∷ []) (p .1 .0) (p .1 .1) }
 
 pub settle-called : IsCalled 4 settle-kinds.ps settle-kinds.r settle-reads.Learnt
     (λ κs a. settle (a .0) (a .1 .0 .now) (a .1 .1 .0 .now) (a .1 .1 .1 .0 .now) (a .1 .1 .1 .1 .0 .now))
@@ -193,6 +204,12 @@ pub dm-run-faced : IsFaced 4 dm-run-kinds.ps dm-run-kinds.r dm-run-reads.Learnt
     (λ κs a ws. ws .1 .1 .1 .0 ∷ []) (λ κs a ws. ws .1 .1 .1 .1 .0)
 unfolding answers leaves wordsOf
 dm-run-faced κs a z ws p = faced _ _ _ (p .0) (ap (λ (b : List ℕ). b ∷ []) (p .1))
+
+pub dm-write-script-faced : IsFaced 4 dm-write-script-kinds.ps dm-write-script-kinds.r dm-write-script-reads.Learnt
+    (λ κs a. writeScript (a .0) (a .1 .0 .now) (a .1 .1 .0 .now) (a .1 .1 .1 .0 .now))
+    (λ κs a ws. ws .1 .1 .0 ∷ ws .1 .1 .1 .0 ∷ []) (λ κs a ws. ws .1 .1 .1 .1 .0)
+unfolding answers leaves wordsOf
+dm-write-script-faced κs a z ws p = faced _ _ _ (p .0) (ap₂ (λ (b d : List ℕ). b ∷ d ∷ []) (p .1 .0) (p .1 .1))
 
 pub dm-settle-faced : IsFaced 5 dm-settle-kinds.ps dm-settle-kinds.r dm-settle-reads.Learnt
     (λ κs a. settle (a .0) (a .1 .0 .now) (a .1 .1 .0 .now) (a .1 .1 .1 .0 .now) (a .1 .1 .1 .1 .0 .now))

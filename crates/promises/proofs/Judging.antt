@@ -1,8 +1,8 @@
 -- Every call by its faults: the first that is wrong is what it refuses, and then it leaves its buffers as they were; where none is, how it goes on.
 -- Assumes nothing.
-use mathlib.Core.Path.{_≡_, refl, ap}
+use mathlib.Core.Path.{_≡_, refl, ap, ap₂}
 use mathlib.Core.List.{List, [], _∷_, _++_}
-use Prim.Native.Nat.{ℕ, _*_, _/_, _%_, _^_, _≤_, _<_}
+use Prim.Native.Nat.{ℕ, _*_, _/_, _%_, _^_, _≤_, _<_, min}
 use native.Mathlib.Omega.{arith}
 use borrow.Author.Tests.{leb-false, leb-true, ltb-true, ltb-false, eqb-false, eqb-true}
 use lib.Dec.{leb, ltb, eqb}
@@ -24,8 +24,9 @@ use Rattle.polarity.specs.Vectors.{byteAt, isBit, checkVector}
 use Rattle.polarity.specs.Calls.{coefficientsOutcome, coefficientsAfter, backAfter, formOutcome, formAfter, bestOutcome}
 use Rattle.script.specs.Scripts.{stepRecords, stepWidth, mostSteps, fits}
 use Rattle.script.specs.Calls.{checkScript, checkRun, runOf, runOutcome, workAfter, runAfter}
+use Rattle.writer.specs.Calls.{writeOutcome, writeWork, writeSteps}
 use Rattle.settling.specs.Calls.{checkSettle, settleOutcome, settleWorkBy, settleWork, settleOutBy, settleOut}
-use Rattle.promises.specs.Calls.{Call, check, value, reasons, truthVector, coefficients, vectorBack, writeForm, bestPolarity, run, settle, wideFromNarrow, narrowFromWide, answers, lent, leaves}
+use Rattle.promises.specs.Calls.{Call, check, value, reasons, truthVector, coefficients, vectorBack, writeForm, bestPolarity, run, writeScript, settle, wideFromNarrow, narrowFromWide, answers, lent, leaves}
 use Rattle.promises.specs.Refusals.{Fault, at, NoneWrong, FirstWrong, recordFaults, listFaults, atFaults, scriptFaults, vectorFaults, faults}
 use Rattle.promises.specs.Accepted.{goesOn, goesOnLeaving}
 use Rattle.promises.proofs.Chains.{Judged, judge-end, judge-unless, judge-lowest, judge-and}
@@ -109,7 +110,7 @@ one-buffer : {b d : List ℕ} → b ≡ d → b ∷ [] ≡ d ∷ []
 one-buffer e = ap (λ (x : List ℕ). x ∷ []) e
 
 pub judged : (c : Call) → Outcomes c
-unfolding answers lent leaves faults goesOn goesOnLeaving valueOutcome reasonsOutcome reasonsAfter vectorOutcome vectorAfter coefficientsOutcome coefficientsAfter backAfter formOutcome formAfter bestOutcome runOutcome runAfter checkRun checkSettle settleOutcome settleWork settleOut wideOutcome wideAfter narrowOutcome narrowAfter
+unfolding answers lent leaves faults goesOn goesOnLeaving valueOutcome reasonsOutcome reasonsAfter vectorOutcome vectorAfter coefficientsOutcome coefficientsAfter backAfter formOutcome formAfter bestOutcome runOutcome runAfter checkRun writeOutcome writeWork writeSteps checkSettle settleOutcome settleWork settleOut wideOutcome wideAfter narrowOutcome narrowAfter
 judged (check n list) = by-tests (check n list) (checkList mostVariables n list) _ (by-list cubes mostVariables n list) (λ r e. (e, refl)) (λ e. (e, refl))
 judged (value n list a) =
     by-tests (value n list a) (checkAt n list a) _ (by-at n list a) (λ r e. (and-not _ _ r e, refl)) (λ e. (and-then _ _ _ e, refl))
@@ -140,6 +141,12 @@ judged (run n list script work) =
     (after-list cubes mostVariables n list _ _ _ (unless-le (by-script n script) (length (cubesOf list)) (cubeCapacity (length work)) 5 0))
     (λ r e. (and-not _ _ r e, one-buffer (ap (λ (o : Outcome). workAfter o work (runOf n list script (length work))) e)))
     (λ e. (and-then _ _ _ e, one-buffer (ap (λ (o : Outcome). workAfter o work (runOf n list script (length work))) e)))
+judged (writeScript n list work script) =
+    by-tests (writeScript n list work script) (writeOutcome n list (length work) (length script)) _
+    (after-list cubes mostVariables n list _ _ _
+    (unless-le (unless-le (judge-end _) (stepWidth * min (length (cubesOf list)) mostSteps) (length script) 5 0) (length (cubesOf list)) (cubeCapacity (length work)) 5 0))
+    (λ r e. (e, ap₂ (λ (b d : List ℕ). b ∷ d ∷ []) (after-refused _ _ work r e) (after-refused _ _ script r e)))
+    (λ e. (e, ap₂ (λ (b d : List ℕ). b ∷ d ∷ []) (after-accepted _ _ work _ e) (after-accepted _ _ script _ e)))
 judged (settle n list script work out) =
     by-tests (settle n list script work out) (checkSettle n list script (length work) (length out)) _
     (after-list cubes mostVariables n list _ _ _

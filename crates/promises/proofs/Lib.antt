@@ -9,6 +9,7 @@ pub mod AnyForm
 pub mod DemandThree
 pub mod Converters
 pub mod Reasons
+pub mod EasyScript
 pub mod NotWrong
 pub mod DemandTwoCalls
 pub mod Faces

@@ -1,13 +1,14 @@
 -- What each call answers and leaves where nothing before the first step is wrong. Document 01, "Refusal numbers and places": "Accepted, a check answers
 -- the record count; value, the bit; truth vector and coefficients, either way, 2^n; writing a form, its count; best polarity, p and the size; run, count
 -- and peak; settle, the counts that the program prints." With document 02, One: value answers "the number of true products" too, and reasons "their number and the
--- bit". The converters answer the count.
+-- bit"; Three: the writer "answers the number of steps and which". The converters answer the count.
 -- Assumes nothing.
 use mathlib.Core.Path.{_≡_}
-use mathlib.Core.List.{List, [], _∷_, _++_}
+use mathlib.Core.List.{List, [], _∷_, _++_, map}
 use Prim.Native.Nat.{ℕ, _^_}
 use lib.ListN.{length, drop}
-use Rattle.records.specs.Records.{written, zeros}
+use Rattle.bits.specs.Sums.{oneIf}
+use Rattle.records.specs.Records.{written, image, zeros}
 use Rattle.records.specs.Places.{places}
 use Rattle.records.specs.Answers.{Outcome, accepted}
 use Rattle.cube.specs.declared.Cube.{Cube}
@@ -17,7 +18,9 @@ use Rattle.converters.specs.NarrowRecord.{narrowCubes, narrowCubesOf}
 use Rattle.polarity.specs.Forms.{formFrom, size, bestPolarity}
 use Rattle.polarity.specs.Vectors.{byteAt, coefficientVector, vectorBack}
 use Rattle.script.specs.Run.{ended}
+use Rattle.script.specs.Scripts.{stepRecords, mostSteps, recordOf}
 use Rattle.script.specs.Calls.{runOf, ranOutcome, ranWork}
+use Rattle.writer.specs.Easy.{easySteps, easyEnd, easyFinished}
 use Rattle.settling.specs.Calls.{ranSettled, ranBurned}
 use Rattle.steps.specs.declared.StepRefusal.{StepRefusal}
 use Rattle.promises.specs.Calls.{Call}
@@ -34,6 +37,8 @@ goesOn (call.vectorBack n vector p out) = accepted (2 ^ n ∷ [])
 goesOn (call.writeForm n vector p out) = accepted (length (formFrom n p (byteAt vector)) ∷ [])
 goesOn (call.bestPolarity n vector) = accepted (bestPolarity n (byteAt vector) ∷ size n (bestPolarity n (byteAt vector)) (byteAt vector) ∷ [])
 goesOn (call.run n list script work) = ranOutcome (runOf n list script (length work))
+goesOn (call.writeScript n list work script) =
+    accepted (length (easySteps n mostSteps (cubesOf list)) ∷ oneIf (easyFinished n mostSteps (cubesOf list)) ∷ [])
 goesOn (call.settle n list script work out) = ranSettled n (cubesOf list) (runOf n list script (length work))
 goesOn (call.wideFromNarrow n list out) = accepted (length (narrowCubesOf list) ∷ [])
 goesOn (call.narrowFromWide n list out) = accepted (length (cubesOf list) ∷ [])
@@ -49,6 +54,8 @@ goesOnLeaving (call.vectorBack n vector p out) = (vectorBack n p vector ++ drop 
 goesOnLeaving (call.writeForm n vector p out) = written cubes 0 (formFrom n p (byteAt vector)) out ∷ []
 goesOnLeaving (call.bestPolarity n vector) = []
 goesOnLeaving (call.run n list script work) = ranWork (length work) (runOf n list script (length work)) ∷ []
+goesOnLeaving (call.writeScript n list work script) =
+    image cubes (length work) (easyEnd n mostSteps (cubesOf list)) ∷ written stepRecords 0 (map recordOf (easySteps n mostSteps (cubesOf list))) script ∷ []
 goesOnLeaving (call.settle n list script work out) = zeros (length work) ∷ ranBurned n (cubesOf list) (runOf n list script (length work)) out ∷ []
 goesOnLeaving (call.wideFromNarrow n list out) = written cubes 0 (narrowCubesOf list) out ∷ []
 goesOnLeaving (call.narrowFromWide n list out) = written narrowCubes 0 (cubesOf list) out ∷ []
@@ -75,6 +82,7 @@ ScriptEnds (call.vectorBack n vector p out) = Unit {0}
 ScriptEnds (call.writeForm n vector p out) = Unit {0}
 ScriptEnds (call.bestPolarity n vector) = Unit {0}
 ScriptEnds (call.run n list script work) = EndOfScript n list script work
+ScriptEnds (call.writeScript n list work script) = Unit {0}
 ScriptEnds (call.settle n list script work out) = EndOfScript n list script work
 ScriptEnds (call.wideFromNarrow n list out) = Unit {0}
 ScriptEnds (call.narrowFromWide n list out) = Unit {0}

@@ -4,5 +4,6 @@ pub mod Refusals
 pub mod Accepted
 pub mod Burned
 pub mod Reasons
+pub mod EasyScript
 pub mod Faced
 pub mod Marked

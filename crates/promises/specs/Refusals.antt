@@ -6,7 +6,7 @@ use mathlib.Core.Path.{_≡_}
 use mathlib.Core.Logic.{_⊎_, _≢_}
 use mathlib.Core.Bool.{Bool, true, false, _&&_, _||_}
 use mathlib.Core.List.{List, [], _∷_, _++_}
-use Prim.Native.Nat.{ℕ, _*_, _/_, _%_, _^_, _≤_, _<_}
+use Prim.Native.Nat.{ℕ, _*_, _/_, _%_, _^_, _≤_, _<_, min}
 use lib.Dec.{eqb, leb}
 use lib.ListN.{length, getD}
 use Rattle.records.specs.declared.Refusal.{Refusal}
@@ -24,7 +24,7 @@ use Rattle.steps.specs.Effects.{StepRefused, byStep, thirdAnswer}
 use Rattle.script.specs.Run.{Refused}
 use Rattle.script.specs.Scripts.{stepRecords, stepWidth, mostSteps, fits, stepsOf}
 use Rattle.script.specs.Calls.{ofStep}
-use Rattle.promises.specs.Calls.{Call, check, value, reasons, truthVector, coefficients, vectorBack, writeForm, bestPolarity, run, settle, wideFromNarrow, narrowFromWide, lent}
+use Rattle.promises.specs.Calls.{Call, check, value, reasons, truthVector, coefficients, vectorBack, writeForm, bestPolarity, run, writeScript, settle, wideFromNarrow, narrowFromWide, lent}
 
 -- ---- a fault
 
@@ -112,6 +112,12 @@ faults (bestPolarity n vector) = vectorFaults n vector
 -- "Run: 1 to 5, 7, 8, 9, then steps in turn": "the work capacity must be at least the given count"
 faults (run n list script work) =
     listFaults cubes mostVariables n list ++ (at 5 0 (cubeCapacity (length work) < length (cubesOf list)) ∷ scriptFaults n script)
+-- "1 to 4, then 5 for the work buffer, then 5 for a script buffer shorter than 8 times the smaller of the count and 1,024" (document 02, Three)
+faults (writeScript n list work script) =
+    listFaults cubes mostVariables n list
+    ++ (at 5 0 (cubeCapacity (length work) < length (cubesOf list))
+    ∷ at 5 0 (length script < stepWidth * min (length (cubesOf list)) mostSteps)
+    ∷ [])
 -- "Settle: the same; 5 tests work, then output, against the given count"
 faults (settle n list script work out) =
     listFaults cubes mostVariables n list

@@ -1,6 +1,6 @@
 -- The call by its tests: what each return answers and leaves, and what an accepted call is.
 -- Assumes nothing.
-use mathlib.Core.Path.{_≡_, refl, sym, ap, ap₂, _∙_, subst}
+use mathlib.Core.Path.{_≡_, refl, sym, ap, ap₂, _∙_}
 use mathlib.Core.Bool.{Bool}
 use mathlib.Core.List.{List, [], _∷_, map}
 use Prim.Native.Nat.{ℕ, zero, suc, _*_, _/_, _≤_, _<_, min}
@@ -17,15 +17,14 @@ use Rattle.records.proofs.Records.{length-list, capacity-fits}
 use Rattle.cube.specs.declared.Cube.{Cube}
 use Rattle.cube.specs.Lists.{mostVariables, mostRecords, recordWidth, cubes, cubesOf, cubeCapacity}
 use Rattle.cube.specs.Calls.{checkList}
-use Rattle.cube.proofs.Lists.{AcceptedList, check-accepts, count-is, count-most}
+use Rattle.cube.proofs.Lists.{AcceptedList, check-accepts, count-is}
 use Rattle.steps.specs.Calls.{Ready}
 use Rattle.script.specs.Scripts.{stepRecords, stepWidth, mostSteps, recordOf}
 use Rattle.script.proofs.Filled.{filled-records, filled-long, filled-ready}
 use Rattle.writer.specs.declared.Written.{Written}
-use Rattle.writer.specs.declared.Wrote.{Wrote}
 use Rattle.writer.specs.declared.Wrote.the-variants as wrote-is
 use Rattle.writer.specs.Easy.{easySteps, easyEnd, easyFinished}
-use Rattle.writer.specs.Calls.{writeOutcome, writeWork, writeScript, wrote}
+use Rattle.writer.specs.Calls.{writeOutcome, writeWork, writeSteps, wrote}
 use Rattle.writer.specs.Watching.{Unmarked, WritingIs}
 
 -- ---- an accepted call
@@ -90,12 +89,12 @@ module _ (n : ℕ) (list work : List ℕ) (ok : Accepts (checkList mostVariables
 abbrev pub Writes : ℕ → List ℕ → List ℕ → List ℕ → Outcome → List ℕ → List ℕ → Type 0
 Writes n list work script o work′ script′ =
     (o ≡ writeOutcome n list (length work) (length script))
-    × ((work′ ≡ writeWork n list work (length script)) × (script′ ≡ writeScript n list (length work) script))
+    × ((work′ ≡ writeWork n list work (length script)) × (script′ ≡ writeSteps n list (length work) script))
 
 module _ (n : ℕ) (list work script : List ℕ) where
   -- refused, and nothing written
   refuses : (r : Refusal) → writeOutcome n list (length work) (length script) ≡ refused r → Writes n list work script (refused r) work script
-  unfolding writeWork writeScript
+  unfolding writeWork writeSteps
   refuses r e = (sym e, (sym (after-refused _ _ _ r e), sym (after-refused _ _ _ r e)))
 
   pub list-refused : (r : Refusal) → checkList mostVariables n list ≡ refused r → Writes n list work script (refused r) work script
@@ -127,7 +126,7 @@ module _ (n : ℕ) (list work script : List ℕ) where
 
         pub all-written : stepWidth * most ≤ length script → (w s : List ℕ) (r : Written) → WritingIs n (cubesOf list) work w script s r
             → Writes n list work script (wrote (wrote-is.Script r)) w s
-        unfolding writeOutcome writeWork writeScript
+        unfolding writeOutcome writeWork writeSteps
         all-written g w s r t =
             let o =
             and-then _ _ _ e ∙ unless-passes _ 5 0 _ (le-leb _ _ checked-fits) ∙ unless-passes _ 5 0 _ (le-leb (stepWidth * min (length (cubesOf list)) mostSteps) (length script) (omega (arith, steps-most))) in (

@@ -131,7 +131,7 @@ unfolding easyEnd
 no-end n l = refl
 
 -- induction over the steps: at the end of them, and before a step
-easy-ind : (n : ℕ) (P : ℕ → List Cube → Type 0) → ((l : List Cube) → P zero l) → ((m : ℕ) (l : List Cube) → hasPair n l ≡ false → P (suc m) l)
+pub easy-ind : (n : ℕ) (P : ℕ → List Cube → Type 0) → ((l : List Cube) → P zero l) → ((m : ℕ) (l : List Cube) → hasPair n l ≡ false → P (suc m) l)
     → ((m : ℕ) (l : List Cube) → hasPair n l ≡ true → P m (easyNext n l) → P (suc m) l) → (m : ℕ) (l : List Cube) → P m l
 easy-ind n P base none more zero l = base l
 easy-ind n P base none more (suc m) l = go (hasPair n l) refl (easy-ind n P base none more m (easyNext n l))

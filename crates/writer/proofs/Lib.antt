@@ -5,5 +5,6 @@ pub mod Scanning
 pub mod Searching
 pub mod Easy
 pub mod Writing
+pub mod Replaying
 pub mod Calls
 pub mod Determined

@@ -4,16 +4,16 @@ use mathlib.Core.Path.{_≡_, sym, ap, _∙_, subst}
 use mathlib.Core.Logic.{_⊎_, inl, inr, ⊎-elim}
 use mathlib.Core.Bool.{true, false, true≢false}
 use mathlib.Core.List.{List}
-use Prim.Native.Nat.{ℕ, zero, suc, _+_, _-_, _≤_, _<_, zero-le}
+use Prim.Native.Nat.{ℕ, suc, _+_, _-_, _≤_, _<_, zero-le}
 use native.Mathlib.Nat.{zero-add}
 use native.Mathlib.Decide.{ℕ-discrete}
 use native.Mathlib.Omega.{arith}
 use lib.Dec.{ltb, leb}
 use lib.ListN.{length}
-use borrow.Author.Tests.{lt-ltb, le-ltb, ltb-true, ltb-false}
+use borrow.Author.Tests.{lt-ltb, ltb-true}
 use Rattle.bits.specs.Below.{FirstIn}
 use Rattle.bits.proofs.Bools.{below-or, never-true}
-use Rattle.bits.proofs.First.{first-from, first-same}
+use Rattle.bits.proofs.First.{first-from}
 use Rattle.cube.specs.declared.Cube.{Cube}
 use Rattle.cube.proofs.Apart.{number-swap}
 use Rattle.writer.specs.Pairs.{pair, pairAt, partner, lowest, hasPair, IsPair, First}

@@ -2,9 +2,9 @@
 -- Assumes nothing.
 use mathlib.Core.Path.{_≡_, sym, ap, ap₂, _∙_, subst}
 use mathlib.Core.Logic.{_≢_, _⊎_, inl, inr, ⊎-elim}
-use mathlib.Core.Bool.{Bool, true≢false}
+use mathlib.Core.Bool.{true≢false}
 use mathlib.Core.List.{List}
-use Prim.Native.Nat.{ℕ, suc, _+_, _-_, _≤_, _<_, zero-le}
+use Prim.Native.Nat.{ℕ, _+_, _-_, _≤_, _<_, zero-le}
 use native.Mathlib.Decide.{ℕ-discrete}
 use native.Mathlib.Omega.{arith}
 use lib.ListN.{length, getD, set, length-set}
@@ -14,10 +14,9 @@ use Rattle.bits.proofs.Bools.{below-or}
 use Rattle.cube.specs.declared.Cube.{Cube}
 use Rattle.cube.specs.Cubes.{one}
 use Rattle.steps.specs.Steps.{cubeAt}
-use Rattle.writer.specs.declared.Pair.{Pair}
 use Rattle.writer.specs.Pairs.{pair, pairAt, partner, IsPair, First}
 use Rattle.writer.specs.Watching.{Watched, Found}
-use Rattle.writer.proofs.Pairs.{partner-is, partner-pair, pair-partner, left-none}
+use Rattle.writer.proofs.Pairs.{partner-pair, pair-partner, left-none}
 use Rattle.writer.proofs.Moves.{Moved}
 
 -- ---- the search

@@ -29,8 +29,8 @@ writeWork n list work script =
     afterCall (writeOutcome n list (length work) script) (image cubes (length work) (easyEnd n mostSteps (cubesOf list))) work
 
 -- the script buffer after it: the steps at its front, and no other byte
-unfoldable pub writeScript : ℕ → List ℕ → ℕ → List ℕ → List ℕ
-writeScript n list work script =
+unfoldable pub writeSteps : ℕ → List ℕ → ℕ → List ℕ → List ℕ
+writeSteps n list work script =
     afterCall (writeOutcome n list work (length script)) (written stepRecords 0 (map recordOf (easySteps n mostSteps (cubesOf list))) script) script
 
 -- the number and values for each case of the answer

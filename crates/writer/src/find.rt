@@ -5,7 +5,7 @@ use cube::list;
 ghost use mathlib.Core.Path.{_≡_};
 ghost use mathlib.Core.Bool.{not};
 ghost use Prim.Native.Nat.{_+_, _/_, _<_, _≤_};
-ghost use lib.ListN.{length, getD};
+ghost use lib.ListN.{length};
 ghost use Rattle.bits.specs.Below.{NoneTo, FirstIn};
 ghost use Rattle.records.specs.Records.{records};
 ghost use Rattle.records.specs.Strides.{passFrom};

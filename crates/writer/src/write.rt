@@ -11,17 +11,17 @@ use steps::StepRecord;
 use steps::Stepped;
 use steps::perform::smaller;
 ghost use mathlib.Core.Path.{_≡_};
-ghost use Prim.Native.Nat.{_*_, _/_, _<_, _≤_, min};
+ghost use Prim.Native.Nat.{_*_, _/_, _<_, _≤_};
 ghost use lib.ListN.{length};
 ghost use Rattle.records.specs.Answers.{Accepts};
 ghost use Rattle.records.specs.Records.{records};
 ghost use Rattle.cube.specs.Lists.{cubes, cubesOf, cubeCapacity, mostRecords, mostVariables};
 ghost use Rattle.cube.specs.Calls.{checkList};
 ghost use Rattle.steps.specs.Calls.{Ready};
-ghost use Rattle.script.specs.Scripts.{stepWidth, mostSteps, recordOf};
+ghost use Rattle.script.specs.Scripts.{recordOf};
 ghost use Rattle.writer.specs.Pairs.{First};
 ghost use Rattle.writer.specs.Easy.{stepAt};
-ghost use Rattle.writer.specs.Calls.{wrote, writeOutcome, writeWork, writeScript};
+ghost use Rattle.writer.specs.Calls.{wrote, writeOutcome, writeWork, writeSteps};
 ghost use Rattle.writer.specs.Watching.{Unmarked, Made, WritingIs};
 
 // The step that takes away the cubes at two places: 1 drops them where they are equal, 2 joins them.
@@ -122,7 +122,7 @@ fn write_checked(n: usize, list: &[u8], work: &mut [u8], script: &mut [u8]) -> W
 pub fn write_script(n: usize, list: &[u8], work: &mut [u8], script: &mut [u8]) -> Wrote
     ensures { λ r. ⌜ wrote r ≡ writeOutcome n (now (list .entry)) (length (now (work .entry))) (length (now (script .entry))) ⌝ }
     ensures { λ _. ⌜ now (work .exit) ≡ writeWork n (now (list .entry)) (now (work .entry)) (length (now (script .entry))) ⌝ }
-    ensures { λ _. ⌜ now (script .exit) ≡ writeScript n (now (list .entry)) (length (now (work .entry))) (now (script .entry)) ⌝ }
+    ensures { λ _. ⌜ now (script .exit) ≡ writeSteps n (now (list .entry)) (length (now (work .entry))) (now (script .entry)) ⌝ }
 {
     match list::check(n, list) {
         Counted::Refused(r) => Wrote::Refused(r),

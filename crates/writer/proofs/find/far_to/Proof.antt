@@ -10,7 +10,6 @@ use Rattle.cube.specs.Checking.{stride}
 use Rattle.cube.specs.Lists.{cubesOf}
 use Rattle.writer.specs.Watching.{nearAt}
 use Rattle.writer.proofs.Searching.{far-more}
-use borrow.Author.Needs.{needs}
 use Rattle.writer.proofs.find.far_to.Statement.{statement}
 use Rattle.writer.proofs.find.far_to.Tie as tie
 

@@ -2,7 +2,6 @@
 -- Assumes nothing.
 use mathlib.Core.Path.{sym, _∙_}
 use Prim.Native.Nat.{_-_}
-use native.Mathlib.Omega.{arith}
 use Rattle.bits.specs.Below.{NoneTo}
 use Rattle.bits.proofs.First.{none-next, first-end, first-here}
 use Rattle.cube.specs.Lists.{cubesOf}
