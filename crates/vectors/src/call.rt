@@ -14,6 +14,7 @@ use polarity::form;
 use polarity::transform;
 use polarity::vector;
 use script::run;
+use writer::write;
 
 // Bytes of a list and of a script: a record, and a step, more than the most. A lent buffer has at most 2 bytes more than such a list.
 const LIST_BYTES: usize = list::RECORD_WIDTH * (list::MOST_RECORDS + 1);
@@ -25,7 +26,7 @@ const MOST_ROOM: usize = LIST_BYTES + 2;
 // Characters of a cube, at most: one more than the variables of a list.
 const MOST_CODES: usize = list::MOST_VARIABLES + 1;
 
-// What every byte of a lent buffer is before the call.
+// What every byte of a lent buffer is before the call; a script buffer has at most as many as a script.
 const UNTOUCHED: u8 = 7;
 
 fn check(n: usize, list: &[u8]) {
@@ -50,6 +51,19 @@ fn run(n: usize, list: &[u8], script: &[u8], out: &mut [u8]) {
     print::finished(n, run::run(n, list, script, out), out);
 }
 
+fn write(n: usize, list: &[u8], work: &mut [u8], script: &mut [u8]) {
+    print::wrote(write::write_script(n, list, work, script));
+    print::bytes(work);
+    print::bytes(script);
+}
+
+// The second buffer lent: a script buffer of so many bytes.
+fn write_into(n: usize, list: &[u8], work: &mut [u8], room: usize) {
+    let mut script = [UNTOUCHED; SCRIPT_BYTES];
+    let size = data::within(room, &script);
+    write(n, list, work, &mut script[..size]);
+}
+
 // The calls on lists.
 fn on_list(name: usize, h: Head, list: &[u8], script: &[u8], out: &mut [u8]) {
     if name == head::CHECK {
@@ -66,6 +80,10 @@ fn on_list(name: usize, h: Head, list: &[u8], script: &[u8], out: &mut [u8]) {
     }
     if name == head::VECTOR {
         vector(h.n, list, out);
+        return;
+    }
+    if name == head::WRITE {
+        write_into(h.n, list, out, h.second);
         return;
     }
     run(h.n, list, script, out);
@@ -194,7 +212,7 @@ fn second(row: &[u8], at: usize, name: usize, h: Head, bytes: &[u8]) {
         print::wrong(s.p);
         return;
     }
-    if MOST_ROOM < h.room {
+    if MOST_ROOM < h.room || SCRIPT_BYTES < h.second {
         print::wrong(h.p);
         return;
     }

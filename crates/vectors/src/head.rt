@@ -14,19 +14,21 @@ pub(crate) const VECTOR: usize = 4;
 
 pub(crate) const RUN: usize = 5;
 
-pub(crate) const WIDE: usize = 6;
+pub(crate) const WRITE: usize = 6;
 
-pub(crate) const NARROW: usize = 7;
+pub(crate) const WIDE: usize = 7;
 
-pub(crate) const TEST: usize = 8;
+pub(crate) const NARROW: usize = 8;
 
-pub(crate) const BEST: usize = 9;
+pub(crate) const TEST: usize = 9;
 
-pub(crate) const FORM: usize = 10;
+pub(crate) const BEST: usize = 10;
 
-pub(crate) const COEFFICIENTS: usize = 11;
+pub(crate) const FORM: usize = 11;
 
-pub(crate) const BACK: usize = 12;
+pub(crate) const COEFFICIENTS: usize = 12;
+
+pub(crate) const BACK: usize = 13;
 
 // A number and the place after it; 0 and the same place where there is none.
 pub(crate) struct Numeral {
@@ -34,11 +36,12 @@ pub(crate) struct Numeral {
     pub(crate) p: usize,
 }
 
-// The number of variables, the assignment or the polarity, the bytes of the lent buffer, and the place after them.
+// The number of variables, the assignment or the polarity, the bytes of the lent buffer and of a second one, and the place after them.
 pub(crate) struct Head {
     pub(crate) n: usize,
     pub(crate) given: usize,
     pub(crate) room: usize,
+    pub(crate) second: usize,
     pub(crate) p: usize,
 }
 
@@ -66,7 +69,7 @@ fn name_by_b(row: &[u8], first: u8) -> ReadNumber {
 
 fn name_by_w(row: &[u8], first: u8) -> ReadNumber {
     if first == b'w' {
-        return place::word_at(row, 0, b"wide ", WIDE);
+        return either(row, b"wide ", WIDE, b"write ", WRITE);
     }
     if first == b'n' {
         return place::word_at(row, 0, b"narrow ", NARROW);
@@ -109,16 +112,18 @@ pub(crate) fn field(row: &[u8], at: usize, word: &[u8]) -> Numeral {
     }
 }
 
-// The numbers of a call: `N`, then `at A` or `under P`, then `into B`. One that isn't there is 0.
+// The numbers of a call: `N`, then `at A` or `under P`, then `into B` and `and C`. One that isn't there is 0.
 pub(crate) fn numbers(row: &[u8], at: usize) -> Head {
     let n = field(row, at, b"");
     let a = field(row, n.p, b" at ");
     let u = field(row, a.p, b" under ");
     let b = field(row, u.p, b" into ");
+    let c = field(row, b.p, b" and ");
     Head {
         n: n.x,
         given: a.x | u.x,
         room: b.x,
-        p: b.p,
+        second: c.x,
+        p: c.p,
     }
 }

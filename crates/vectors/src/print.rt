@@ -10,6 +10,7 @@ use records::Counted;
 use records::Refusal;
 use script::Finished;
 use text::cubes;
+use writer::Wrote;
 ghost use Rattle.io.specs.Counts.{Counts};
 
 // Bytes of a buffer that is shown whole; of a longer one the last ones are.
@@ -72,6 +73,19 @@ pub(crate) fn reasoned(answer: Reasoned) {
             number(b" bit ", b as usize);
         }
         Reasoned::Refused(r) => {
+            refused(r);
+        }
+    }
+}
+
+// How many steps are written, and whether no pair is left.
+pub(crate) fn wrote(answer: Wrote) {
+    match answer {
+        Wrote::Script(w) => {
+            number(b"= ", w.steps);
+            number(b" finished ", w.finished as usize);
+        }
+        Wrote::Refused(r) => {
             refused(r);
         }
     }
