@@ -1,10 +1,4 @@
 // A row's call: its data read, its buffer lent, and its answer printed.
-use crate::data;
-use crate::head;
-use crate::head::Head;
-use crate::item;
-use crate::item::Kind;
-use crate::print;
 use converters::narrow_from_wide;
 use converters::wide_from_narrow;
 use cube::list;
@@ -13,6 +7,12 @@ use polarity::choose;
 use polarity::form;
 use polarity::transform;
 use polarity::vector;
+use rows::data;
+use rows::head;
+use rows::head::Head;
+use rows::item;
+use rows::item::Kind;
+use rows::print;
 use script::run;
 use writer::write;
 

@@ -4,45 +4,45 @@ use text::number;
 use text::place;
 
 // The calls: those on lists, from WIDE on the two converters of lists, and from TEST on those on vectors and coefficients.
-pub(crate) const CHECK: usize = 1;
+pub const CHECK: usize = 1;
 
-pub(crate) const VALUE: usize = 2;
+pub const VALUE: usize = 2;
 
-pub(crate) const REASONS: usize = 3;
+pub const REASONS: usize = 3;
 
-pub(crate) const VECTOR: usize = 4;
+pub const VECTOR: usize = 4;
 
-pub(crate) const RUN: usize = 5;
+pub const RUN: usize = 5;
 
-pub(crate) const WRITE: usize = 6;
+pub const WRITE: usize = 6;
 
-pub(crate) const WIDE: usize = 7;
+pub const WIDE: usize = 7;
 
-pub(crate) const NARROW: usize = 8;
+pub const NARROW: usize = 8;
 
-pub(crate) const TEST: usize = 9;
+pub const TEST: usize = 9;
 
-pub(crate) const BEST: usize = 10;
+pub const BEST: usize = 10;
 
-pub(crate) const FORM: usize = 11;
+pub const FORM: usize = 11;
 
-pub(crate) const COEFFICIENTS: usize = 12;
+pub const COEFFICIENTS: usize = 12;
 
-pub(crate) const BACK: usize = 13;
+pub const BACK: usize = 13;
 
 // A number and the place after it; 0 and the same place where there is none.
-pub(crate) struct Numeral {
-    pub(crate) x: usize,
-    pub(crate) p: usize,
+pub struct Numeral {
+    pub x: usize,
+    pub p: usize,
 }
 
 // The number of variables, the assignment or the polarity, the bytes of the lent buffer and of a second one, and the place after them.
-pub(crate) struct Head {
-    pub(crate) n: usize,
-    pub(crate) given: usize,
-    pub(crate) room: usize,
-    pub(crate) second: usize,
-    pub(crate) p: usize,
+pub struct Head {
+    pub n: usize,
+    pub given: usize,
+    pub room: usize,
+    pub second: usize,
+    pub p: usize,
 }
 
 // The one of two names that a row begins with.
@@ -85,7 +85,7 @@ fn name_by_v(row: &[u8], first: u8) -> ReadNumber {
 }
 
 // The name that a row begins with, by its first letter.
-pub(crate) fn name(row: &[u8], first: u8) -> ReadNumber {
+pub fn name(row: &[u8], first: u8) -> ReadNumber {
     if first == b'c' {
         return either(row, b"check ", CHECK, b"coefficients ", COEFFICIENTS);
     }
@@ -96,7 +96,7 @@ pub(crate) fn name(row: &[u8], first: u8) -> ReadNumber {
 }
 
 // The place after a word, or the same place where another stands.
-pub(crate) fn after(row: &[u8], at: usize, word: &[u8]) -> usize {
+pub fn after(row: &[u8], at: usize, word: &[u8]) -> usize {
     match place::word_at(row, at, word, 0) {
         ReadNumber::Read(_, p) => p,
         ReadNumber::Wrong(_) => at,
@@ -104,7 +104,7 @@ pub(crate) fn after(row: &[u8], at: usize, word: &[u8]) -> usize {
 }
 
 // A number after a word.
-pub(crate) fn field(row: &[u8], at: usize, word: &[u8]) -> Numeral {
+pub fn field(row: &[u8], at: usize, word: &[u8]) -> Numeral {
     let from = after(row, at, word);
     match number::number_at(row, from, usize::MAX) {
         ReadNumber::Read(x, p) => Numeral { x, p },
@@ -113,7 +113,7 @@ pub(crate) fn field(row: &[u8], at: usize, word: &[u8]) -> Numeral {
 }
 
 // The numbers of a call: `N`, then `at A` or `under P`, then `into B` and `and C`. One that isn't there is 0.
-pub(crate) fn numbers(row: &[u8], at: usize) -> Head {
+pub fn numbers(row: &[u8], at: usize) -> Head {
     let n = field(row, at, b"");
     let a = field(row, n.p, b" at ");
     let u = field(row, a.p, b" under ");

@@ -3,8 +3,8 @@
 use native.Mathlib.Omega.{arith}
 use lib.ListN.{length-take}
 use borrow.Author.Needs.{needs}
-use Rattle.vectors.proofs.data.within.Statement.{statement}
-use Rattle.vectors.proofs.data.within.Tie as tie
+use Rattle.rows.proofs.data.within.Statement.{statement}
+use Rattle.rows.proofs.data.within.Tie as tie
 
 returns : tie.Need-returns
 returns c = search needs

@@ -18,7 +18,7 @@ const MOST_SHOWN: usize = 257;
 
 const LAST_SHOWN: usize = 26;
 
-pub(crate) fn text(t: &[u8]) {
+pub fn text(t: &[u8]) {
     io::write_all(STDOUT_FILENO, t);
 }
 
@@ -29,7 +29,7 @@ fn number(word: &[u8], x: usize) {
 }
 
 // The place from which on a row can't be read.
-pub(crate) fn wrong(p: usize) {
+pub fn wrong(p: usize) {
     number(b"= can't be read at ", p);
     text(b"\n");
 }
@@ -41,7 +41,7 @@ fn refused(r: Refusal) {
     number(b" differing ", r.differing as usize);
 }
 
-pub(crate) fn counted(answer: Counted) {
+pub fn counted(answer: Counted) {
     match answer {
         Counted::Count(count) => {
             number(b"= ", count);
@@ -53,7 +53,7 @@ pub(crate) fn counted(answer: Counted) {
 }
 
 // The bit, and how many products are true.
-pub(crate) fn valued(answer: Valued) {
+pub fn valued(answer: Valued) {
     match answer {
         Valued::Bit(b, trues) => {
             number(b"= ", b as usize);
@@ -66,7 +66,7 @@ pub(crate) fn valued(answer: Valued) {
 }
 
 // How many products are true, and the bit.
-pub(crate) fn reasoned(answer: Reasoned) {
+pub fn reasoned(answer: Reasoned) {
     match answer {
         Reasoned::Shown(trues, b) => {
             number(b"= ", trues);
@@ -79,7 +79,7 @@ pub(crate) fn reasoned(answer: Reasoned) {
 }
 
 // How many steps are written, and whether no pair is left.
-pub(crate) fn wrote(answer: Wrote) {
+pub fn wrote(answer: Wrote) {
     match answer {
         Wrote::Script(w) => {
             number(b"= ", w.steps);
@@ -92,7 +92,7 @@ pub(crate) fn wrote(answer: Wrote) {
 }
 
 // A polarity, and how many products its form has.
-pub(crate) fn best(answer: Best) {
+pub fn best(answer: Best) {
     match answer {
         Best::Found(p, products) => {
             number(b"= ", p);
@@ -117,7 +117,7 @@ fn all_bytes(b: &[u8]) {
 }
 
 // The bytes of a lent buffer.
-pub(crate) fn bytes(b: &[u8]) {
+pub fn bytes(b: &[u8]) {
     text(b" |");
     if b.len() <= MOST_SHOWN {
         all_bytes(b);
@@ -165,7 +165,7 @@ fn list(n: usize, count: usize, b: &[u8]) {
 }
 
 // A count of cubes, or a refusal, and the buffer.
-pub(crate) fn listed(n: usize, answer: Counted, b: &[u8]) {
+pub fn listed(n: usize, answer: Counted, b: &[u8]) {
     counted(answer);
     match answer {
         Counted::Count(count) => {
@@ -178,7 +178,7 @@ pub(crate) fn listed(n: usize, answer: Counted, b: &[u8]) {
 }
 
 // The same of a run, with its peak.
-pub(crate) fn finished(n: usize, answer: Finished, b: &[u8]) {
+pub fn finished(n: usize, answer: Finished, b: &[u8]) {
     match answer {
         Finished::Done(count, peak) => {
             number(b"= ", count);

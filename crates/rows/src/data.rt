@@ -14,13 +14,13 @@ struct Spot {
 }
 
 // How many bytes a part has, and the place after it.
-pub(crate) struct Part {
-    pub(crate) end: usize,
-    pub(crate) p: usize,
+pub struct Part {
+    pub end: usize,
+    pub p: usize,
 }
 
 // A number of a buffer's bytes: 0 in place of one that is too large.
-pub(crate) fn within(end: usize, b: &[u8]) -> usize
+pub fn within(end: usize, b: &[u8]) -> usize
     ensures { λ r. ⌜ Counts r (now (b .entry)) ⌝ }
 {
     if b.len() < end {
@@ -97,7 +97,7 @@ fn all(row: &[u8], kind: Kind, from: Spot, out: &mut [u8]) -> Spot {
 }
 
 // The part that begins with a colon at a place of the row, to the front of a buffer. It ends where something else stands, and where it begins if the buffer is short.
-pub(crate) fn read(row: &[u8], at: usize, kind: Kind, out: &mut [u8]) -> Part
+pub fn read(row: &[u8], at: usize, kind: Kind, out: &mut [u8]) -> Part
     ensures { λ r. ⌜ Counts (r .end) (now (out .exit)) ⌝ }
 {
     let p = head::after(row, at, b":");

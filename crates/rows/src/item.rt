@@ -9,31 +9,31 @@ use text::place;
 use text::step;
 
 // What a part is made of, and over how many variables its cubes are.
-pub(crate) struct Kind {
-    pub(crate) of: u8,
-    pub(crate) n: u32,
+pub struct Kind {
+    pub of: u8,
+    pub n: u32,
 }
 
-pub(crate) const CUBES: u8 = 0;
+pub const CUBES: u8 = 0;
 
-pub(crate) const BITS: u8 = 1;
+pub const BITS: u8 = 1;
 
-pub(crate) const STEPS: u8 = 2;
+pub const STEPS: u8 = 2;
 
-pub(crate) const NOTHING: u8 = 3;
+pub const NOTHING: u8 = 3;
 
 // Repeats of what stands in brackets, at most.
 const MOST_TIMES: usize = 65535;
 
 // An item: the place after it, its bytes as a number with the low byte first, and how many they are; how many times what stands since the last bracket is meant;
 // whether a bracket opens, and whether hexadecimal digits follow. The place of what is no item is where it begins.
-pub(crate) struct Item {
-    pub(crate) p: usize,
-    pub(crate) x: u64,
-    pub(crate) width: usize,
-    pub(crate) times: usize,
-    pub(crate) opens: bool,
-    pub(crate) raw: bool,
+pub struct Item {
+    pub p: usize,
+    pub x: u64,
+    pub width: usize,
+    pub times: usize,
+    pub opens: bool,
+    pub raw: bool,
 }
 
 fn bytes(p: usize, x: u64, width: usize, raw: bool) -> Item {
@@ -170,7 +170,7 @@ fn separator(row: &[u8], p: usize, b: u8) -> Item {
 }
 
 // What stands at a place of the row.
-pub(crate) fn next(row: &[u8], kind: Kind, p: usize, raw: bool) -> Item {
+pub fn next(row: &[u8], kind: Kind, p: usize, raw: bool) -> Item {
     let b = place::byte_at(row, p);
     if separates(b) {
         return separator(row, p, b);

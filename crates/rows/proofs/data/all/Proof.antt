@@ -4,8 +4,8 @@ use mathlib.Core.Path.{_≡_}
 use Prim.Native.Nat.{_-_}
 use lib.ListN.{length}
 use borrow.Author.Needs.{needs}
-use Rattle.vectors.proofs.data.all.Statement.{statement}
-use Rattle.vectors.proofs.data.all.Tie as tie
+use Rattle.rows.proofs.data.all.Statement.{statement}
+use Rattle.rows.proofs.data.all.Tie as tie
 
 abbrev Inv-loop : tie.InvT-loop
 Inv-loop row kind out₀ s₀ out s = length out₀ ≡ length out

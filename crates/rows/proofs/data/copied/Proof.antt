@@ -4,8 +4,8 @@ use mathlib.Core.Path.{_≡_}
 use Prim.Native.Nat.{_-_}
 use lib.ListN.{length}
 use borrow.Author.Needs.{needs}
-use Rattle.vectors.proofs.data.copied.Statement.{statement}
-use Rattle.vectors.proofs.data.copied.Tie as tie
+use Rattle.rows.proofs.data.copied.Statement.{statement}
+use Rattle.rows.proofs.data.copied.Tie as tie
 
 abbrev Inv-loop : tie.InvT-loop
 Inv-loop out₀ from to at p₀ k₀ out p k = length out₀ ≡ length out
