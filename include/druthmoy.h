@@ -20,8 +20,8 @@
  * A truth vector is 2^n bytes, each 0 or 1, indexed by assignment; coefficients are 2^n bytes, each 0 or 1, indexed by
  * the set of variables. A set bit k of a polarity means that variable k appears only complemented.
  *
- * The limit of n is 32 for check, value, reasons, run, settle and narrow from wide, 16 for wide from narrow, and 8 for the
- * other calls.
+ * The limit of n is 32 for check, value, reasons, run, settle, write script and narrow from wide, 16 for wide from narrow,
+ * and 8 for the other calls.
  *
  * A buffer is passed as a pointer and a length in bytes. Pointers are not null, even where a length is 0, need no
  * alignment (but answer, which is aligned as uint64_t is), and no buffer that a call writes overlaps another argument.
@@ -62,7 +62,7 @@
  *
  * What a refusal leaves behind: 1 to 9, 14, 15 and 20 are found before anything is written, and every buffer but `answer`
  * is as it was. 10, 11, 13 and 16 to 19 are found at a step (run and settle only): then every byte of `work` is zero, and
- * `out` is as it was. Lists, scripts, vectors and coefficients are only read.
+ * `out` is as it was. Lists, vectors and coefficients are only read, and so are scripts, but by write script.
  */
 #ifndef DRUTHMOY_H
 #define DRUTHMOY_H
@@ -192,6 +192,21 @@ void dm_settle(uint64_t n,
                uint8_t *work, size_t work_length,
                uint8_t *out, size_t out_length,
                uint64_t *answer);
+
+/* Writes the easy script of a list. Two places are a pair where their cubes are equal or differ in one variable. The pair
+ * with the lowest i, and of those the one with the lowest j above it, is dropped or joined, as a step of the script; then
+ * the same on the new list, until it has no pair or the script has 1,024 steps. answer[2]: the number of steps; answer[3]:
+ * 1 if the end list has no pair, else 0.
+ * Accepted: the end list fills the front of work, and every other byte of work is zero; the steps are the first 8 * number
+ * bytes of script, and no other byte of it is written. A refusal writes nothing.
+ * dm_run, with these steps on the same list and a capacity of its count or more, refuses none and leaves the end list.
+ * Refuses, in this order: 1, 2, 3, 4, 5 (capacity of work below the given count), 5 (script_length below 8 times the smaller
+ * of the count and 1,024). */
+void dm_write_script(uint64_t n,
+                     const uint8_t *list, size_t list_length,
+                     uint8_t *work, size_t work_length,
+                     uint8_t *script, size_t script_length,
+                     uint64_t *answer);
 
 /* An old list as a list: the same cubes at the same places. answer[2]: their number.
  * Writes the first 8 * count bytes of out, and no other byte; a refusal writes none.

@@ -2,11 +2,14 @@
 //! one, plain Rust as one would write it first.
 //!
 //! Prints a table in Markdown: medians of a call, and the library's over plain Rust's with the same algorithm. Before they are measured, all are
-//! called once, and their answers and buffers must be equal.
+//! called once, and their answers and buffers must be equal. A second table has the calls of write script on long lists by passes over all pairs.
 
+mod easy_lists;
 mod inputs;
 mod measure;
 mod plain;
+mod table;
+mod writer;
 
 use druthmoy::words;
 use inputs::{
@@ -15,10 +18,11 @@ use inputs::{
 };
 use plain::{ByBytes, ByWords};
 use std::hint::black_box;
+use table::Straightforward::{Another, Same};
+use table::{REFUSED, SAME_WAY, row};
 
 const RECORDS: usize = 4096;
 const STEPS: usize = 1024;
-const BUFFER: usize = 8 * RECORDS;
 
 fn main() {
     if cfg!(feature = "standin") {
@@ -34,7 +38,9 @@ fn main() {
     polarities(&mut highest);
     scripts(&mut highest);
     settling(&mut highest);
+    writer::rows(&mut highest);
     println!("\nHighest ratio: {highest:.2}");
+    writer::passes();
 }
 
 fn lists(highest: &mut f64) {
@@ -76,7 +82,7 @@ fn lists(highest: &mut f64) {
             size,
             |_, out| words::truth_vector(n, black_box(list), out),
             |_, out| answered(|answer| plain::truth_vector::<ByWords>(n, black_box(list), out, answer)),
-            Some(|_: &mut [u8], out: &mut [u8]| {
+            Another(|_: &mut [u8], out: &mut [u8]| {
                 answered(|answer| plain::truth_vector::<ByBytes>(n, black_box(list), out, answer))
             }),
         );
@@ -149,7 +155,7 @@ fn polarities(highest: &mut f64) {
             size,
             |_, out| words::coefficients(n, black_box(vector), p, out),
             |_, out| answered(|answer| plain::coefficients::<ByWords>(n, black_box(vector), p, out, answer)),
-            Some(|_: &mut [u8], out: &mut [u8]| {
+            Another(|_: &mut [u8], out: &mut [u8]| {
                 answered(|answer| plain::coefficients::<ByBytes>(n, black_box(vector), p, out, answer))
             }),
         );
@@ -159,7 +165,7 @@ fn polarities(highest: &mut f64) {
             size,
             |_, out| words::vector(n, black_box(vector), p, out),
             |_, out| answered(|answer| plain::vector::<ByWords>(n, black_box(vector), p, out, answer)),
-            Some(|_: &mut [u8], out: &mut [u8]| {
+            Another(|_: &mut [u8], out: &mut [u8]| {
                 answered(|answer| plain::vector::<ByBytes>(n, black_box(vector), p, out, answer))
             }),
         );
@@ -177,7 +183,7 @@ fn polarities(highest: &mut f64) {
             size,
             |_, _| words::best_polarity(n, black_box(vector)),
             |_, _| answered(|answer| plain::best_polarity::<ByWords>(n, black_box(vector), answer)),
-            Some(|_: &mut [u8], _: &mut [u8]| {
+            Another(|_: &mut [u8], _: &mut [u8]| {
                 answered(|answer| plain::best_polarity::<ByBytes>(n, black_box(vector), answer))
             }),
         );
@@ -255,9 +261,15 @@ fn settling(highest: &mut f64) {
             |work, out| {
                 answered(|answer| plain::settle::<ByWords>(n, black_box(list), black_box(script), work, out, answer))
             },
-            (n <= 8).then_some(|work: &mut [u8], out: &mut [u8]| {
-                answered(|answer| plain::settle::<ByBytes>(n, black_box(list), black_box(script), work, out, answer))
-            }),
+            if n <= 8 {
+                Another(|work: &mut [u8], out: &mut [u8]| {
+                    answered(|answer| {
+                        plain::settle::<ByBytes>(n, black_box(list), black_box(script), work, out, answer)
+                    })
+                })
+            } else {
+                Same
+            },
         );
     }
 }
@@ -269,94 +281,10 @@ fn small_map() -> (Vec<u8>, Vec<u8>) {
     (list, script)
 }
 
-/// A run whose last step is a drop of unequal cubes.
-const REFUSED: &str = "run, refused";
-
-/// No straightforward way that is another than the library's.
-const SAME_WAY: Option<Call> = None;
-
-type Call = fn(&mut [u8], &mut [u8]) -> [u64; 8];
-
-/// Prints one line of the table. All functions get a work and an output buffer of the greatest useful length.
-fn row(
-    highest: &mut f64,
-    call: &str,
-    size: &str,
-    library: impl Fn(&mut [u8], &mut [u8]) -> [u64; 8],
-    plain: impl Fn(&mut [u8], &mut [u8]) -> [u64; 8],
-    straightforward: Option<impl Fn(&mut [u8], &mut [u8]) -> [u64; 8]>,
-) {
-    let expected = outcome(&library);
-    assert_eq!(expected.0[0], if call == REFUSED { 16 } else { 0 }, "{call}, {size}");
-    assert!(expected == outcome(&plain), "{call}, {size}: plain Rust differs");
-    if let Some(straightforward) = &straightforward {
-        assert!(expected == outcome(straightforward), "{call}, {size}: the straightforward way differs");
-    }
-
-    // The same buffers for all: a call leaves nothing that the next one sees.
-    let (library, plain, straightforward) = measure::medians(
-        (0..PLACEMENTS).map(Buffers::placed),
-        |buffers| {
-            let (work, out) = buffers.lent();
-            black_box(library(black_box(work), black_box(out)));
-        },
-        |buffers| {
-            let (work, out) = buffers.lent();
-            black_box(plain(black_box(work), black_box(out)));
-        },
-        straightforward.map(|straightforward| {
-            move |buffers: &mut Buffers| {
-                let (work, out) = buffers.lent();
-                black_box(straightforward(black_box(work), black_box(out)));
-            }
-        }),
-    );
-    let ratio = library / plain;
-    *highest = highest.max(ratio);
-    let straightforward = straightforward.map_or("the same".to_string(), time);
-    println!("| {call} | {size} | {} | {} | {ratio:.2} | {straightforward} |", time(library), time(plain));
-}
-
-/// The words and both buffers after one call.
-fn outcome(call: &impl Fn(&mut [u8], &mut [u8]) -> [u64; 8]) -> ([u64; 8], Vec<u8>, Vec<u8>) {
-    let (mut work, mut out) = (vec![7; BUFFER], vec![7; BUFFER]);
-    let answer = call(&mut work, &mut out);
-    (answer, work, out)
-}
-
-/// How many placements of the buffers are measured.
-const PLACEMENTS: usize = 9;
-
-/// A work and an output buffer, some way into their memory.
-struct Buffers {
-    memory: [Vec<u8>; 2],
-    start: usize,
-}
-
-impl Buffers {
-    /// Each placement is 472 bytes further on, so that nine of them are spread over a page.
-    fn placed(placement: usize) -> Buffers {
-        Buffers { memory: [vec![7; BUFFER + 4096], vec![7; BUFFER + 4096]], start: 472 * placement }
-    }
-
-    fn lent(&mut self) -> (&mut [u8], &mut [u8]) {
-        let [work, out] = &mut self.memory;
-        (&mut work[self.start..][..BUFFER], &mut out[self.start..][..BUFFER])
-    }
-}
-
 /// The eight words of a call, kept and filled as the wrapper of the library does.
 #[inline]
 fn answered(call: impl FnOnce(&mut plain::Words)) -> plain::Words {
     let mut answer = [u64::MAX; 8];
     call(&mut answer);
     answer
-}
-
-fn time(nanoseconds: f64) -> String {
-    match nanoseconds {
-        small if small < 1e3 => format!("{small:.1} ns"),
-        middle if middle < 1e6 => format!("{:.2} µs", middle / 1e3),
-        large => format!("{:.3} ms", large / 1e6),
-    }
 }

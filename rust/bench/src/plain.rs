@@ -1,5 +1,5 @@
 //! The calls in plain Rust, on the same buffers, as one would write them without proofs: the library's algorithms, and for the calls on vectors
-//! the straightforward ones too.
+//! and for write script the straightforward ones too.
 //! Every call tests its input as the library does, answers the same eight words and, like the library's, is not inlined.
 
 mod bytes;
@@ -11,12 +11,14 @@ mod script;
 mod settling;
 mod vectors;
 mod words;
+mod writer;
 
 pub use converters::{narrow_from_wide, wide_from_narrow};
 pub use lists::{check, reasons, truth_vector, value};
 pub use script::run;
 pub use settling::settle;
 pub use vectors::{ByBytes, ByWords, best_polarity, coefficients, vector, write_form};
+pub use writer::{ByMarks, FromTheFront, pass, write_script};
 
 pub type Words = [u64; 8];
 

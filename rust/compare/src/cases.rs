@@ -4,17 +4,17 @@
 
 use crate::broken::AT_A_STEP;
 use crate::differ::{Call, Case};
+use crate::near_lists;
 use crate::random::Random;
 use crate::scripts;
 use model::cube::{Cube, NARROW_RECORD, PLACE, RECORD, encoded_list, encoded_narrow_list};
 use model::polarity::coefficients;
 use model::refusal::ORDERS;
-use model::script::{self, STEP, encoded_script};
+use model::script::{self, STEP, STEPS, encoded_script};
 
 const VARIABLES: usize = 32;
 const NARROW_VARIABLES: usize = 16;
 const RECORDS: usize = 4096;
-const STEPS: usize = 1024;
 
 /// The refusal numbers that a case is damaged for; none in half of the cases.
 struct Faults(Vec<u64>);
@@ -47,6 +47,7 @@ pub fn case(random: &mut Random, call: Call) -> Case {
         Call::Check | Call::Value | Call::Reasons | Call::TruthVector => list_case(random, faults, call),
         Call::Coefficients | Call::Vector | Call::WriteForm | Call::BestPolarity => bits_case(random, faults, call),
         Call::Run | Call::Settle => script_case(random, faults, call),
+        Call::WriteScript => writer_case(random, faults),
         Call::WideFromNarrow | Call::NarrowFromWide => converter_case(random, faults, call),
     }
 }
@@ -116,6 +117,21 @@ fn script_case(random: &mut Random, faults: &Faults, call: Call) -> Case {
     let script = script_bytes(random, faults, width, &cubes, capacity);
     let input = list_bytes(random, faults, width, RECORD, encoded_list(&cubes));
     Case { call, n, input, number: 0, script, work, out }
+}
+
+fn writer_case(random: &mut Random, faults: &Faults) -> Case {
+    let width = if random.one_in(2) { few_variables(random) } else { many_variables(random, VARIABLES) };
+    let n = variables(random, faults, width, VARIABLES);
+    let least = usize::from(faults.has(4) || faults.has(5));
+    let cubes = near_lists::cubes(random, width, least);
+    let (work_too_small, script_too_short) = match faults.has(5) {
+        true => random.pick(&[(true, false), (false, true), (true, true)]),
+        false => (false, false),
+    };
+    let work = lent(random, RECORD * cubes.len(), work_too_small);
+    let script = lent(random, STEP * cubes.len().min(STEPS), script_too_short);
+    let input = list_bytes(random, faults, width, RECORD, encoded_list(&cubes));
+    Case { call: Call::WriteScript, n, input, number: 0, script, work, out: vec![] }
 }
 
 fn converter_case(random: &mut Random, faults: &Faults, call: Call) -> Case {

@@ -1,6 +1,7 @@
 //! One call of the library beside the same call of the model: answers, and every byte of every buffer.
 
-use druthmoy::{Fixed, Refusal, Run, Settled, Value, words};
+use crate::replays::replay;
+use druthmoy::{Fixed, Refusal, Run, Settled, Value, Written, words};
 use model::calls;
 use model::cube::{Cube, RECORD, decoded};
 use std::fmt;
@@ -18,12 +19,13 @@ pub enum Call {
     BestPolarity,
     Run,
     Settle,
+    WriteScript,
     WideFromNarrow,
     NarrowFromWide,
 }
 
 impl Call {
-    pub const ALL: [Call; 12] = [
+    pub const ALL: [Call; 13] = [
         Call::Check,
         Call::Value,
         Call::Reasons,
@@ -34,6 +36,7 @@ impl Call {
         Call::BestPolarity,
         Call::Run,
         Call::Settle,
+        Call::WriteScript,
         Call::WideFromNarrow,
         Call::NarrowFromWide,
     ];
@@ -48,6 +51,7 @@ pub struct Case {
     pub input: Vec<u8>,
     /// The assignment or the polarity.
     pub number: u64,
+    /// The script, or the buffer for one.
     pub script: Vec<u8>,
     /// The buffers as they are lent.
     pub work: Vec<u8>,
@@ -63,14 +67,15 @@ impl Case {
 
 /// What comes out of a call.
 #[derive(PartialEq)]
-struct After {
-    answer: [u64; 8],
-    work: Vec<u8>,
-    out: Vec<u8>,
+pub struct After {
+    pub answer: [u64; 8],
+    pub script: Vec<u8>,
+    pub work: Vec<u8>,
+    pub out: Vec<u8>,
 }
 
-/// Compares one case three ways: the library's words, its named answers, the model; and reasons with value. Answers the
-/// words.
+/// Compares one case three ways: the library's words, its named answers, the model; reasons with value; and a written
+/// script with its run. Answers the words.
 pub fn compare(case: &Case) -> Result<[u64; 8], String> {
     let expected = by_model(case);
     let got = by_words(case).map_err(|touched| format!("{touched}\n{case}"))?;
@@ -81,8 +86,10 @@ pub fn compare(case: &Case) -> Result<[u64; 8], String> {
     if named != expected {
         return Err(format!("wrapper and model differ\n{case}\nwrapper:\n{named}\nmodel:\n{expected}"));
     }
-    if case.call == Call::Reasons {
-        beside_value(case, &expected.answer)?;
+    match case.call {
+        Call::Reasons => beside_value(case, &expected.answer)?,
+        Call::WriteScript => replay(case, &expected)?,
+        _ => {}
     }
     Ok(expected.answer)
 }
@@ -99,9 +106,9 @@ fn beside_value(case: &Case, reasons: &[u64; 8]) -> Result<(), String> {
 }
 
 fn by_model(case: &Case) -> After {
-    let Case { n, input, number, script, .. } = case;
+    let Case { n, input, number, .. } = case;
     let (n, number) = (*n, *number);
-    let (mut work, mut out) = (case.work.clone(), case.out.clone());
+    let (mut script, mut work, mut out) = (case.script.clone(), case.work.clone(), case.out.clone());
     let outcome = match case.call {
         Call::Check => calls::check(n, input),
         Call::Value => calls::value(n, input, number),
@@ -111,22 +118,23 @@ fn by_model(case: &Case) -> After {
         Call::Vector => calls::vector(n, input, number, &mut out),
         Call::WriteForm => calls::write_form(n, input, number, &mut out),
         Call::BestPolarity => calls::best_polarity(n, input),
-        Call::Run => calls::run(n, input, script, &mut work),
-        Call::Settle => calls::settle(n, input, script, &mut work, &mut out),
+        Call::Run => calls::run(n, input, &script, &mut work),
+        Call::Settle => calls::settle(n, input, &script, &mut work, &mut out),
+        Call::WriteScript => calls::write_script(n, input, &mut work, &mut script),
         Call::WideFromNarrow => calls::wide_from_narrow(n, input, &mut out),
         Call::NarrowFromWide => calls::narrow_from_wide(n, input, &mut out),
     };
-    After { answer: calls::words(&outcome), work, out }
+    After { answer: calls::words(&outcome), script, work, out }
 }
 
 /// The library's own words, on buffers that stand between margins; what it must not touch is looked at.
-fn by_words(case: &Case) -> Result<After, String> {
+pub fn by_words(case: &Case) -> Result<After, String> {
     let mut input = Lent::new(&case.input);
     let mut script = Lent::new(&case.script);
     let (mut work, mut out) = (Lent::new(&case.work), Lent::new(&case.out));
     let answer = {
-        let (n, number, input, script) = (case.n, case.number, &*input.slice(), &*script.slice());
-        let (work, out) = (work.slice(), out.slice());
+        let (n, number, input) = (case.n, case.number, &*input.slice());
+        let (script, work, out) = (script.slice(), work.slice(), out.slice());
         match case.call {
             Call::Check => words::check(n, input),
             Call::Value => words::value(n, input, number),
@@ -138,24 +146,27 @@ fn by_words(case: &Case) -> Result<After, String> {
             Call::BestPolarity => words::best_polarity(n, input),
             Call::Run => words::run(n, input, script, work),
             Call::Settle => words::settle(n, input, script, work, out),
+            Call::WriteScript => words::write_script(n, input, work, script),
             Call::WideFromNarrow => words::wide_from_narrow(n, input, out),
             Call::NarrowFromWide => words::narrow_from_wide(n, input, out),
         }
     };
-    if *input.slice() != case.input[..] || *script.slice() != case.script[..] {
+    let reads_script = case.call != Call::WriteScript;
+    if *input.slice() != case.input[..] || reads_script && *script.slice() != case.script[..] {
         return Err("the library wrote to a buffer that it reads".into());
     }
     if [&input, &script, &work, &out].iter().any(|lent| !lent.margins_are_whole()) {
         return Err("the library wrote outside a buffer".into());
     }
-    Ok(After { answer, work: work.slice().to_vec(), out: out.slice().to_vec() })
+    let [script, work, out] = [script, work, out].map(|mut lent| lent.slice().to_vec());
+    Ok(After { answer, script, work, out })
 }
 
 /// The wrapper's enums, put back into words.
 fn by_names(case: &Case) -> After {
-    let Case { n, input, number, script, .. } = case;
+    let Case { n, input, number, .. } = case;
     let (n, number) = (*n, *number);
-    let (mut work, mut out) = (case.work.clone(), case.out.clone());
+    let (mut script, mut work, mut out) = (case.script.clone(), case.work.clone(), case.out.clone());
     let one = |value: u64| vec![value];
     let named: Result<Vec<u64>, Refusal> = match case.call {
         Call::Check => druthmoy::check(n, input).map(one),
@@ -168,13 +179,15 @@ fn by_names(case: &Case) -> After {
         Call::Vector => druthmoy::vector(n, input, number, &mut out).map(one),
         Call::WriteForm => druthmoy::write_form(n, input, number, &mut out).map(one),
         Call::BestPolarity => druthmoy::best_polarity(n, input).map(|Fixed { polarity, size }| vec![polarity, size]),
-        Call::Run => druthmoy::run(n, input, script, &mut work).map(|Run { count, peak }| vec![count, peak]),
-        Call::Settle => druthmoy::settle(n, input, script, &mut work, &mut out).map(
+        Call::Run => druthmoy::run(n, input, &script, &mut work).map(|Run { count, peak }| vec![count, peak]),
+        Call::Settle => druthmoy::settle(n, input, &script, &mut work, &mut out).map(
             |Settled { given, peak, script, fixed, burned }| {
                 let (polarity, size) = fixed.map_or((u64::MAX, u64::MAX), |fixed| (fixed.polarity, fixed.size));
                 vec![given, peak, script, polarity, size, burned]
             },
         ),
+        Call::WriteScript => druthmoy::write_script(n, input, &mut work, &mut script)
+            .map(|Written { steps, finished }| vec![steps, finished as u64]),
         Call::WideFromNarrow => druthmoy::wide_from_narrow(n, input, &mut out).map(one),
         Call::NarrowFromWide => druthmoy::narrow_from_wide(n, input, &mut out).map(one),
     };
@@ -183,7 +196,7 @@ fn by_names(case: &Case) -> After {
         Ok(values) => answer[2..2 + values.len()].copy_from_slice(&values),
         Err(refusal) => answer[..3].copy_from_slice(&[refusal.fault.number(), refusal.place, refusal.differing]),
     }
-    After { answer, work, out }
+    After { answer, script, work, out }
 }
 
 /// A buffer with margins around it, at an odd address.
@@ -226,6 +239,7 @@ impl fmt::Display for Case {
 impl fmt::Display for After {
     fn fmt(&self, f: &mut fmt::Formatter) -> fmt::Result {
         writeln!(f, "answer {:?}", self.answer)?;
+        writeln!(f, "script: {}", hex(&self.script))?;
         writeln!(f, "work: {}", hex(&self.work))?;
         writeln!(f, "out: {}", hex(&self.out))
     }

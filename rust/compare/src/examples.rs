@@ -1,6 +1,7 @@
 //! Document 01's marked examples and limits, as document 02 amends them, with the answers that they give.
 
 use crate::differ::{Call, Case, compare};
+use crate::easy_examples;
 use model::cube::{RECORD, encoded_list, encoded_narrow_list, read};
 use model::script::Step::{self, Drop, Join, L, Split, Turn};
 use model::script::encoded_script;
@@ -14,6 +15,7 @@ pub fn all() -> Result<(), String> {
         refused_steps(),
         settled(),
         costs(),
+        easy_examples::all(),
         limits(),
         too_many_variables(),
         long_labels(),
@@ -30,7 +32,7 @@ pub fn all() -> Result<(), String> {
     Ok(())
 }
 
-type Example = (Case, Vec<u64>);
+pub type Example = (Case, Vec<u64>);
 
 fn values_and_forms() -> Vec<Example> {
     vec![
@@ -252,11 +254,11 @@ fn old_lists() -> Vec<Example> {
     ]
 }
 
-fn empty(call: Call, n: u64) -> Case {
+pub fn empty(call: Call, n: u64) -> Case {
     Case { call, n, input: vec![], number: 0, script: vec![], work: vec![], out: vec![] }
 }
 
-fn records(list: &[&str]) -> Vec<u8> {
+pub fn records(list: &[&str]) -> Vec<u8> {
     let cubes: Vec<_> = list.iter().map(|text| read(text)).collect();
     encoded_list(&cubes)
 }

@@ -166,7 +166,7 @@ fn expected_of_two_cubes(m: u32, turns: u64) -> BTreeMap<[u64; 2], u64> {
 }
 
 /// All cubes over n variables with literals at these alone.
-fn cubes_over(n: usize, variables: &[usize]) -> Vec<Cube> {
+pub fn cubes_over(n: usize, variables: &[usize]) -> Vec<Cube> {
     let mut cubes = vec![vec![2; n]];
     for &v in variables {
         cubes = (0..3).flat_map(|code| cubes.iter().map(move |cube| with_code(cube, v, code))).collect();

@@ -1,9 +1,10 @@
 //! The labels whose reasons were asked for, and how often another outcome would have come of a rule that is not document
 //! 02's: such a rule would be seen in the comparison.
 
+use crate::counts::{Counts, unmet, write_lines};
 use crate::differ::Case;
+use crate::lengths::{LENGTHS, length};
 use model::cube::{PLACE, encoded_places, reasons};
-use std::cmp::Ordering;
 use std::fmt;
 
 /// The reasons of a label, and the buffer that is lent for them.
@@ -61,8 +62,6 @@ const OTHERS: [(&str, Rule); 6] = [
 
 const NUMBERS: [&str; 4] = ["none", "one", "two", "three or more"];
 
-const LENGTHS: [&str; 4] = ["longer", "just long enough", "one byte too short", "shorter"];
-
 /// Labels by the number of their reasons, buffers by their length, and the rules that would have had another outcome.
 #[derive(Default)]
 pub struct Labels {
@@ -81,14 +80,7 @@ impl Labels {
         if answer[0] == 0 {
             self.numbers[label.places.len().min(3)] += 1;
         }
-        let needed = PLACE * label.records;
-        let length = match label.lent.len().cmp(&needed) {
-            Ordering::Greater => 0,
-            Ordering::Equal => 1,
-            Ordering::Less if label.lent.len() + 1 == needed => 2,
-            Ordering::Less => 3,
-        };
-        self.lengths[length] += 1;
+        self.lengths[length(&label.lent, PLACE * label.records)] += 1;
         for (count, (_, rule)) in self.another.iter_mut().zip(OTHERS) {
             *count += u64::from(rule(&label) != BY_PLACES(&label));
         }
@@ -96,14 +88,10 @@ impl Labels {
 
     /// What was never met, and the rules that would never have been seen.
     pub fn amiss(&self) -> Vec<String> {
-        let unmet = |(of, counts): (&str, Vec<(&str, u64)>)| {
-            let unmet = counts.into_iter().filter(|(_, count)| *count == 0);
-            unmet.map(|(name, _)| format!("{of}: {name} not met")).collect::<Vec<_>>()
-        };
-        self.counts().into_iter().flat_map(unmet).collect()
+        unmet(&self.counts())
     }
 
-    fn counts(&self) -> [(&'static str, Vec<(&'static str, u64)>); 3] {
+    fn counts(&self) -> [Counts; 3] {
         let rules = OTHERS.map(|(name, _)| name);
         [
             ("labels by their reasons", NUMBERS.into_iter().zip(self.numbers).collect()),
@@ -115,10 +103,6 @@ impl Labels {
 
 impl fmt::Display for Labels {
     fn fmt(&self, f: &mut fmt::Formatter) -> fmt::Result {
-        for (of, counts) in self.counts() {
-            let counts: Vec<String> = counts.iter().map(|(name, count)| format!("{name} {count}")).collect();
-            writeln!(f, "{of}: {}", counts.join(", "))?;
-        }
-        Ok(())
+        write_lines(f, &self.counts())
     }
 }

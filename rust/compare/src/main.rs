@@ -7,19 +7,27 @@ mod broken;
 mod cases;
 mod choices;
 mod converters;
+mod counts;
 mod differ;
+mod easy_examples;
+mod easy_scripts;
 mod examples;
 mod exhaustive;
 mod figures;
 mod labels;
+mod lengths;
+mod near_lists;
+mod paths;
 mod per_record;
 mod random;
 mod random_calls;
 mod reasons;
 mod records;
 mod refused_steps;
+mod replays;
 mod scripts;
 mod tally;
+mod writer;
 
 use std::process::ExitCode;
 use std::time::Instant;
@@ -34,7 +42,7 @@ fn main() -> ExitCode {
     if cfg!(feature = "standin") {
         println!("STAND-IN: the calls are answered by the model itself; nothing below speaks of the library.\n");
     }
-    let parts: [Part; 10] = [
+    let parts: [Part; 11] = [
         ("the documents' examples and limits", &examples::all),
         ("the wrapper's records", &|| records::all(seed)),
         ("random calls", &|| random_calls::all(calls as usize, seed)),
@@ -42,6 +50,7 @@ fn main() -> ExitCode {
         ("all short lists and scripts over 2 variables", &exhaustive::short_lists_and_scripts),
         ("all steps on two cubes over up to 3 variables, and over 3 of 32", &exhaustive::steps_on_two_cubes),
         ("reasons: faults together, short lists at every label", &reasons::all),
+        ("write script: faults together, short lists in every buffer", &writer::all),
         ("the converters: faults together, short lists there and back", &converters::all),
         ("published average of 5-variable functions", &|| figures::average_of_five(seed)),
         ("published sizes of rd53, rd73, rd84", &figures::ones_counters),

@@ -2,6 +2,7 @@
 
 use crate::choices::Choices;
 use crate::differ::{Call, Case};
+use crate::easy_scripts::EasyScripts;
 use crate::labels::Labels;
 use crate::refused_steps::RefusedSteps;
 use model::cube::RECORD;
@@ -12,12 +13,13 @@ use std::fmt;
 #[derive(Default)]
 pub struct Tally {
     /// By call, then by refusal number; 0 counts the accepted calls.
-    answers: [[u64; 21]; 12],
+    answers: [[u64; 21]; ORDERS.len()],
     /// Steps of accepted runs by operation.
     steps: [u64; 6],
     refused_steps: RefusedSteps,
     choices: Choices,
     labels: Labels,
+    easy_scripts: EasyScripts,
     /// Accepted lists of 32 variables with a literal at the last of them.
     with_the_last_variable: u64,
     longest_list: usize,
@@ -32,8 +34,10 @@ impl Tally {
         if number == 0 && case.n == 32 && case.input.chunks(RECORD).any(|record| record[3] >= 0x80) {
             self.with_the_last_variable += 1;
         }
-        if case.call == Call::Reasons {
-            self.labels.add(case, answer);
+        match case.call {
+            Call::Reasons => self.labels.add(case, answer),
+            Call::WriteScript => self.easy_scripts.add(case, answer),
+            _ => {}
         }
         let has_script = matches!(case.call, Call::Run | Call::Settle);
         match number {
@@ -54,7 +58,7 @@ impl Tally {
     }
 
     /// The refusals that the documents give a call and that were not met, and those met that they do not give; and what
-    /// is amiss with refused steps, with choices and with labels.
+    /// is amiss with refused steps, with choices, with labels and with easy scripts.
     pub fn amiss(&self) -> Vec<String> {
         let mut amiss = Vec::new();
         for ((name, numbers), answers) in ORDERS.iter().zip(&self.answers) {
@@ -71,6 +75,7 @@ impl Tally {
         amiss.extend(self.refused_steps.amiss());
         amiss.extend(self.choices.amiss());
         amiss.extend(self.labels.amiss());
+        amiss.extend(self.easy_scripts.amiss());
         amiss
     }
 }
@@ -99,6 +104,7 @@ impl fmt::Display for Tally {
         write!(f, "{}", self.refused_steps)?;
         write!(f, "{}", self.choices)?;
         write!(f, "{}", self.labels)?;
+        write!(f, "{}", self.easy_scripts)?;
         writeln!(f, "accepted lists with a literal at variable 31: {}", self.with_the_last_variable)?;
         write!(
             f,

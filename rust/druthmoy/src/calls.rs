@@ -35,6 +35,14 @@ pub struct Settled {
     pub burned: u64,
 }
 
+/// An easy script: the number of its steps, and whether it has finished, so that no two cubes of the list that it ends in
+/// are equal or differ in one variable.
+#[derive(Clone, Copy, Debug, PartialEq, Eq)]
+pub struct Written {
+    pub steps: u64,
+    pub finished: bool,
+}
+
 /// Tests a list; answers the number of its records.
 pub fn check(n: u64, list: &[u8]) -> Result<u64, Refusal> {
     accepted(words::check(n, list)).map(|[count, ..]| count)
@@ -88,6 +96,14 @@ pub fn settle(n: u64, list: &[u8], script: &[u8], work: &mut [u8], out: &mut [u8
     let [given, peak, script, polarity, size, burned] = accepted(words::settle(n, list, script, work, out))?;
     let fixed = (n <= 8).then_some(Fixed { polarity, size });
     Ok(Settled { given, peak, script, fixed, burned })
+}
+
+/// Writes the easy script of a list to the front of `script`, which has room for a step a record, or for 1,024. Each step
+/// is the drop or the join of the lowest i, and the lowest j above it, whose cubes are equal or differ in one variable. The
+/// list that the steps end in stands at the front of `work`, with zeros after it.
+pub fn write_script(n: u64, list: &[u8], work: &mut [u8], script: &mut [u8]) -> Result<Written, Refusal> {
+    let [steps, finished, ..] = accepted(words::write_script(n, list, work, script))?;
+    Ok(Written { steps, finished: finished == 1 })
 }
 
 /// Writes an old list's cubes, at the same places, as a list to the front of `out`; answers how many.

@@ -15,6 +15,22 @@
 //! assert_eq!(burned.take(settled.burned as usize).collect::<Vec<_>>(), ["--", "00"]);
 //! ```
 //!
+//! An easy script, of drops and joins alone, is written for a list, and the list settled with it:
+//!
+//! ```
+//! use druthmoy::{Cube, STEP, Step, Written, settle, write_script};
+//!
+//! let list: Vec<u8> = ["10", "0-", "11"].iter().flat_map(|text| text.parse::<Cube>().unwrap().record()).collect();
+//! let (mut work, mut script) = (vec![0; list.len()], vec![0; list.len()]);
+//! let written = write_script(2, &list, &mut work, &mut script).unwrap();
+//! assert_eq!(written, Written { steps: 2, finished: true });
+//! script.truncate(STEP * written.steps as usize);
+//! assert_eq!(script, [Step::Join { i: 0, j: 2 }, Step::Join { i: 0, j: 1 }].map(Step::record).concat());
+//! let mut out = vec![0; list.len()];
+//! assert_eq!(settle(2, &list, &script, &mut work, &mut out).unwrap().burned, 1);
+//! assert_eq!(Cube::from_record(out.as_chunks().0[0]).written(2), "--");
+//! ```
+//!
 //! The products that are true at a label, by their places, say why it has its bit:
 //!
 //! ```
@@ -57,10 +73,10 @@ mod refusal;
 pub mod words;
 
 pub use calls::{
-    Fixed, Run, Settled, Value, best_polarity, check, coefficients, narrow_from_wide, reasons, run, settle,
-    truth_vector, value, vector, wide_from_narrow, write_form,
+    Fixed, Run, Settled, Value, Written, best_polarity, check, coefficients, narrow_from_wide, reasons, run, settle,
+    truth_vector, value, vector, wide_from_narrow, write_form, write_script,
 };
-pub use records::{Cube, NARROW_RECORD, NotACube, PLACE, RECORD, Step};
+pub use records::{Cube, NARROW_RECORD, NotACube, PLACE, RECORD, STEP, Step};
 pub use refusal::{Fault, Refusal};
 
 #[cfg(feature = "standin")]

@@ -70,6 +70,16 @@ unsafe extern "C" {
         out_length: usize,
         answer: *mut u64,
     );
+    pub fn dm_write_script(
+        n: u64,
+        list: *const u8,
+        list_length: usize,
+        work: *mut u8,
+        work_length: usize,
+        script: *mut u8,
+        script_length: usize,
+        answer: *mut u64,
+    );
     pub fn dm_wide_from_narrow(
         n: u64,
         list: *const u8,

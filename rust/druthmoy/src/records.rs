@@ -7,6 +7,9 @@ use std::str::FromStr;
 pub const RECORD: usize = 8;
 pub const NARROW_RECORD: usize = 4;
 
+/// Bytes of a step.
+pub const STEP: usize = 8;
+
 /// Bytes of a place among reasons.
 pub const PLACE: usize = 2;
 
@@ -97,7 +100,7 @@ pub enum Step {
 }
 
 impl Step {
-    pub fn record(self) -> [u8; 8] {
+    pub fn record(self) -> [u8; STEP] {
         let (op, v, i, j, literal) = match self {
             Step::Drop { i, j } => (1, 0, i, j, 0),
             Step::Join { i, j } => (2, 0, i, j, 0),

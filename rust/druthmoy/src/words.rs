@@ -116,6 +116,24 @@ pub fn settle(n: u64, list: &[u8], script: &[u8], work: &mut [u8], out: &mut [u8
 }
 
 #[inline]
+pub fn write_script(n: u64, list: &[u8], work: &mut [u8], script: &mut [u8]) -> Words {
+    let mut answer = UNANSWERED;
+    unsafe {
+        raw::dm_write_script(
+            n,
+            list.as_ptr(),
+            list.len(),
+            work.as_mut_ptr(),
+            work.len(),
+            script.as_mut_ptr(),
+            script.len(),
+            answer.as_mut_ptr(),
+        );
+    }
+    answer
+}
+
+#[inline]
 pub fn wide_from_narrow(n: u64, list: &[u8], out: &mut [u8]) -> Words {
     let mut answer = UNANSWERED;
     unsafe {

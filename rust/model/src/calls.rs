@@ -3,8 +3,9 @@
 use crate::cube::{self, Cube, NARROW_RECORD, PLACE, RECORD, encoded_list, encoded_narrow_list, encoded_places};
 use crate::polarity;
 use crate::refusal::{Refusal, refuse_at_if, refuse_if};
-use crate::script::{self, STEP, Step};
+use crate::script::{self, STEP, STEPS, Step, encoded_script};
 use crate::settling;
+use crate::writer;
 
 /// The values that an accepted call answers, in document 01's order.
 pub type Outcome = Result<Vec<u64>, Refusal>;
@@ -113,6 +114,19 @@ pub fn settle(n: u64, list: &[u8], script: &[u8], work: &mut [u8], out: &mut [u8
     Ok([&counts[..], &[polarity, size, settled.burned.len() as u64]].concat())
 }
 
+/// Document 02, Three: "1 to 4, then 5 for the work buffer, then 5 for a script buffer shorter than 8 times the smaller of
+/// the count and 1,024"; "it answers the number of steps and which".
+pub fn write_script(n: u64, list: &[u8], work: &mut [u8], script: &mut [u8]) -> Outcome {
+    let given = checked_list(n, MOST_VARIABLES, list)?;
+    refuse_if(capacity(work) < given.len(), 5)?;
+    refuse_if(script.len() < STEP * given.len().min(STEPS), 5)?;
+    let written = writer::written(&given);
+    work.fill(0);
+    write_front(work, &encoded_list(&written.list));
+    write_front(script, &encoded_script(&written.steps));
+    Ok(vec![written.steps.len() as u64, written.finished as u64])
+}
+
 /// Document 02, Seven: "wide from narrow gives the same cubes at the same places".
 pub fn wide_from_narrow(n: u64, list: &[u8], out: &mut [u8]) -> Outcome {
     let list = checked_records(n, NARROW_VARIABLES, NARROW_RECORD, list)?;
@@ -157,7 +171,7 @@ fn checked_records(n: u64, limit: u64, width: usize, list: &[u8]) -> Result<Vec<
 /// Rules 7 to 9.
 fn checked_script(n: u64, script: &[u8]) -> Result<Vec<Step>, Refusal> {
     refuse_if(!script.len().is_multiple_of(STEP), 7)?;
-    refuse_if(script.len() / STEP > 1024, 8)?;
+    refuse_if(script.len() / STEP > STEPS, 8)?;
     let steps: Vec<Option<Step>> = script.chunks(STEP).map(|bytes| script::decoded(n as usize, bytes)).collect();
     let bad = steps.iter().position(Option::is_none);
     refuse_at_if(bad.is_some(), 9, bad.unwrap_or(0))?;

@@ -14,3 +14,4 @@ pub mod program;
 pub mod refusal;
 pub mod script;
 pub mod settling;
+pub mod writer;

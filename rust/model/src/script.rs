@@ -6,6 +6,9 @@ use crate::refusal::{Refusal, refuse_at_if, refuse_cubes_if};
 /// Bytes of a step.
 pub const STEP: usize = 8;
 
+/// "Script: 0 to 1,024 steps."
+pub const STEPS: usize = 1024;
+
 /// A step with the fields that it uses.
 #[derive(Clone, Copy, Debug, PartialEq, Eq)]
 pub enum Step {

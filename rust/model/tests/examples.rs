@@ -10,6 +10,9 @@ use model::refusal::Refusal;
 use model::script::Step::{self, Drop, Join, L, Split, Turn};
 use model::script::{self, encoded_script};
 
+#[path = "examples/write_script.rs"]
+mod write_script;
+
 fn list(cubes: &[&str]) -> Vec<Cube> {
     cubes.iter().map(|text| read(text)).collect()
 }
@@ -215,6 +218,7 @@ fn limits() {
     assert_eq!(calls::best_polarity(33, &[]), refused(1, 0));
     assert_eq!(calls::run(33, &[], &[], &mut work), refused(1, 0));
     assert_eq!(calls::settle(33, &[], &[], &mut work, &mut out), refused(1, 0));
+    assert_eq!(calls::write_script(33, &[], &mut work, &mut out), refused(1, 0));
     assert_eq!(calls::wide_from_narrow(33, &[], &mut out), refused(1, 0));
     assert_eq!(calls::narrow_from_wide(33, &[], &mut out), refused(1, 0));
 }

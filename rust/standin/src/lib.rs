@@ -145,6 +145,23 @@ pub unsafe extern "C" fn dm_settle(
 }
 
 #[unsafe(no_mangle)]
+pub unsafe extern "C" fn dm_write_script(
+    n: u64,
+    list: *const u8,
+    list_length: usize,
+    work: *mut u8,
+    work_length: usize,
+    script: *mut u8,
+    script_length: usize,
+    answer: *mut u64,
+) {
+    unsafe {
+        let (work, script) = (from_raw_parts_mut(work, work_length), from_raw_parts_mut(script, script_length));
+        give(calls::write_script(n, from_raw_parts(list, list_length), work, script), answer)
+    }
+}
+
+#[unsafe(no_mangle)]
 pub unsafe extern "C" fn dm_wide_from_narrow(
     n: u64,
     list: *const u8,

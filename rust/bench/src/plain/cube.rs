@@ -42,6 +42,12 @@ impl Cube {
         (self.seen ^ other.seen) | (self.value ^ other.value)
     }
 
+    /// Equal, or differing in one variable.
+    #[inline]
+    pub fn is_near(self, other: Cube) -> bool {
+        self.differing(other).count_ones() < 2
+    }
+
     #[inline]
     pub fn code(self, v: u32) -> u32 {
         let (seen, value) = (self.seen >> v & 1, self.value >> v & 1);

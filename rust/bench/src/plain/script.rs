@@ -5,7 +5,10 @@ use super::lists::{Records, checked};
 use super::orders::{self, NONE, Pending, after_exchange, exchange};
 use super::{Refusal, Words, refusal, refuse_if, words};
 
-const STEP: usize = 8;
+pub const STEP: usize = 8;
+
+/// Steps of a script, at most.
+pub const STEPS: usize = 1024;
 
 #[inline(never)]
 pub fn run(n: u64, list: &[u8], script: &[u8], work: &mut [u8], answer: &mut Words) {
@@ -28,7 +31,7 @@ fn try_run(n: u64, list: &[u8], script: &[u8], work: &mut [u8]) -> Result<Done, 
 pub fn checked_script(n: u64, script: &[u8]) -> Result<&[[u8; STEP]], Refusal> {
     let (steps, rest) = script.as_chunks();
     refuse_if(!rest.is_empty(), 7)?;
-    refuse_if(steps.len() > 1024, 8)?;
+    refuse_if(steps.len() > STEPS, 8)?;
     match steps.iter().position(|step| !is_well_formed(n, step)) {
         Some(place) => refusal(9, place),
         None => Ok(steps),
@@ -37,11 +40,7 @@ pub fn checked_script(n: u64, script: &[u8]) -> Result<&[[u8; STEP]], Refusal> {
 
 /// Runs steps that are well-formed, in a work buffer that holds the given list. A refusal leaves it zero.
 pub fn run_in(given: Records, steps: &[[u8; STEP]], work: &mut [u8]) -> Result<Done, Refusal> {
-    let (front, rest) = work.split_at_mut(given.len() * RECORD);
-    front.copy_from_slice(given.as_flattened());
-    rest.fill(0);
-    let mut state =
-        State { records: records(work), count: given.len(), peak: given.len(), pending: [NONE; VARIABLES as usize] };
+    let mut state = State::filled(given, work);
     for (place, step) in steps.iter().enumerate() {
         if let Err(StepRefusal { number, differing }) = state.step(step) {
             work.fill(0);
@@ -53,7 +52,7 @@ pub fn run_in(given: Records, steps: &[[u8; STEP]], work: &mut [u8]) -> Result<D
 }
 
 /// Why a step is refused: the number; and the number of differing variables, where its two cubes are not as it needs.
-struct StepRefusal {
+pub struct StepRefusal {
     number: u64,
     differing: u32,
 }
@@ -66,7 +65,7 @@ fn unfit<T>(number: u64, apart: u32) -> Result<T, StepRefusal> {
     Err(StepRefusal { number, differing: apart.count_ones() })
 }
 
-struct State<'a> {
+pub struct State<'a> {
     records: &'a mut [[u8; RECORD]],
     count: usize,
     peak: usize,
@@ -74,7 +73,21 @@ struct State<'a> {
 }
 
 impl State<'_> {
-    fn step(&mut self, step: &[u8; STEP]) -> Result<(), StepRefusal> {
+    /// The given list at the front of a work buffer that holds it, and zeros after it.
+    #[inline]
+    pub fn filled<'a>(given: Records, work: &'a mut [u8]) -> State<'a> {
+        let (front, rest) = work.split_at_mut(given.len() * RECORD);
+        front.copy_from_slice(given.as_flattened());
+        rest.fill(0);
+        let count = given.len();
+        State { records: records(work), count, peak: count, pending: [NONE; VARIABLES as usize] }
+    }
+
+    pub fn list(&self) -> Records<'_> {
+        &self.records[..self.count]
+    }
+
+    pub fn step(&mut self, step: &[u8; STEP]) -> Result<(), StepRefusal> {
         let &[op, v, _, _, _, _, literal, _] = step;
         let (v, i, j) = (v as u32, place(step, 2), place(step, 4));
         match op {
