@@ -18,6 +18,12 @@ use Rattle.steps.proofs.perform.smaller.Kinds as smaller-kinds
 use Rattle.steps.proofs.perform.smaller.Reads as smaller-reads
 use Rattle.steps.proofs.perform.larger.Kinds as larger-kinds
 use Rattle.steps.proofs.perform.larger.Reads as larger-reads
+use Rattle.steps.proofs.decide.third_at.Kinds as third-at-kinds
+use Rattle.steps.proofs.decide.third_at.Reads as third-at-reads
+use Rattle.steps.proofs.perform.drop_both.Kinds as drop-both-kinds
+use Rattle.steps.proofs.perform.drop_both.Reads as drop-both-reads
+use Rattle.steps.proofs.perform.join_both.Kinds as join-both-kinds
+use Rattle.steps.proofs.perform.join_both.Reads as join-both-reads
 use Rattle.steps.proofs.reorder.reorder.Kinds as reorder-kinds
 use Rattle.steps.proofs.reorder.reorder.Reads as reorder-reads
 use Rattle.steps.proofs.step.do_step.Kinds as do-step-kinds
@@ -44,6 +50,15 @@ two-places-determined κs a z z′ ws ws′ p q = (same p q, refl)
 
 pub decide-determined : Determined 0 decide-kinds.ps decide-kinds.r decide-reads.Learnt
 decide-determined κs a z z′ ws ws′ p q = (same-told moveOf changeOf change-known (p .is) (q .is), refl)
+
+pub third-at-determined : Determined 0 third-at-kinds.ps third-at-kinds.r third-at-reads.Learnt
+third-at-determined κs a z z′ ws ws′ p q = (same p q, refl)
+
+pub drop-both-determined : Determined 1 drop-both-kinds.ps drop-both-kinds.r drop-both-reads.Learnt
+drop-both-determined κs a z z′ ws ws′ p q = (same (p .0) (q .0), ap (λ (b : List ℕ). (b, (tt, (tt, (tt, tt))))) (same (p .1) (q .1)))
+
+pub join-both-determined : Determined 1 join-both-kinds.ps join-both-kinds.r join-both-reads.Learnt
+join-both-determined κs a z z′ ws ws′ p q = (same (p .0) (q .0), ap (λ (b : List ℕ). (b, (tt, (tt, (tt, (tt, tt)))))) (same (p .1) (q .1)))
 
 pub smaller-determined : Determined 0 smaller-kinds.ps smaller-kinds.r smaller-reads.Learnt
 smaller-determined κs a z z′ ws ws′ p q = (same p q, refl)

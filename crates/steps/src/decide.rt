@@ -60,7 +60,7 @@ fn only(v: u32) -> u32
 }
 
 // c with the third of c's and d's codes at v.
-fn third_at(c: Cube, d: Cube, v: u32) -> Cube
+pub fn third_at(c: Cube, d: Cube, v: u32) -> Cube
     ensures { λ r. ⌜ r ≡ withCode c v (thirdOf (code c v) (code d v)) ⌝ }
 {
     c.with_code(v, orders::third(c.code_at(v), d.code_at(v)))

@@ -14,6 +14,7 @@ use Rattle.cube.proofs.Apart.{apart-number}
 use Rattle.steps.specs.Effects.{TwoPlaces}
 use Rattle.steps.specs.Moves.{next, dropAt, joinAt}
 use Rattle.steps.specs.Steps.{Step, Allowed, cubeAt, thirdAt, step}
+use Rattle.steps.proofs.Balanced.{next-same}
 use Rattle.steps.proofs.Inversion.{drop-accepts, join-accepts}
 use Rattle.script.specs.Run.{ended, onward, stepsFrom, unstep, undoBy, undo, finish, run}
 use Rattle.writer.specs.Pairs.{pair, partner, lowest, hasPair, First}
@@ -31,19 +32,19 @@ record Taken (n : ℕ) (l : List Cube) (i j : ℕ) (x : Step) : Type 0 where
   fits : Allowed n x
   plain : (t : List Cube) → unstep x t ≡ t
 
+pub pair-places : (n : ℕ) (l : List Cube) (i j : ℕ) → First n l i j → TwoPlaces (length l) i j
+pair-places n l i j p = record { first = omega (arith, p .is .above, p .is .inside); second = p .is .inside; unlike = λ e. omega (arith, p .is .above) }
+
 taken : (n : ℕ) (l : List Cube) (i j : ℕ) → First n l i j → Taken n l i j (stepAt n l i j)
 unfolding pair
 taken n l i j p =
     subst (λ (k : ℕ). Taken n l i j (stepBy k i j)) (apart-number n (cubeAt l i) (cubeAt l j))
     (go (apart n (cubeAt l i) (cubeAt l j)) refl (omega (arith, leb-true (differingNumber n (cubeAt l i) (cubeAt l j)) 1 (p .is .near), apart-number n (cubeAt l i) (cubeAt l j))))
   where
-    places : TwoPlaces (length l) i j
-    places = record { first = omega (arith, p .is .above, p .is .inside); second = p .is .inside; unlike = λ e. omega (arith, p .is .above) }
-
     go : (vs : List ℕ) → apart n (cubeAt l i) (cubeAt l j) ≡ vs → length vs ≤ 1 → Taken n l i j (stepBy (length vs) i j)
     go [] e h = record {
       list = dropAt one l i j;
-      accepts = λ cap. drop-accepts n cap i j l (dropAt one l i j) (record { places = places; differ = e; list = refl });
+      accepts = λ cap. drop-accepts n cap i j l (dropAt one l i j) (record { places = pair-places n l i j p; differ = e; list = refl });
       moved = drop-moved one l i j (p .is .above) (p .is .inside);
       fits = tt {0};
       plain = λ t. refl;
@@ -52,7 +53,7 @@ taken n l i j p =
         let x : Cube = thirdAt (cubeAt l i) (cubeAt l j) v in
         record {
           list = joinAt one l i j x;
-          accepts = λ cap. join-accepts n cap i j l (joinAt one l i j x) (record { places = places; v = v; differ = e; list = refl });
+          accepts = λ cap. join-accepts n cap i j l (joinAt one l i j x) (record { places = pair-places n l i j p; v = v; differ = e; list = refl });
           moved = join-moved one l i j (p .is .above) (p .is .inside) x;
           fits = tt {0};
           plain = λ t. refl;
@@ -98,6 +99,20 @@ module _ (n : ℕ) (l : List Cube) (i j : ℕ) (p : First n l i j) where
   first-moved =
       subst (λ (y : ℕ). Moved one l (easyNext n l) i y) (first-partner n l i j p)
       (subst (λ (x : ℕ). Moved one l (easyNext n l) x (partner n l (lowest n l))) (first-lowest n l i j p) (easy-moved n l first-has))
+
+  -- what the step is: by the variables in which the cubes differ
+  step-of : (vs : List ℕ) → apart n (cubeAt l i) (cubeAt l j) ≡ vs → easyStep n l ≡ stepBy (length vs) i j
+  step-of vs e = sym first-step ∙ ap (λ (k : ℕ). stepBy k i j) (sym (apart-number n (cubeAt l i) (cubeAt l j)) ∙ ap length e)
+
+  pub first-dropped : apart n (cubeAt l i) (cubeAt l j) ≡ [] → easyNext n l ≡ dropAt one l i j
+  first-dropped e =
+      next-same (sym (easy-accepted n l first-has 0) ∙ ap (λ (x : Step). step n 0 x l) (step-of [] e)
+      ∙ drop-accepts n 0 i j l (dropAt one l i j) (record { places = pair-places n l i j p; differ = e; list = refl }))
+
+  pub first-joined : (v : ℕ) → apart n (cubeAt l i) (cubeAt l j) ≡ v ∷ [] → easyNext n l ≡ joinAt one l i j (thirdAt (cubeAt l i) (cubeAt l j) v)
+  first-joined v e =
+      next-same (sym (easy-accepted n l first-has 0) ∙ ap (λ (x : Step). step n 0 x l) (step-of (v ∷ []) e)
+      ∙ join-accepts n 0 i j l (joinAt one l i j (thirdAt (cubeAt l i) (cubeAt l j) v)) (record { places = pair-places n l i j p; v = v; differ = e; list = refl }))
 
 -- ---- all steps
 

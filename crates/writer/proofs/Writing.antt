@@ -4,38 +4,39 @@ use mathlib.Core.Path.{_≡_, refl, sym, ap, ap₂, _∙_, subst}
 use mathlib.Core.Bool.{Bool, true, false, not}
 use mathlib.Core.Logic.{inr}
 use mathlib.Core.List.{List, [], _∷_, map}
-use Prim.Native.Nat.{ℕ, zero, suc, _+_, _-_, _≤_, _<_, zero-le}
+use Prim.Native.Nat.{ℕ, zero, suc, _+_, _-_, _/_, _≤_, _<_, zero-le}
 use native.Mathlib.Nat.{zero-add, add-zero, mod-eq-of-lt}
 use native.Mathlib.Numerals.{add-one}
 use native.Mathlib.Omega.{arith}
-use lib.Count.{ones}
+use lib.Count.{ones, trailingZeros}
 use lib.Dec.{eqb}
-use lib.ListN.{length, set, length-set}
-use borrow.Author.Tests.{ne-eqb}
+use lib.ListN.{length, getD, set, length-set}
+use borrow.Author.Tests.{ne-eqb, leb-true}
 use Rattle.bits.specs.Sums.{oneIf}
 use Rattle.records.specs.Records.{Held, Holds, records, written, image, stored}
-use Rattle.records.proofs.Records.{length-records, length-stored, held-fits}
+use Rattle.records.proofs.Records.{length-records, length-stored, held-fits, held-place}
 use Rattle.cube.specs.declared.Cube.{Cube}
-use Rattle.cube.specs.Cubes.{Good, differingNumber, DiffersIn}
-use Rattle.cube.specs.Lists.{cubes, mostRecords}
+use Rattle.cube.specs.Cubes.{Good, one, code, withCode, apart, differingNumber, DiffersIn}
+use Rattle.cube.specs.Lists.{recordWidth, cubes, cubesOf, mostRecords}
+use Rattle.cube.proofs.Apart.{apart-number}
 use Rattle.cube.proofs.Lists.{lawful}
+use Rattle.cube.proofs.Masks.{apart-count}
+use Rattle.orders.specs.Codes.{thirdOf}
 use Rattle.steps.specs.declared.StepRecord.{StepRecord}
-use Rattle.steps.specs.declared.StepRefusal.{StepRefusal}
-use Rattle.steps.specs.declared.Stepped.{Stepped}
-use Rattle.steps.specs.declared.Stepped.the-variants as stepped-is
-use Rattle.steps.specs.Moves.{next}
-use Rattle.steps.specs.Steps.{Step, Allowed, meaning, cubeAt, step}
-use Rattle.steps.specs.Calls.{Ready, Known, stepped, workStepped}
+use Rattle.steps.specs.Effects.{TwoPlaces}
+use Rattle.steps.specs.Moves.{next, dropAt, joinAt}
+use Rattle.steps.specs.Steps.{Step, cubeAt, thirdAt, step}
+use Rattle.steps.specs.Calls.{Ready, workStepped}
+use Rattle.steps.proofs.decide.Deciding.{join-cube}
 use Rattle.steps.proofs.step.Stepping.{step-records, step-long, ready-onward}
-use Rattle.script.specs.Scripts.{stepRecords, mostSteps, narrowStep, recordOf}
-use Rattle.script.proofs.Scripts.{meaning-record}
+use Rattle.script.specs.Scripts.{stepRecords, mostSteps, placeSize, narrowStep, recordOf}
 use Rattle.writer.specs.declared.Pair.{Pair}
-use Rattle.writer.specs.Pairs.{hasPair, First}
+use Rattle.writer.specs.Pairs.{pair, hasPair, First}
 use Rattle.writer.specs.Easy.{stepBy, stepAt, easyStep, easyNext, easySteps, easyEnd}
 use Rattle.writer.specs.Watching.{Watched, Found, Unmarked, Made, WritingIs}
-use Rattle.writer.proofs.Searching.{number-ones}
+use Rattle.writer.proofs.Searching.{number-ones, read-cube, read-good}
 use Rattle.writer.proofs.Watching.{watched-next}
-use Rattle.writer.proofs.Easy.{easy-accepted, easy-fewer, easy-fits, first-has, first-step, first-moved, steps-pair, end-pair, steps-none, end-none, no-steps, no-end}
+use Rattle.writer.proofs.Easy.{pair-places, easy-accepted, easy-fewer, easy-fits, first-has, first-step, first-moved, first-dropped, first-joined, steps-pair, end-pair, steps-none, end-none, no-steps, no-end}
 
 -- ---- the record of the step for two cubes: 1 where they are equal, else 2
 
@@ -53,24 +54,11 @@ step-written n l i j a b ea eb g h x d =
 
 -- ---- one step made
 
--- the record of a drop or a join: its places, and an operation that is known
-record Plain (i j : ℕ) (x : StepRecord) : Type 0 where
-  least : 1 ≤ x .op
-  most : x .op ≤ 2
-  narrow : i < 65536 → j < 65536 → narrowStep x ≡ x
-
-plain : (k i j : ℕ) → Plain i j (recordOf (stepBy k i j))
+-- the places of a drop or a join fit their two bytes
+narrow : (k i j : ℕ) → i < placeSize → j < placeSize → narrowStep (recordOf (stepBy k i j)) ≡ recordOf (stepBy k i j)
 unfolding recordOf
-plain zero i j = record {
-  least = omega arith;
-  most = omega arith;
-  narrow = λ g h t. record { op = 1; v = 0; i = mod-eq-of-lt g t; j = mod-eq-of-lt h t; literal = 0; zero = 0 };
-}
-plain (suc k) i j = record {
-  least = omega arith;
-  most = omega arith;
-  narrow = λ g h t. record { op = 2; v = 0; i = mod-eq-of-lt g t; j = mod-eq-of-lt h t; literal = 0; zero = 0 };
-}
+narrow zero i j g h = λ t. record { op = 1; v = 0; i = mod-eq-of-lt g t; j = mod-eq-of-lt h t; literal = 0; zero = 0 }
+narrow (suc k) i j g h = λ t. record { op = 2; v = 0; i = mod-eq-of-lt g t; j = mod-eq-of-lt h t; literal = 0; zero = 0 }
 
 module _ (n count : ℕ) (b : List ℕ) (i j : ℕ) (p : First n (records cubes count b) i j) where
   abbrev l : List Cube
@@ -79,48 +67,78 @@ module _ (n count : ℕ) (b : List ℕ) (i j : ℕ) (p : First n (records cubes 
   size : length (records cubes count b) ≡ count
   size = length-records cubes count b
 
+  pub make-two : TwoPlaces count i j
+  make-two = subst (λ (k : ℕ). TwoPlaces k i j) size (pair-places n l i j p)
+
   pub make-places : (i < count) × (j < count)
-  make-places = (omega (arith, size, p .is .above, p .is .inside), omega (arith, size, p .is .inside))
+  make-places = (make-two .first, make-two .second)
 
-  module _ (x : StepRecord) (ex : x ≡ recordOf (stepAt n l i j)) where
-    is-plain : Plain i j x
-    is-plain = subst (Plain i j) (sym ex) (plain (differingNumber n (cubeAt l i) (cubeAt l j)) i j)
+  pub make-held : Held cubes count b → (i < length b / recordWidth) × (j < length b / recordWidth)
+  make-held held = (held-place cubes lawful count b held i (make-two .first), held-place cubes lawful count b held j (make-two .second))
 
-    means-easy : meaning x ≡ easyStep n l
-    means-easy = ap meaning ex ∙ meaning-record (stepAt n l i j) ∙ first-step n l i j p
+  -- the cubes at the two places, as they are read, and the set in which they differ
+  module _ (ready : Ready n count count b) (a d : Cube) (ea : a ≡ getD (cubesOf b) i one) (ed : d ≡ getD (cubesOf b) j one) (s : ℕ) (es : DiffersIn a d s) where
+    good-a : Good n a
+    good-a = read-good n count b ready i (make-places .0) a ea
 
-    pub make-known : Known n x
-    make-known = record {
-      least = is-plain .least;
-      most = omega (arith, is-plain .most);
-      fits = subst (Allowed n) (sym means-easy) (easy-fits n l (first-has n l i j p));
-    }
+    good-d : Good n d
+    good-d = read-good n count b ready j (make-places .1) d ed
 
-    goes : step n count (meaning x) l ≡ next (easyNext n l)
-    goes = ap (λ (y : Step). step n count y l) means-easy ∙ easy-accepted n l (first-has n l i j p) count
+    -- by the variables in which they differ
+    apart-is : apart n a d ≡ apart n (cubeAt l i) (cubeAt l j)
+    apart-is = ap₂ (apart n) (read-cube n count b ready i (make-places .0) a ea) (read-cube n count b ready j (make-places .1) d ed)
 
-    module _ (s : Stepped) (es : s ≡ stepped (step n count (meaning x) l)) where
-      -- it is never refused
-      pub make-never : (why : StepRefusal) → s ≡ stepped-is.Refused why → ⊥
-      make-never why e =
-          let q : stepped-is.Refused why ≡ stepped-is.Count (length (easyNext n l)) = sym e ∙ es ∙ ap stepped goes in
-          let z : _≡_ {A = ℕ} 0 1 = cc in omega arith
+    number-is : length (apart n a d) ≡ ones s
+    number-is = apart-count n a d good-a good-d ∙ ap ones (sym (es .fixed))
 
-      pub make-made : count ≤ mostRecords → (b′ script script′ : List ℕ) (k : ℕ) → b′ ≡ workStepped b (step n count (meaning x) l)
-          → script′ ≡ stored stepRecords script k (narrowStep x) → (c : ℕ) → s ≡ stepped-is.Count c → Made n l k b b′ script script′ c
-      make-made few b′ script script′ k eb eScript c e =
-          let q : stepped-is.Count c ≡ stepped-is.Count (length (easyNext n l)) = sym e ∙ es ∙ ap stepped goes in
-          record {
-            many = count-same q;
-            buffer = eb ∙ ap (workStepped b) goes;
-            bytes =
-                eScript
-                ∙ ap (stored stepRecords script k)
-                (is-plain .narrow (omega (arith, make-places .0)) (omega (arith, make-places .1)) ∙ ex ∙ ap recordOf (first-step n l i j p));
-          }
-        where
-          count-same : {a b : ℕ} → stepped-is.Count a ≡ stepped-is.Count b → a ≡ b
-          count-same e = cc
+    few : length (apart n a d) ≤ 1
+    unfolding pair
+    few =
+        omega (
+          arith,
+          leb-true (differingNumber n (cubeAt l i) (cubeAt l j)) 1 (p .is .near),
+          apart-number n (cubeAt l i) (cubeAt l j),
+          ap length apart-is,
+        )
+
+    pub pair-dropped : ones s ≡ 0 → (r : ℕ) (b′ : List ℕ) → r ≡ length (dropAt one (records cubes count b) i j) → b′ ≡ image cubes (length b) (dropAt one (records cubes count b) i j)
+        → (r ≡ length (easyNext n (records cubes count b))) × (b′ ≡ image cubes (length b) (easyNext n (records cubes count b)))
+    pair-dropped z r b′ er eb = go (apart n a d) refl (number-is ∙ z)
+      where
+        go : (vs : List ℕ) → apart n a d ≡ vs → length vs ≡ 0 → (r ≡ length (easyNext n l)) × (b′ ≡ image cubes (length b) (easyNext n l))
+        go [] e q =
+            let same : easyNext n l ≡ dropAt one l i j = first-dropped n l i j p (sym apart-is ∙ e) in
+            (er ∙ ap length (sym same), eb ∙ ap (image cubes (length b)) (sym same))
+        go (v ∷ vs) e q = absurd (omega arith)
+
+    pub pair-joined : (ones s ≡ 0 → ⊥) → (v : ℕ) → v ≡ trailingZeros 32 s → (c : Cube) → c ≡ withCode a v (thirdOf (code a v) (code d v)) → (r : ℕ) (b′ : List ℕ)
+        → r ≡ length (joinAt one (records cubes count b) i j c) → b′ ≡ image cubes (length b) (joinAt one (records cubes count b) i j c)
+        → (r ≡ length (easyNext n (records cubes count b))) × (b′ ≡ image cubes (length b) (easyNext n (records cubes count b)))
+    pair-joined z v ev c ec r b′ er eb = go (apart n a d) refl few
+      where
+        go : (vs : List ℕ) → apart n a d ≡ vs → length vs ≤ 1 → (r ≡ length (easyNext n l)) × (b′ ≡ image cubes (length b) (easyNext n l))
+        go [] e q = absurd (z (sym number-is ∙ ap length e))
+        go (u ∷ []) e q =
+            let third : c ≡ thirdAt (cubeAt l i) (cubeAt l j) u =
+            join-cube n a d good-a good-d (ready .few) u e s v (es .fixed) ev c ec
+            ∙ ap₂ (λ (x y : Cube). thirdAt x y u) (read-cube n count b ready i (make-places .0) a ea) (read-cube n count b ready j (make-places .1) d ed) in
+            let same : easyNext n l ≡ joinAt one l i j c =
+            first-joined n l i j p u (sym apart-is ∙ e) ∙ ap (joinAt one l i j) (sym third) in
+            (er ∙ ap length (sym same), eb ∙ ap (image cubes (length b)) (sym same))
+        go (u ∷ w ∷ vs) e q = absurd (omega arith)
+
+  -- and the step written
+  pub make-made : count ≤ mostRecords → (x : StepRecord) → x ≡ recordOf (stepAt n (records cubes count b) i j) → (b′ script script′ : List ℕ) (k r : ℕ)
+      → script′ ≡ stored stepRecords script k (narrowStep x) → r ≡ length (easyNext n (records cubes count b))
+      → b′ ≡ image cubes (length b) (easyNext n (records cubes count b)) → Made n (records cubes count b) k b b′ script script′ r
+  make-made few x ex b′ script script′ k r es er eb = record {
+    many = er;
+    buffer = eb;
+    bytes =
+        es
+        ∙ ap (stored stepRecords script k)
+        (ap narrowStep ex ∙ narrow (differingNumber n (cubeAt l i) (cubeAt l j)) i j (omega (arith, make-places .0)) (omega (arith, make-places .1)) ∙ ap recordOf (first-step n l i j p));
+  }
 
 -- ---- the loop
 

@@ -8,19 +8,19 @@ use records::Refusal;
 use script::check;
 use script::record;
 use steps::StepRecord;
-use steps::Stepped;
-use steps::perform::smaller;
+use steps::decide;
+use steps::perform;
 ghost use mathlib.Core.Path.{_≡_};
 ghost use Prim.Native.Nat.{_*_, _/_, _<_, _≤_};
 ghost use lib.ListN.{length};
 ghost use Rattle.records.specs.Answers.{Accepts};
-ghost use Rattle.records.specs.Records.{records};
+ghost use Rattle.records.specs.Records.{records, image};
 ghost use Rattle.cube.specs.Lists.{cubes, cubesOf, cubeCapacity, mostRecords, mostVariables};
 ghost use Rattle.cube.specs.Calls.{checkList};
 ghost use Rattle.steps.specs.Calls.{Ready};
 ghost use Rattle.script.specs.Scripts.{recordOf};
 ghost use Rattle.writer.specs.Pairs.{First};
-ghost use Rattle.writer.specs.Easy.{stepAt};
+ghost use Rattle.writer.specs.Easy.{stepAt, easyNext};
 ghost use Rattle.writer.specs.Calls.{wrote, writeOutcome, writeWork, writeSteps};
 ghost use Rattle.writer.specs.Watching.{Unmarked, Made, WritingIs};
 
@@ -42,6 +42,24 @@ fn step_for(work: &[u8], n: usize, count: usize, i: usize, j: usize) -> StepReco
     }
 }
 
+// The step of the first pair done: the count after it. It is done by what `perform` does it by, and not by `do_step`: a call from here too would keep the compiler from
+// taking that into the loop of a run.
+fn do_pair(work: &mut [u8], n: usize, count: usize, i: usize, j: usize) -> usize
+    requires { ⌜ Ready n count count (now work) ⌝ }
+    requires { ⌜ First n (records cubes count (now work)) i j ⌝ }
+    ensures { λ r. ⌜ r ≡ length (easyNext n (records cubes count (now (work .entry)))) ⌝ }
+    ensures { λ _. ⌜ now (work .exit) ≡ image cubes (length (now (work .entry))) (easyNext n (records cubes count (now (work .entry)))) ⌝ }
+{
+    let a = list::record_at(work, i);
+    let b = list::record_at(work, j);
+    let set = a.differing(b);
+    if u32::count_ones(set) == 0 {
+        return perform::drop_both(work, count, i, j);
+    }
+    let v = u32::trailing_zeros(set);
+    perform::join_both(work, count, i, j, decide::third_at(a, b, v))
+}
+
 // The step of the first pair written at place k of the script, and done: the count after it.
 fn make(
     work: &mut [u8],
@@ -59,10 +77,7 @@ fn make(
 {
     let x = step_for(work, n, count, i, j);
     record::put_step(script, k, x);
-    match steps::step::do_step(work, n, count, count, x) {
-        Stepped::Refused(_) => count,
-        Stepped::Count(next) => next,
-    }
+    do_pair(work, n, count, i, j)
 }
 
 // The easy script of the first records of the work buffer: each step written and done, until no pair is left or there are 1,024.
@@ -130,7 +145,7 @@ pub fn write_script(n: usize, list: &[u8], work: &mut [u8], script: &mut [u8]) -
             if list::capacity(work.len()) < count {
                 return Wrote::Refused(Refusal::new(5, 0));
             }
-            if script.len() < check::STEP_WIDTH * smaller(count, check::MOST_STEPS) {
+            if script.len() < check::STEP_WIDTH * perform::smaller(count, check::MOST_STEPS) {
                 return Wrote::Refused(Refusal::new(5, 0));
             }
             Wrote::Script(write_checked(n, list, work, script))

@@ -148,6 +148,13 @@ third-put c d x v u l e ne f =
     f ∙ ap (λ (w : ℕ). withCode c w (thirdOf (code c w) (code d w))) e
     ∙ ap (withCode c u) (third-of-codes (code c u) (code d u) (code-lt c u) (code-lt d u) ne) ∙ with-put c u (third (code c u) (code d u)) l
 
+-- the third that a join writes, where the lowest variable of the set is the only one
+pub join-cube : (n : ℕ) (a b : Cube) → Good n a → Good n b → n ≤ mostVariables → (u : ℕ) → apart n a b ≡ u ∷ [] → (s v : ℕ) → s ≡ differing a b → v ≡ trailingZeros 32 s
+    → (c : Cube) → c ≡ withCode a v (thirdOf (code a v) (code b v)) → c ≡ thirdAt a b u
+join-cube n a b g h few u el s v es ev c ec =
+    let l : u < maskBits = omega (arith, apart-one n a b u el .0) in
+    third-put a b c v u l (only s v u l (es ∙ one-set n a b g h u el) ev) (apart-one n a b u el .1) ec
+
 -- ---- the decisions at two places
 
 module _ (n count i j p : ℕ) (a b : Cube) (e : p ≡ placesNumber count i j) where
@@ -198,9 +205,7 @@ module _ (n count i j p : ℕ) (a b : Cube) (e : p ≡ placesNumber count i j) w
       where
         go : (l : List ℕ) → apart n a b ≡ l → joins c ≡ joined a b l
         go [] el = absurd (omega (arith, many [] el))
-        go (u ∷ []) el =
-            let l : u < maskBits = omega (arith, apart-one n a b u el .0) in
-            ap joins (third-put a b c v u l (only s v u l (es ∙ one-set n a b g h u el) ev) (apart-one n a b u el .1) ec)
+        go (u ∷ []) el = ap joins (join-cube n a b g h few u el s v es ev c ec)
         go (u ∷ w ∷ l) el = absurd (omega (arith, many (u ∷ w ∷ l) el))
 
     -- turn

@@ -11,9 +11,6 @@ use Rattle.records.specs.Records.{Codec, stored, records, listOf, image, Holds,
 use Rattle.records.proofs.Images.{length-image, length-remove}
 use Rattle.records.proofs.Records.{Lawful, length-records, getD-records, list-at, length-stored, place-room, held-fits, held-place, holds-store, holds-push, holds-remove, holds-held, holds-records, image-holds}
 use Rattle.cube.specs.declared.Cube.{Cube}
-use Rattle.cube.specs.Cubes.{one}
-use Rattle.cube.specs.Lists.{cubes, recordWidth}
-use Rattle.cube.proofs.Lists.{lawful}
 use Rattle.steps.specs.declared.Change.{Change}
 use Rattle.steps.specs.declared.Change.the-variants as change-is
 use Rattle.steps.specs.declared.Stepped.the-variants as stepped-is
@@ -100,6 +97,12 @@ module _ {A : Type 0} (C : Codec A) (K : Lawful C) where
 
   -- ---- the four moves
 
+  pub dropped-many : (k i j : ℕ) (b : List ℕ) → k - 2 ≡ length (dropAt (C .none) (records C k b) i j)
+  dropped-many k i j b = sym (length-drop-at (C .none) (records C k b) i j ∙ ap (λ (n : ℕ). n - 2) (length-records C k b))
+
+  pub joined-many : (k i j : ℕ) (b : List ℕ) (x : A) → k - 1 ≡ length (joinAt (C .none) (records C k b) i j x)
+  joined-many k i j b x = sym (length-join-at (C .none) (records C k b) i j x ∙ ap (λ (n : ℕ). n - 1) (length-records C k b))
+
   module _ (k i j : ℕ) (b : List ℕ) (h : Held C k b) where
     pub dropped-image : (hi lo : ℕ) → hi ≡ max i j → lo ≡ min i j
         → (b₁ b₂ : List ℕ) → b₁ ≡ image C (length b) (removeAt (C .none) (records C k b) hi)
@@ -171,27 +174,17 @@ module _ {A : Type 0} (C : Codec A) (K : Lawful C) (k i j : ℕ) (b : List ℕ) 
   made-refuse why e =
       subst (λ (t : Move A). DoneBy C b b (applied (C .none) i j (records C k b) t) (stepped-is.Refused why)) (sym e) (record { answer = refl; buffer = refl })
 
-  pub made-drop : m ≡ drops → Held C k b → (hi lo : ℕ) → hi ≡ max i j → lo ≡ min i j
-      → (b₁ b₂ : List ℕ) → b₁ ≡ image C (length b) (removeAt (C .none) (records C k b) hi) → b₂ ≡ image C (length b₁) (removeAt (C .none) (records C (k - 1) b₁) lo)
-      → DoneBy C b b₂ (applied (C .none) i j (records C k b) m) (stepped-is.Count (k - 2))
+  pub made-drop : m ≡ drops → (b′ : List ℕ) (count : ℕ) → count ≡ length (dropAt (C .none) (records C k b) i j)
+      → b′ ≡ image C (length b) (dropAt (C .none) (records C k b) i j) → DoneBy C b b′ (applied (C .none) i j (records C k b) m) (stepped-is.Count count)
   unfolding applied
-  made-drop e h hi lo ehi elo b₁ b₂ e₁ e₂ =
-      made-next b₂ (dropAt (C .none) (records C k b) i j) (k - 2) (ap (applied (C .none) i j (records C k b)) e)
-      (dropped-image C K k i j b h hi lo ehi elo b₁ b₂ e₁ e₂)
-      (length-drop-at (C .none) (records C k b) i j ∙ ap (λ (n : ℕ). n - 2) (length-records C k b))
+  made-drop e b′ count ec eb = made-next b′ (dropAt (C .none) (records C k b) i j) count (ap (applied (C .none) i j (records C k b)) e) eb (sym ec)
+
+  pub made-join : (x : A) → m ≡ joins x → (b′ : List ℕ) (count : ℕ) → count ≡ length (joinAt (C .none) (records C k b) i j x)
+      → b′ ≡ image C (length b) (joinAt (C .none) (records C k b) i j x) → DoneBy C b b′ (applied (C .none) i j (records C k b) m) (stepped-is.Count count)
+  unfolding applied
+  made-join x e b′ count ec eb = made-next b′ (joinAt (C .none) (records C k b) i j x) count (ap (applied (C .none) i j (records C k b)) e) eb (sym ec)
 
   module _ (p : Placed k (length b / C .width) i j m) where
-    pub held-join : (x : A) → m ≡ joins x → Held C k b → (b₁ : List ℕ) → b₁ ≡ stored C b i x → Held C k b₁
-    held-join x e h b₁ e₁ = stored-held C K k i b b₁ x h (join-in k (length b / C .width) i j m p x e .first) e₁
-
-    pub made-join : (x : A) → m ≡ joins x → Held C k b → (b₁ b₂ : List ℕ) → b₁ ≡ stored C b i x
-        → b₂ ≡ image C (length b₁) (removeAt (C .none) (records C k b₁) j) → DoneBy C b b₂ (applied (C .none) i j (records C k b) m) (stepped-is.Count (k - 1))
-    unfolding applied
-    made-join x e h b₁ b₂ e₁ e₂ =
-        made-next b₂ (joinAt (C .none) (records C k b) i j x) (k - 1) (ap (applied (C .none) i j (records C k b)) e)
-        (joined-image C K k i j b h (join-in k (length b / C .width) i j m p x e .first) x b₁ b₂ e₁ e₂)
-        (length-join-at (C .none) (records C k b) i j x ∙ ap (λ (n : ℕ). n - 1) (length-records C k b))
-
     pub made-split : (x y : A) → m ≡ splits x y → Held C k b → (b₁ b₂ : List ℕ) → b₁ ≡ stored C b i x → b₂ ≡ stored C b₁ k y
         → DoneBy C b b₂ (applied (C .none) i j (records C k b) m) (stepped-is.Count (k + 1))
     unfolding applied
@@ -231,19 +224,3 @@ module _ (change : Change) where
   pub turn-move : (c d : Cube) → change ≡ change-is.Turn c d → moveOf change ≡ turns c d
   unfolding moveOf
   turn-move c d e = ap moveOf e
-
--- a join of cubes
-module _ (k i j : ℕ) (b : List ℕ) (change : Change) (p : Placed k (length b / recordWidth) i j (moveOf change)) (c : Cube)
-    (e : change ≡ change-is.Join c) where
-  pub join-below : j < k
-  join-below = join-in k (length b / recordWidth) i j (moveOf change) p c (join-move change c e) .second
-
-  pub join-one : 1 ≤ k
-  join-one = omega (arith, join-below)
-
-  pub join-held : Held cubes k b → (b₁ : List ℕ) → b₁ ≡ stored cubes b i c → Held cubes k b₁
-  join-held = held-join cubes lawful k i j b (moveOf change) p c (join-move change c e)
-
-  pub perform-join : Held cubes k b → (b₁ b₂ : List ℕ) → b₁ ≡ stored cubes b i c → b₂ ≡ image cubes (length b₁) (removeAt one (records cubes k b₁) j)
-      → DoneBy cubes b b₂ (applied one i j (records cubes k b) (moveOf change)) (stepped-is.Count (k - 1))
-  perform-join = made-join cubes lawful k i j b (moveOf change) p c (join-move change c e)
