@@ -87,6 +87,7 @@ impl State<'_> {
         &self.records[..self.count]
     }
 
+    #[inline(always)]
     pub fn step(&mut self, step: &[u8; STEP]) -> Result<(), StepRefusal> {
         let &[op, v, _, _, _, _, literal, _] = step;
         let (v, i, j) = (v as u32, place(step, 2), place(step, 4));
@@ -103,6 +104,7 @@ impl State<'_> {
         }
     }
 
+    #[inline(always)]
     fn drop(&mut self, i: usize, j: usize) -> Result<(), StepRefusal> {
         let (a, b) = self.pair(i, j)?;
         let apart = a.differing(b);
@@ -114,6 +116,7 @@ impl State<'_> {
         Ok(())
     }
 
+    #[inline(always)]
     fn join(&mut self, i: usize, j: usize) -> Result<(), StepRefusal> {
         let (a, b) = self.pair(i, j)?;
         let apart = a.differing(b);
@@ -126,6 +129,7 @@ impl State<'_> {
         Ok(())
     }
 
+    #[inline(always)]
     fn split(&mut self, v: u32, i: usize) -> Result<(), StepRefusal> {
         if i >= self.count {
             return refuse(10);
@@ -142,6 +146,7 @@ impl State<'_> {
         Ok(())
     }
 
+    #[inline(always)]
     fn turn(&mut self, v: u32, i: usize, j: usize) -> Result<(), StepRefusal> {
         let (a, b) = self.pair(i, j)?;
         let apart = a.differing(b);
@@ -157,6 +162,7 @@ impl State<'_> {
         Ok(())
     }
 
+    #[inline(always)]
     fn pair(&self, i: usize, j: usize) -> Result<(Cube, Cube), StepRefusal> {
         if i >= self.count || j >= self.count {
             return refuse(10);
@@ -167,6 +173,7 @@ impl State<'_> {
         Ok((self.read(i), self.read(j)))
     }
 
+    #[inline(always)]
     fn read(&self, place: usize) -> Cube {
         Cube::read(&self.records[place])
     }
@@ -175,6 +182,7 @@ impl State<'_> {
         cube.store(&mut self.records[place]);
     }
 
+    #[inline(always)]
     fn remove(&mut self, place: usize) {
         self.count -= 1;
         self.records[place] = self.records[self.count];
