@@ -13,7 +13,7 @@ use lib.ListN.{length, getD}
 use Rattle.bits.specs.Sums.{firstBad}
 use Rattle.bits.proofs.Sums.{all-get, first-le, first-fails, first-lowest, first-none}
 use Rattle.records.specs.Answers.{Outcome, accepted, refused, refusal, unless, unlessAt, andThen}
-use Rattle.records.proofs.Answers.{and-then, and-not}
+use Rattle.records.proofs.Answers.{not-both, and-then, and-not}
 use Rattle.promises.specs.Refusals.{Lowest, Fault, at, lowest, faultNumber, Wrong, NoneWrong, FirstWrong, beforeSteps}
 
 -- ---- faults
@@ -89,6 +89,11 @@ pub data Judged (xs : List Fault) (o rest : Outcome) : Type 0 where
 pub judged-right : (xs : List Fault) (o rest : Outcome) → Judged xs o rest → NoneWrong xs → o ≡ rest
 judged-right xs o rest (wrong number place f e) none = absurd (not-none xs number place f none)
 judged-right xs o rest (right fine e) none = e
+
+-- and what is accepted has none
+pub judged-none : (xs : List Fault) (o rest : Outcome) (v : List ℕ) → Judged xs o rest → o ≡ accepted v → NoneWrong xs
+judged-none xs o rest v (wrong number place f e) is = absurd (not-both (sym is ∙ e))
+judged-none xs o rest v (right none e) is = none
 
 pub judge-end : (o : Outcome) → Judged [] o o
 judge-end o = right tt refl

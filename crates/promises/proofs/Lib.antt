@@ -11,6 +11,8 @@ pub mod Converters
 pub mod Reasons
 pub mod EasyScript
 pub mod NotWrong
+pub mod TakingOut
+pub mod PlainSteps
 pub mod DemandTwoCalls
 pub mod Faces
 pub mod Examples

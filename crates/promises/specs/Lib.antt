@@ -5,5 +5,6 @@ pub mod Accepted
 pub mod Burned
 pub mod Reasons
 pub mod EasyScript
+pub mod PlainSteps
 pub mod Faced
 pub mod Marked

@@ -3,6 +3,9 @@ pub mod Pending
 pub mod Value
 pub mod Counts
 pub mod Scripts
+pub mod Without
+pub mod Decoration
+pub mod Plain
 pub mod Refusals
 pub mod Filled
 pub mod Outcomes

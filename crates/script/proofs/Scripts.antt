@@ -1,9 +1,9 @@
 -- The records of a script, both ways: steps and records, records and bytes.
 -- Assumes nothing.
-use mathlib.Core.Path.{_≡_, refl, sym, ap, _∙_}
+use mathlib.Core.Path.{_≡_, refl, sym, ap, _∙_, subst}
 use mathlib.Core.Bool.{true, false≢true}
 use mathlib.Core.List.{List, [], _∷_, map}
-use Prim.Native.Nat.{ℕ, zero, suc, _/_, _%_, _≤_, _<_}
+use Prim.Native.Nat.{ℕ, zero, suc, _*_, _/_, _%_, _≤_, _<_}
 use native.Mathlib.Omega.{arith}
 use lib.Dec.{eqb, ltb, leb}
 use lib.ListN.{length, getD}
@@ -15,6 +15,7 @@ use Rattle.records.specs.Records.{flat, listOf}
 use Rattle.records.specs.Answers.{accepted}
 use Rattle.records.proofs.Checks.{checked, AcceptedRecords, records-accepted, accepted-records}
 use Rattle.records.proofs.Fields.{Fields, fields-lawful, fields-bytes}
+use Rattle.records.proofs.Images.{length-flat}
 use Rattle.records.proofs.Records.{Lawful, list-flat}
 use Rattle.steps.specs.declared.StepRecord.{StepRecord}
 use Rattle.steps.specs.Steps.{Step, drop, join, split, turn, L, Allowed, meaning}
@@ -171,3 +172,18 @@ script-accepts n b v e = records-accepted stepRecords (fits n) 7 8 9 mostSteps b
 -- and a script that is so is accepted
 pub accepts-script : (n : ℕ) (b : List ℕ) → AcceptedScript n b → checkScript n b ≡ accepted (length b / stepWidth ∷ [])
 accepts-script n b a = sym (script-records n b) ∙ accepted-records stepRecords (fits n) 7 8 9 mostSteps b a
+
+pub length-steps : (l : List StepRecord) → length (flat (stepRecords .enc) l) ≡ stepWidth * length l
+length-steps l = length-flat (stepRecords .enc) stepWidth (steps-lawful .len) l
+
+-- the bytes of records that fit, and are not too many, pass 7, 8 and 9
+pub records-pass : (n : ℕ) (l : List StepRecord) → length l ≤ mostSteps → All (λ r. fits n r ≡ true) l
+    → checkScript n (flat (stepRecords .enc) l) ≡ accepted (length l ∷ [])
+records-pass n l few a =
+    let count : length (flat (stepRecords .enc) l) / stepWidth ≡ length l = omega (arith, length-steps l) in
+    accepts-script n (flat (stepRecords .enc) l) (record {
+      whole = omega (arith, length-steps l);
+      short = omega (arith, count, few);
+      each = subst (All (λ r. fits n r ≡ true)) (sym (records-of-bytes l)) a;
+    })
+    ∙ ap (λ (k : ℕ). accepted (k ∷ [])) count

@@ -103,7 +103,7 @@ module _ {A B : Type 0} (f : A → B) where
   set-map (y ∷ l) zero x = refl
   set-map (y ∷ l) (suc i) x = ap (λ (r : List B). f y ∷ r) (set-map l i x)
 
-  take-map : (n : ℕ) (l : List A) → take n (map f l) ≡ map f (take n l)
+  pub take-map : (n : ℕ) (l : List A) → take n (map f l) ≡ map f (take n l)
   take-map zero l = refl
   take-map (suc n) [] = refl
   take-map (suc n) (x ∷ l) = ap (λ (r : List B). f x ∷ r) (take-map n l)

@@ -3,15 +3,13 @@
 use mathlib.Core.Path.{_≡_, refl, sym, ap, _∙_, subst}
 use mathlib.Core.Bool.{true}
 use mathlib.Core.List.{List, [], _∷_, map}
-use Prim.Native.Nat.{ℕ, zero, suc, _*_, _/_, _≤_, _<_, min}
+use Prim.Native.Nat.{ℕ, zero, suc, _*_, _≤_, _<_, min}
 use native.Mathlib.Omega.{arith}
 use lib.ListN.{length, getD, take, drop, length-map}
 use lib.Seq.{take-at}
-use Rattle.bits.specs.Sums.{All}
 use Rattle.bits.proofs.Sums.{all-map}
 use Rattle.records.specs.Records.{written}
 use Rattle.records.specs.Answers.{accepted}
-use Rattle.records.proofs.Images.{length-flat}
 use Rattle.records.proofs.Records.{written-front, written-rest}
 use Rattle.cube.specs.declared.Cube.{Cube}
 use Rattle.steps.specs.Moves.{After}
@@ -20,7 +18,7 @@ use Rattle.script.specs.Counts.{metAfter, listsBy, lists}
 use Rattle.script.specs.Run.{ended, run}
 use Rattle.script.specs.Scripts.{stepRecords, stepWidth, mostSteps, fits, recordOf, stepsOf}
 use Rattle.script.specs.Calls.{checkScript}
-use Rattle.script.proofs.Scripts.{steps-lawful, fits-record, records-of-bytes, scriptBytes, script-read, accepts-script}
+use Rattle.script.proofs.Scripts.{steps-lawful, fits-record, scriptBytes, script-read, length-steps, records-pass}
 use Rattle.writer.specs.Pairs.{hasPair}
 use Rattle.writer.specs.Easy.{easyNext, easySteps, easyEnd}
 use Rattle.writer.proofs.Easy.{easy-ind, easy-accepted, easy-fewer, steps-pair, steps-none, easy-count, easy-fit, easy-run}
@@ -32,21 +30,15 @@ module _ (n : ℕ) (l : List Cube) where
   xs = easySteps n mostSteps l
 
   long : length (scriptBytes xs) ≡ stepWidth * length xs
-  long = length-flat (stepRecords .enc) stepWidth (steps-lawful .len) (map recordOf xs) ∙ ap (λ (k : ℕ). stepWidth * k) (length-map xs recordOf)
+  long = length-steps (map recordOf xs) ∙ ap (λ (k : ℕ). stepWidth * k) (length-map xs recordOf)
 
   -- they pass 7, 8 and 9
   pub easy-passes : checkScript n (scriptBytes (easySteps n mostSteps l)) ≡ accepted (length (easySteps n mostSteps l) ∷ [])
   easy-passes =
-      let b : List ℕ = scriptBytes xs in
-      let count : length b / stepWidth ≡ length xs = omega (arith, long) in
-      accepts-script n b (record {
-        whole = omega (arith, long);
-        short = omega (arith, count, easy-count n mostSteps l .0);
-        each =
-            subst (All (λ r. fits n r ≡ true)) (sym (records-of-bytes (map recordOf xs)))
-            (all-map (Allowed n) (λ r. fits n r ≡ true) recordOf (fits-record n) xs (easy-fit n mostSteps l));
-      })
-      ∙ ap (λ (k : ℕ). accepted (k ∷ [])) count
+      let many : length (map recordOf xs) ≡ length xs = length-map xs recordOf in
+      records-pass n (map recordOf xs) (omega (arith, many, easy-count n mostSteps l .0))
+      (all-map (Allowed n) (λ r. fits n r ≡ true) recordOf (fits-record n) xs (easy-fit n mostSteps l))
+      ∙ ap (λ (k : ℕ). accepted (k ∷ [])) many
 
   -- and their run, in any capacity, ends in the end list, with the given count as peak
   pub easy-replays : (cap : ℕ) → run n cap (stepsOf (scriptBytes (easySteps n mostSteps l))) l ≡ ended (easyEnd n mostSteps l) (length l)
