@@ -77,7 +77,7 @@ module _ {A X : Type 0} (σ : X → List A → After A) where
       let t = steps-peak (suc s) (max q (length (o .between))) xs (o .between) m p (omega arith) (o .rest) in
       (omega (arith, t .0, first-met xs (o .between), ap greatest (lists-next x xs l (o .between) (o .first))), t .1)
 
-  -- ---- step numbers and the starting peak only shift; the requests that cut a script (Eleven, Twelve) wait for it
+  -- ---- step numbers and the starting peak only shift, as where a step before them is taken out (Decoration)
 
   abbrev pub shifted : ℕ → ℕ → Ran A → Ran A
   shifted s q (stopped r k) = stopped r (s + k)

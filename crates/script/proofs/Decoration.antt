@@ -71,13 +71,13 @@ module _ {A X : Type 0} (σ : X → List A → After A) (un : X → List A → L
     follows-left : test x ≡ false → Allowed x → Follows xs → Follows (x ∷ xs)
     unfolding stepsFrom undoBy Follows
     follows-left e h ih q l c a =
-        ap (λ (ys : List X). stepsFrom σ 0 q ys l) (without-stays test x xs e) ∙ go (σ x l) refl
+        ap (λ (ys : List X). stepsFrom σ 0 q ys l) (without-stays test x e xs) ∙ go (σ x l) refl
       where
         after : (r : Ran A) → shifted σ 1 0 (renumbered (withoutBefore test xs) (finishBy (undoBy un xs) r))
             ≡ renumbered (withoutBefore test (x ∷ xs)) (finishBy (λ m. un x (undoBy un xs m)) (shifted σ 1 0 r))
         after (stopped why s) =
             let number : 1 + s ≡ suc s = omega arith in
-            ap (stopped why) (omega (arith, ap (withoutBefore test (x ∷ xs)) number, before-stays test x xs e s))
+            ap (stopped why) (omega (arith, ap (withoutBefore test (x ∷ xs)) number, before-stays test x e xs s))
         after (ended m p) = ap (λ (k : List A). ended k (max 0 p)) (sym (d .left x e (undoBy un xs m)))
 
         go : (r : After A) → σ x l ≡ r → onward 0 (λ m. stepsFrom σ 1 (max q (length m)) (without test xs) m) r
@@ -93,7 +93,7 @@ module _ {A X : Type 0} (σ : X → List A → After A) (un : X → List A → L
     follows-gone : test x ≡ true → Allowed x → All Allowed xs → Follows xs → Follows (x ∷ xs)
     unfolding stepsFrom undoBy Follows
     follows-gone e h hs ih q l c a =
-        ap₂ (λ (ys : List X) (k : List A). stepsFrom σ 0 q ys k) (without-gone test x xs e) (sym (d .twice x e h l a))
+        ap₂ (λ (ys : List X) (k : List A). stepsFrom σ 0 q ys k) (without-gone test x e xs) (sym (d .twice x e h l a))
         ∙ steps-commute x e h (without test xs) (all-without test Allowed xs hs) 0 q m
         ∙ ap (finishBy (map (back x))) (ih q m (omega (arith, same)) (d .kept x h l m a (d .done x e l)))
         ∙ after (stepsFrom σ 0 q xs m)
@@ -113,7 +113,7 @@ module _ {A X : Type 0} (σ : X → List A → After A) (un : X → List A → L
             ≡ renumbered (withoutBefore test (x ∷ xs)) (finishBy (λ k. un x (undoBy un xs k)) (shifted σ 1 0 r))
         after (stopped why s) =
             let number : 1 + s ≡ suc s = omega arith in
-            ap (stopped why) (omega (arith, ap (withoutBefore test (x ∷ xs)) number, before-gone test x xs e s))
+            ap (stopped why) (omega (arith, ap (withoutBefore test (x ∷ xs)) number, before-gone test x e xs s))
         after (ended k p) = let none : p ≡ max 0 p = omega arith in ap₂ ended (sym (d .undone x e (undoBy un xs k))) none
 
   follows : (xs : List X) → All Allowed xs → Follows xs

@@ -10,7 +10,7 @@ use crate::scripts;
 use model::cube::{Cube, NARROW_RECORD, PLACE, RECORD, encoded_list, encoded_narrow_list};
 use model::polarity::coefficients;
 use model::refusal::ORDERS;
-use model::script::{self, STEP, STEPS, encoded_script};
+use model::script::{self, STEP, STEPS, Step, encoded_script};
 
 const VARIABLES: usize = 32;
 const NARROW_VARIABLES: usize = 16;
@@ -117,6 +117,23 @@ fn script_case(random: &mut Random, faults: &Faults, call: Call) -> Case {
     let script = script_bytes(random, faults, width, &cubes, capacity);
     let input = list_bytes(random, faults, width, RECORD, encoded_list(&cubes));
     Case { call, n, input, number: 0, script, work, out }
+}
+
+/// A list and a script that pass 1 to 9, with no split and often with L steps; in half of the cases a step is refused.
+pub fn unsplit_case(random: &mut Random, call: Call) -> Case {
+    let mistake = if random.one_in(2) { None } else { Some(random.pick(&[10, 11, 16, 17, 18, 19])) };
+    let case = script_case(random, &Faults(mistake.into_iter().collect()), call);
+    let (n, given) = (case.n as usize, case.cubes());
+    let length = case.script.len() / STEP;
+    // Where there is no capacity no split is chosen.
+    let mut steps = scripts::script(random, n, &given, 0, length, mistake);
+    if n > 0 {
+        for _ in 0..random.below(4).min(STEPS - steps.len()) {
+            let l = Step::L { v: random.below(n), literal: random.below(2) as u8 };
+            steps.insert(random.below(steps.len() + 1), l);
+        }
+    }
+    Case { script: encoded_script(&steps), ..case }
 }
 
 fn writer_case(random: &mut Random, faults: &Faults) -> Case {

@@ -180,7 +180,8 @@ fn with_code(cube: &Cube, v: usize, code: u8) -> Cube {
     cube
 }
 
-fn lists() -> Vec<Vec<Cube>> {
+/// All lists of up to 2 cubes over 2 variables.
+pub fn lists() -> Vec<Vec<Cube>> {
     let cubes = cubes_over(2, &[0, 1]);
     let pairs = cubes.iter().flat_map(|a| cubes.iter().map(move |b| vec![a.clone(), b.clone()]));
     let singles = cubes.iter().map(|cube| vec![cube.clone()]);

@@ -19,6 +19,7 @@ mod lengths;
 mod near_lists;
 mod paths;
 mod per_record;
+mod plain_steps;
 mod random;
 mod random_calls;
 mod reasons;
@@ -42,10 +43,11 @@ fn main() -> ExitCode {
     if cfg!(feature = "standin") {
         println!("STAND-IN: the calls are answered by the model itself; nothing below speaks of the library.\n");
     }
-    let parts: [Part; 11] = [
+    let parts: [Part; 12] = [
         ("the documents' examples and limits", &examples::all),
         ("the wrapper's records", &|| records::all(seed)),
         ("random calls", &|| random_calls::all(calls as usize, seed)),
+        ("scripts with and without their L steps", &|| plain_steps::all(calls as usize, seed)),
         ("all functions of 4 variables", &exhaustive::functions_of_four),
         ("all short lists and scripts over 2 variables", &exhaustive::short_lists_and_scripts),
         ("all steps on two cubes over up to 3 variables, and over 3 of 32", &exhaustive::steps_on_two_cubes),

@@ -127,18 +127,21 @@ pub struct Run {
 pub fn run(given: &[Cube], script: &[Step], capacity: usize) -> Result<Run, Refusal> {
     let mut list = given.to_vec();
     let mut peak = list.len();
-    let mut done = Vec::new();
     for (number, &each) in script.iter().enumerate() {
         step(&mut list, each, capacity, number)?;
         peak = peak.max(list.len());
+    }
+    Ok(Run { list: undone(list, script), peak })
+}
+
+/// A list with all L steps of a script undone, the last one first.
+pub fn undone(mut list: Vec<Cube>, script: &[Step]) -> Vec<Cube> {
+    for &each in script.iter().rev() {
         if let Step::L { v, literal } = each {
-            done.push((v, literal));
+            exchange(&mut list, v, literal);
         }
     }
-    while let Some((v, literal)) = done.pop() {
-        exchange(&mut list, v, literal);
-    }
-    Ok(Run { list, peak })
+    list
 }
 
 /// "To remove a place: copy the last record there, shorten by one."
