@@ -15,7 +15,8 @@ use Rattle.script.specs.Run.{Ran, stopped, ended}
 use Rattle.script.specs.Run as running
 use Rattle.script.specs.Scripts.{stepsOf}
 use Rattle.script.specs.Calls.{checkScript, runOf, ranOutcome, ranWork}
-use Rattle.script.specs.Plain.{isL, plainScript, corresponding, renumbered}
+use Rattle.script.specs.Plain.{isL, plainScript, corresponding}
+use Rattle.script.proofs.Decoration.{renumbered}
 use Rattle.script.proofs.Plain.{plain-read, plain-run, plain-passes, refused-plain}
 use Rattle.settling.specs.Calls.{ranSettled, ranBurned}
 use Rattle.promises.specs.Calls.{Call}

@@ -11,9 +11,14 @@ use Rattle.bits.specs.Sums.{All}
 use Rattle.steps.specs.Moves.{After, stop, next}
 use Rattle.steps.proofs.Balanced.{mapAfter}
 use Rattle.script.specs.Run.{Ran, stopped, ended, onward, stepsFrom, undoBy, finishBy, runBy}
-use Rattle.script.specs.Plain.{without, withoutBefore, renumbered}
+use Rattle.script.specs.Plain.{without, withoutBefore}
 use Rattle.script.proofs.Counts.{shifted, steps-shift}
 use Rattle.script.proofs.Without.{without-stays, without-gone, before-stays, before-gone, all-without}
+
+-- the same outcome of a run, but for the number of the step that is refused
+abbrev pub renumbered : {A : Type 0} → (ℕ → ℕ) → Ran A → Ran A
+renumbered f (stopped why s) = stopped why (f s)
+renumbered f (ended l peak) = ended l peak
 
 -- what makes those steps of which the test says yes decoration
 pub record Decoration {A X : Type 0} (σ : X → List A → After A) (un : X → List A → List A) (test : X → Bool) (back : X → A → A) (Fine : A → Type 0)

@@ -29,10 +29,10 @@ use Rattle.steps.proofs.Places.{take-map}
 use Rattle.script.specs.Run.{unstep, run}
 use Rattle.script.specs.Scripts.{stepRecords, stepWidth, stepsOf}
 use Rattle.script.specs.Calls.{checkScript}
-use Rattle.script.specs.Plain.{isL, without, withoutBefore, plainSteps, plainScript, corresponding, renumbered}
+use Rattle.script.specs.Plain.{isL, without, withoutBefore, plainSteps, plainScript, corresponding}
 use Rattle.script.proofs.Scripts.{steps-lawful, bytes-of-records, records-of-bytes, script-accepts, records-pass}
 use Rattle.script.proofs.Without.{all-without, length-without, without-at}
-use Rattle.script.proofs.Decoration.{Decoration, run-without}
+use Rattle.script.proofs.Decoration.{renumbered, Decoration, run-without}
 
 -- ---- a run
 

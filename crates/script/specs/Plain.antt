@@ -7,9 +7,9 @@ use mathlib.Core.List.{List, filter}
 use lib.ListN.{length, take}
 use Rattle.records.specs.Records.{flat, listOf}
 use Rattle.steps.specs.Steps.{Step, drop, join, split, turn, L, meaning}
-use Rattle.script.specs.Run.{Ran, stopped, ended}
 use Rattle.script.specs.Scripts.{stepRecords}
 
+-- document 01's table, operation 5
 abbrev pub isL : Step → Bool
 isL (drop i j) = false
 isL (join i j) = false
@@ -17,11 +17,11 @@ isL (split v i) = false
 isL (turn v i j) = false
 isL (L v b) = true
 
--- those of which a test says no, in their order, for any kind of step
+-- those of which a test says no, in their order
 abbrev pub without : {X : Type 0} → (X → Bool) → List X → List X
 without test xs = filter (λ x. Bool-discrete (test x) false) xs
 
--- how many of the steps before step s those are
+-- how many of them are before place s
 abbrev pub withoutBefore : {X : Type 0} → (X → Bool) → List X → ℕ → ℕ
 withoutBefore test xs s = length (without test (take s xs))
 
@@ -36,8 +36,3 @@ plainScript script = flat (stepRecords .enc) (without (λ r. isL (meaning r)) (l
 -- "at the step that corresponds": to step s corresponds the plain step that has as many plain steps before it as s has
 abbrev pub corresponding : List Step → ℕ → ℕ
 corresponding xs s = withoutBefore isL xs s
-
--- the same outcome of a run, but for the number of the step that is refused
-abbrev pub renumbered : {A : Type 0} → (ℕ → ℕ) → Ran A → Ran A
-renumbered f (stopped why s) = stopped why (f s)
-renumbered f (ended l peak) = ended l peak
