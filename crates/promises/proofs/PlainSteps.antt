@@ -4,9 +4,9 @@
 -- Assumes nothing.
 use mathlib.Core.Path.{_≡_, refl, sym, ap, _∙_, subst}
 use mathlib.Core.Logic.{_⊎_, inl, inr}
-use mathlib.Core.Bool.{false}
 use mathlib.Core.List.{List, [], _∷_, _++_}
 use Prim.Native.Nat.{ℕ, _+_, _*_, _%_, _<_}
+use native.Mathlib.Decide.{ℕ-discrete}
 use native.Mathlib.Omega.{arith}
 use lib.ListN.{length, getD, replicate}
 use Rattle.bits.specs.Bits.{withBit}
@@ -22,69 +22,68 @@ use Rattle.records.proofs.Answers.{not-both, refused-same}
 use Rattle.cube.specs.Cubes.{code, put, apart, good}
 use Rattle.cube.specs.Calls.{checkListOf}
 use Rattle.steps.specs.Moves.{dropAt, splitAt, applied}
-use Rattle.steps.specs.Steps.{Step, drop, meaning, dropMove, splitMove, exchanged, step}
+use Rattle.steps.specs.Steps.{Step, drop, isL, meaning, dropMove, splitMove, exchanged, step}
 use Rattle.script.specs.Run.{stepsFrom, undoBy}
 use Rattle.script.specs.Run as running
 use Rattle.script.specs.Scripts.{stepWidth, fits, stepsOf}
 use Rattle.script.specs.Calls.{checkScript, checkRun, runOf, runOutcome, runAfter}
-use Rattle.script.specs.Plain.{isL, plainSteps, plainScript, corresponding}
-use Rattle.script.proofs.Plain as plain
+use Rattle.script.specs.PlainSteps.{plainSteps, withoutL, corresponding}
+use Rattle.script.proofs.PlainSteps as plain
 use Rattle.script.proofs.Without.{all-without, without-at}
 use Rattle.promises.specs.Calls.{Call, run, answers, leaves, Called}
 use Rattle.promises.specs.Refusals.{NoneWrong, scriptFaults, faults, RefusedBefore, RefusedAtStep}
-use Rattle.promises.specs.PlainSteps.{NoSplit, TakenOut, of-run, atCorresponding, bareRecord, zeroRecord, oneRecord, splitScript, splitAndDrop}
-use Rattle.promises.proofs.Chains.{not-none, judged-right}
-use Rattle.promises.proofs.Judging.{by-script}
-use Rattle.promises.proofs.TakingOut.{fine-script, fine-without, outcomeAt, goes-same, refused-at}
+use Rattle.promises.specs.PlainSteps.{NoSplit, TakenOut, of-run, atCorresponding, absentRecord, complementedRecord, plainRecord, splitScript, splitAndDrop}
+use Rattle.promises.proofs.Chains.{not-none}
+use Rattle.promises.proofs.TakingOut.{passes, fine-script, fine-without, outcomeAt, goes-same, refused-at}
 use Rattle.promises.proofs.DemandOne.{refused-call, accepted-not-wrong, not-wrong-goes-on}
 
 -- ---- the script without its L steps
 
 module _ (script : List ℕ) where
   -- Its steps are those of the given script that are not L steps, in their order, ..
-  pub steps-left : stepsOf (plainScript script) ≡ plainSteps (stepsOf script)
+  pub steps-left : stepsOf (withoutL script) ≡ plainSteps (stepsOf script)
   steps-left = plain.plain-read script
 
   -- .. so none of them is one.
-  pub none-is-L : All (λ x. isL x ≡ false) (stepsOf (plainScript script))
+  pub none-is-L : All (λ x. isL x ≡ 0) (stepsOf (withoutL script))
   none-is-L =
-      subst (All (λ x. isL x ≡ false)) (sym steps-left)
+      subst (All (λ x. isL x ≡ 0)) (sym steps-left)
       (all-each _ _ (λ x p. p .0) (plainSteps (stepsOf script)) (all-without isL (λ x. Unit {0}) (stepsOf script) (all-of _ (drop 0 0) (stepsOf script) (λ i h. tt))))
 
   -- It passes 7, 8 and 9 where the given one does, with so many steps.
-  pub plain-script-passes : (n : ℕ) → NoneWrong (scriptFaults n script) → checkScript n (plainScript script) ≡ accepted (length (plainSteps (stepsOf script)) ∷ [])
-  plain-script-passes n fine = plain.plain-passes n script _ (judged-right (scriptFaults n script) (checkScript n script) _ (by-script n script) fine)
+  pub shorter-passes : (n : ℕ) → NoneWrong (scriptFaults n script) → checkScript n (withoutL script) ≡ accepted (length (plainSteps (stepsOf script)) ∷ [])
+  shorter-passes n fine = passes n script fine
 
-  pub plain-script-fine : (n : ℕ) → NoneWrong (scriptFaults n script) → NoneWrong (scriptFaults n (plainScript script))
-  plain-script-fine n fine = fine-script n script fine
+  pub shorter-fine : (n : ℕ) → NoneWrong (scriptFaults n script) → NoneWrong (scriptFaults n (withoutL script))
+  shorter-fine n fine = fine-script n script fine
 
   -- Each step that is not an L step is there at the step that corresponds; ..
-  pub same-step : (s : ℕ) → s < length (stepsOf script) → isL (getD (stepsOf script) s (drop 0 0)) ≡ false
-      → (corresponding (stepsOf script) s < length (stepsOf (plainScript script)))
-      × (getD (stepsOf (plainScript script)) (corresponding (stepsOf script) s) (drop 0 0) ≡ getD (stepsOf script) s (drop 0 0))
+  pub same-step : (s : ℕ) → s < length (stepsOf script) → isL (getD (stepsOf script) s (drop 0 0)) ≡ 0
+      → (corresponding (stepsOf script) s < length (stepsOf (withoutL script)))
+      × (getD (stepsOf (withoutL script)) (corresponding (stepsOf script) s) (drop 0 0) ≡ getD (stepsOf script) s (drop 0 0))
   same-step s h e =
       subst (λ (xs : List Step). (corresponding (stepsOf script) s < length xs) × (getD xs (corresponding (stepsOf script) s) (drop 0 0) ≡ getD (stepsOf script) s (drop 0 0)))
       (sym steps-left) (without-at isL (drop 0 0) (stepsOf script) s h e)
 
   -- .. and so are its eight bytes.
   pub same-step-bytes : All (λ x. x < 256) script → length script % stepWidth ≡ 0
-      → (s k : ℕ) → s < length (stepsOf script) → isL (getD (stepsOf script) s (drop 0 0)) ≡ false → k < stepWidth
-      → getD (plainScript script) (stepWidth * corresponding (stepsOf script) s + k) 0 ≡ getD script (stepWidth * s + k) 0
+      → (s k : ℕ) → s < length (stepsOf script) → isL (getD (stepsOf script) s (drop 0 0)) ≡ 0 → k < stepWidth
+      → getD (withoutL script) (stepWidth * corresponding (stepsOf script) s + k) 0 ≡ getD script (stepWidth * s + k) 0
   same-step-bytes bytes whole = plain.plain-bytes script bytes whole
 
 -- ---- a call, and the same without its L steps
 
 -- For every list and script that pass 1 to 9, and that script has no split; c′ is c without its L steps.
-module _ (script : List ℕ) (c c′ : Call) (without : TakenOut script c c′) (fine : NoneWrong (faults c)) (none : NoSplit script) where
+module _ (script : List ℕ) (c c′ : Call) (taken : TakenOut script c c′) (fine : NoneWrong (faults c)) (none : NoSplit script) where
   -- Nothing before the first step is wrong of the call without them either.
   pub nothing-wrong : NoneWrong (faults c′)
-  nothing-wrong = fine-without without fine
+  nothing-wrong = fine-without taken fine
 
   -- Both calls were made.
   module _ (o o′ : Outcome) (buffers buffers′ : List (List ℕ)) (given : Called c o buffers) (shorter : Called c′ o′ buffers′) where
     same : o′ ≡ outcomeAt script o
     same =
-        not-wrong-goes-on c′ o′ buffers′ shorter nothing-wrong .0 ∙ goes-same without fine none .0
+        not-wrong-goes-on c′ o′ buffers′ shorter nothing-wrong .0 ∙ goes-same taken fine none .0
         ∙ ap (outcomeAt script) (sym (not-wrong-goes-on c o buffers given fine .0))
 
     -- It is refused exactly when the first one was: with the same number and the same third answer, at the step that corresponds; ..
@@ -98,17 +97,24 @@ module _ (script : List ℕ) (c c′ : Call) (without : TakenOut script c c′) 
         go (accepted v) is e = absurd (not-both e)
         go (refused r) is e = (r, is, sym (refused-same e))
 
-    -- .. which is never an L step, and is the same step in both scripts.
-    pub never-L : (r : Refusal) → o ≡ refused r → (r .place < length (stepsOf script)) × (isL (getD (stepsOf script) (r .place) (drop 0 0)) ≡ false)
+    -- .. of the given script never at an L step, ..
+    pub never-L : (r : Refusal) → o ≡ refused r → (r .place < length (stepsOf script)) × (isL (getD (stepsOf script) (r .place) (drop 0 0)) ≡ 0)
     never-L r e = go (refused-call c o buffers given r e)
       where
-        go : RefusedBefore r buffers c ⊎ RefusedAtStep r buffers c → (r .place < length (stepsOf script)) × (isL (getD (stepsOf script) (r .place) (drop 0 0)) ≡ false)
+        go : RefusedBefore r buffers c ⊎ RefusedAtStep r buffers c → (r .place < length (stepsOf script)) × (isL (getD (stepsOf script) (r .place) (drop 0 0)) ≡ 0)
         go (inl b) = absurd (not-none (faults c) (r .number) (r .place) (b .wrong) fine)
-        go (inr s) = refused-at without r buffers s
+        go (inr s) = refused-at taken r buffers s
 
-    pub refused-step : (r : Refusal) → o ≡ refused r
-        → getD (stepsOf (plainScript script)) (corresponding (stepsOf script) (r .place)) (drop 0 0) ≡ getD (stepsOf script) (r .place) (drop 0 0)
-    refused-step r e = let t = never-L r e in same-step script (r .place) (t .0) (t .1) .1
+    -- .. and of the shorter one at that very step, which so is no L step either.
+    module _ (r : Refusal) (e : o ≡ refused r) where
+      abbrev t : ℕ
+      t = corresponding (stepsOf script) (r .place)
+
+      pub refused-step : (t < length (stepsOf (withoutL script))) × (getD (stepsOf (withoutL script)) t (drop 0 0) ≡ getD (stepsOf script) (r .place) (drop 0 0))
+      refused-step = let s = never-L r e in same-step script (r .place) (s .0) (s .1)
+
+      pub corresponding-never-L : isL (getD (stepsOf (withoutL script)) t (drop 0 0)) ≡ 0
+      corresponding-never-L = ap isL (refused-step .1) ∙ never-L r e .1
 
     -- Else both answer the same, run its count and peak and settle its counts, ..
     pub accepted-too : (v : List ℕ) → o ≡ accepted v → o′ ≡ accepted v
@@ -124,34 +130,34 @@ module _ (script : List ℕ) (c c′ : Call) (without : TakenOut script c c′) 
     -- .. and leave the same bytes in every buffer, refused or not.
     pub same-bytes : buffers′ ≡ buffers
     same-bytes =
-        not-wrong-goes-on c′ o′ buffers′ shorter nothing-wrong .1 ∙ goes-same without fine none .1 ∙ sym (not-wrong-goes-on c o buffers given fine .1)
+        not-wrong-goes-on c′ o′ buffers′ shorter nothing-wrong .1 ∙ goes-same taken fine none .1 ∙ sym (not-wrong-goes-on c o buffers given fine .1)
 
 -- ---- "With splits it isn't claimed": two calls of run over 1 variable, each with its script and then without the script's L step
 
 -- The list -, and L v=0 literal 0, split v=0 0: it ends in 1, 0. Without the L step it ends in 0, 1: the same records in other places.
 pub split-placed :
-    Called (run 1 bareRecord splitScript (replicate 16 7)) (accepted (2 ∷ 2 ∷ [])) ((oneRecord ++ zeroRecord) ∷ [])
-    × Called (run 1 bareRecord (plainScript splitScript) (replicate 16 7)) (accepted (2 ∷ 2 ∷ [])) ((zeroRecord ++ oneRecord) ∷ [])
-unfolding answers leaves runOutcome runAfter checkRun checkListOf checkScript firstBad listOf records good fits stepsOf plainScript meaning runOf withBit listBelow bytesOf numberAt code put splitAt applied splitMove exchanged step stepsFrom undoBy running.run capacityOf image filled
+    Called (run 1 absentRecord splitScript (replicate 16 7)) (accepted (2 ∷ 2 ∷ [])) ((plainRecord ++ complementedRecord) ∷ [])
+    × Called (run 1 absentRecord (withoutL splitScript) (replicate 16 7)) (accepted (2 ∷ 2 ∷ [])) ((complementedRecord ++ plainRecord) ∷ [])
+unfolding answers leaves runOutcome runAfter checkRun checkListOf checkScript firstBad listOf records good fits stepsOf withoutL ℕ-discrete meaning runOf withBit listBelow bytesOf numberAt code put splitAt applied splitMove exchanged step stepsFrom undoBy running.run capacityOf image filled
 split-placed = (record { answer = refl; left = refl }, record { answer = refl; left = refl })
 
 -- The list -, 1, the same steps, and then drop 0 1: it ends in 0, after a peak of 3. Without the L step the drop, now step 1, is refused by 16, and 1 variable differs.
 pub split-refused :
-    Called (run 1 (bareRecord ++ oneRecord) splitAndDrop (replicate 24 7)) (accepted (1 ∷ 3 ∷ [])) ((zeroRecord ++ zeros 16) ∷ [])
-    × Called (run 1 (bareRecord ++ oneRecord) (plainScript splitAndDrop) (replicate 24 7)) (refused (refusalWith 16 1 1)) (zeros 24 ∷ [])
-unfolding answers leaves runOutcome runAfter checkRun checkListOf checkScript firstBad listOf records good fits stepsOf plainScript meaning runOf withBit those listBelow bytesOf numberAt removeAt code put apart dropAt splitAt applied dropMove splitMove exchanged step stepsFrom undoBy running.run capacityOf image filled
+    Called (run 1 (absentRecord ++ plainRecord) splitAndDrop (replicate 24 7)) (accepted (1 ∷ 3 ∷ [])) ((complementedRecord ++ zeros 16) ∷ [])
+    × Called (run 1 (absentRecord ++ plainRecord) (withoutL splitAndDrop) (replicate 24 7)) (refused (refusalWith 16 1 1)) (zeros 24 ∷ [])
+unfolding answers leaves runOutcome runAfter checkRun checkListOf checkScript firstBad listOf records good fits stepsOf withoutL ℕ-discrete meaning runOf withBit those listBelow bytesOf numberAt removeAt code put apart dropAt splitAt applied dropMove splitMove exchanged step stepsFrom undoBy running.run capacityOf image filled
 split-refused = (record { answer = refl; left = refl }, record { answer = refl; left = refl })
 
 -- So the premise is needed: without it neither the bytes are always the same, nor is always accepted what was.
 pub bytes-need-no-split : ((script : List ℕ) (c c′ : Call) → TakenOut script c c′ → NoneWrong (faults c) → leaves c′ ≡ leaves c) → ⊥
 bytes-need-no-split claim =
     let p = split-placed in
-    let e = p .1 .left ∙ claim splitScript _ _ (of-run 1 bareRecord (replicate 16 7) (replicate 16 7) refl) (accepted-not-wrong _ _ _ (p .0) _ refl) ∙ sym (p .0 .left) in
+    let e = p .1 .left ∙ claim splitScript _ _ (of-run 1 absentRecord (replicate 16 7) (replicate 16 7) refl) (accepted-not-wrong _ _ _ (p .0) _ refl) ∙ sym (p .0 .left) in
     let z : _≡_ {A = ℕ} 0 1 = ap (λ (b : List (List ℕ)). getD (getD b 0 []) 4 0) e in
     omega arith
 
 pub refusals-need-no-split : ((script : List ℕ) (c c′ : Call) → TakenOut script c c′ → NoneWrong (faults c) → (v : List ℕ) → answers c ≡ accepted v → answers c′ ≡ accepted v) → ⊥
 refusals-need-no-split claim =
     let p = split-refused in
-    let taken = of-run 1 (bareRecord ++ oneRecord) (replicate 24 7) (replicate 24 7) refl in
+    let taken = of-run 1 (absentRecord ++ plainRecord) (replicate 24 7) (replicate 24 7) refl in
     not-both (sym (claim splitAndDrop _ _ taken (accepted-not-wrong _ _ _ (p .0) _ refl) _ (sym (p .0 .answer))) ∙ sym (p .1 .answer))

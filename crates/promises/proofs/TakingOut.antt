@@ -1,7 +1,6 @@
 -- A call without its L steps: nothing is wrong of it, its script runs to the same end, and so it answers and leaves what PlainSteps says.
 -- Assumes nothing.
 use mathlib.Core.Path.{_≡_, refl, ap, ap₂, _∙_, subst}
-use mathlib.Core.Bool.{false}
 use mathlib.Core.List.{List, [], _∷_}
 use Prim.Native.Nat.{ℕ, _<_}
 use lib.ListN.{length, getD}
@@ -10,14 +9,14 @@ use Rattle.records.specs.Records.{zeros}
 use Rattle.records.specs.Answers.{Outcome, accepted, refused}
 use Rattle.cube.specs.declared.Cube.{Cube}
 use Rattle.cube.specs.Lists.{cubes, mostVariables, cubesOf, cubeCapacity}
-use Rattle.steps.specs.Steps.{Step, drop}
+use Rattle.steps.specs.Steps.{Step, drop, isL}
 use Rattle.script.specs.Run.{Ran, stopped, ended}
 use Rattle.script.specs.Run as running
 use Rattle.script.specs.Scripts.{stepsOf}
 use Rattle.script.specs.Calls.{checkScript, runOf, ranOutcome, ranWork}
-use Rattle.script.specs.Plain.{isL, plainScript, corresponding}
+use Rattle.script.specs.PlainSteps.{plainSteps, withoutL, corresponding}
 use Rattle.script.proofs.Decoration.{renumbered}
-use Rattle.script.proofs.Plain.{plain-read, plain-run, plain-passes, refused-plain}
+use Rattle.script.proofs.PlainSteps.{plain-read, plain-run, plain-passes, refused-plain}
 use Rattle.settling.specs.Calls.{ranSettled, ranBurned}
 use Rattle.promises.specs.Calls.{Call}
 use Rattle.promises.specs.Refusals.{NoneWrong, listFaults, scriptFaults, faults, RefusedAtStep, in-run, in-settle}
@@ -29,10 +28,11 @@ use Rattle.promises.proofs.NotWrong.{good-list, fit-script}
 
 -- ---- before the first step
 
-pub fine-script : (n : ℕ) (script : List ℕ) → NoneWrong (scriptFaults n script) → NoneWrong (scriptFaults n (plainScript script))
-fine-script n script fine =
-    judged-none (scriptFaults n (plainScript script)) _ _ _ (by-script n (plainScript script))
-    (plain-passes n script _ (judged-right (scriptFaults n script) (checkScript n script) _ (by-script n script) fine))
+pub passes : (n : ℕ) (script : List ℕ) → NoneWrong (scriptFaults n script) → checkScript n (withoutL script) ≡ accepted (length (plainSteps (stepsOf script)) ∷ [])
+passes n script fine = plain-passes n script _ (judged-right (scriptFaults n script) (checkScript n script) _ (by-script n script) fine)
+
+pub fine-script : (n : ℕ) (script : List ℕ) → NoneWrong (scriptFaults n script) → NoneWrong (scriptFaults n (withoutL script))
+fine-script n script fine = judged-none (scriptFaults n (withoutL script)) _ _ _ (by-script n (withoutL script)) (passes n script fine)
 
 pub fine-without : {script : List ℕ} {c c′ : Call} → TakenOut script c c′ → NoneWrong (faults c) → NoneWrong (faults c′)
 unfolding faults
@@ -50,7 +50,7 @@ fine-without {script} (of-settle n list work again out e) fine =
 
 -- the run of the plain steps, in as much room
 ran-plain : (n : ℕ) (list script : List ℕ) (room room′ : ℕ) → room′ ≡ room → NoneWrong (listFaults cubes mostVariables n list) → NoneWrong (scriptFaults n script)
-    → NoSplit script → runOf n list (plainScript script) room′ ≡ renumbered (corresponding (stepsOf script)) (runOf n list script room)
+    → NoSplit script → runOf n list (withoutL script) room′ ≡ renumbered (corresponding (stepsOf script)) (runOf n list script room)
 unfolding runOf
 ran-plain n list script room room′ e l s none =
     ap₂ (λ (k : ℕ) (xs : List Step). running.run n (cubeCapacity k) xs (cubesOf list)) e (plain-read script)
@@ -99,7 +99,7 @@ goes-same {script} (of-settle n list work again out e) fine none =
 
 -- the step at which such a call is refused
 pub refused-at : {script : List ℕ} {c c′ : Call} → TakenOut script c c′ → (r : Refusal) (buffers : List (List ℕ)) → RefusedAtStep r buffers c
-    → (r .place < length (stepsOf script)) × (isL (getD (stepsOf script) (r .place) (drop 0 0)) ≡ false)
+    → (r .place < length (stepsOf script)) × (isL (getD (stepsOf script) (r .place) (drop 0 0)) ≡ 0)
 refused-at {script} (of-run n list work again e) r buffers (in-run _ _ _ _ fine s left) =
     (s .steps .within, refused-plain n (cubeCapacity (length work)) _ (s .steps .between) _ (s .steps .here))
 refused-at {script} (of-settle n list work again out e) r buffers (in-settle _ _ _ _ _ fine s left) =

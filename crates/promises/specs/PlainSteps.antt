@@ -1,6 +1,6 @@
 -- A call with a script, and the same call without the script's L steps. Document 02, Twelve: "For every plain list and script with no split, take out all L
 -- steps: the run is refused exactly when the first one was, with the same number, at the step that corresponds; else it ends with the same records in the same
--- places. With splits it isn't claimed." The script without them is `plainScript` and the step that corresponds `corresponding`, in script/specs/Plain.antt.
+-- places. With splits it isn't claimed." The script without them is `withoutL` and the step that corresponds `corresponding`, in script/specs/PlainSteps.antt.
 -- Assumes nothing.
 use mathlib.Core.Path.{_≡_}
 use mathlib.Core.List.{List, [], _∷_, _++_}
@@ -12,7 +12,7 @@ use Rattle.records.specs.Records.{zeros}
 use Rattle.records.specs.Answers.{refusalWith}
 use Rattle.steps.specs.Steps.{isSplit}
 use Rattle.script.specs.Scripts.{stepsOf}
-use Rattle.script.specs.Plain.{plainScript, corresponding}
+use Rattle.script.specs.PlainSteps.{withoutL, corresponding}
 use Rattle.promises.specs.Calls.{Call, run, settle}
 
 -- "script with no split"
@@ -21,9 +21,9 @@ NoSplit script = All (λ x. isSplit x ≡ 0) (stepsOf script)
 
 -- the second call is the first one with all L steps taken out of its script, on the same list, in a work buffer as long, whatever it holds
 pub data TakenOut (script : List ℕ) : Call → Call → Type 0 where
-  of-run : (n : ℕ) (list work again : List ℕ) → length again ≡ length work → TakenOut script (run n list script work) (run n list (plainScript script) again)
+  of-run : (n : ℕ) (list work again : List ℕ) → length again ≡ length work → TakenOut script (run n list script work) (run n list (withoutL script) again)
   of-settle : (n : ℕ) (list work again out : List ℕ) → length again ≡ length work
-      → TakenOut script (settle n list script work out) (settle n list (plainScript script) again out)
+      → TakenOut script (settle n list script work out) (settle n list (withoutL script) again out)
 
 -- "with the same number, at the step that corresponds", and the same third answer
 abbrev pub atCorresponding : List ℕ → Refusal → Refusal
@@ -31,15 +31,15 @@ atCorresponding script r = refusalWith (r .number) (corresponding (stepsOf scrip
 
 -- ---- "With splits it isn't claimed": two scripts over 1 variable
 
--- the cubes - and 0 and 1 as records
-abbrev pub bareRecord : List ℕ
-bareRecord = zeros 8
+-- the cubes -, 0 and 1 as records
+abbrev pub absentRecord : List ℕ
+absentRecord = zeros 8
 
-abbrev pub zeroRecord : List ℕ
-zeroRecord = 1 ∷ 0 ∷ 0 ∷ 0 ∷ 0 ∷ 0 ∷ 0 ∷ 0 ∷ []
+abbrev pub complementedRecord : List ℕ
+complementedRecord = 1 ∷ 0 ∷ 0 ∷ 0 ∷ 0 ∷ 0 ∷ 0 ∷ 0 ∷ []
 
-abbrev pub oneRecord : List ℕ
-oneRecord = 1 ∷ 0 ∷ 0 ∷ 0 ∷ 1 ∷ 0 ∷ 0 ∷ 0 ∷ []
+abbrev pub plainRecord : List ℕ
+plainRecord = 1 ∷ 0 ∷ 0 ∷ 0 ∷ 1 ∷ 0 ∷ 0 ∷ 0 ∷ []
 
 -- L v=0 literal 0, then split v=0 0
 abbrev pub splitScript : List ℕ

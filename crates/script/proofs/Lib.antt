@@ -5,7 +5,7 @@ pub mod Counts
 pub mod Scripts
 pub mod Without
 pub mod Decoration
-pub mod Plain
+pub mod PlainSteps
 pub mod Refusals
 pub mod Filled
 pub mod Outcomes

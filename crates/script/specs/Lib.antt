@@ -2,6 +2,6 @@ pub mod Run
 pub mod Counts
 pub mod Pending
 pub mod Scripts
-pub mod Plain
+pub mod PlainSteps
 pub mod Calls
 pub mod Progress

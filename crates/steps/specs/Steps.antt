@@ -118,7 +118,7 @@ step n cap (split v i) l = applied one i 0 l (splitMove (length l) cap v i (cube
 step n cap (turn v i j) l = applied one i j l (turnMove n (length l) v i j (cubeAt l i) (cubeAt l j))
 step n cap (L v b) l = next (map (exchanged v b) l)
 
--- ---- the kind of a step: 1 for a split, a join, a drop
+-- ---- the kind of a step: 1 for a split, a join, a drop, an L step
 
 -- a number for each kind: drop, join, split, turn, L
 abbrev pub byKind : ℕ → ℕ → ℕ → ℕ → ℕ → Step → ℕ
@@ -136,3 +136,6 @@ isJoin x = byKind 0 1 0 0 0 x
 
 abbrev pub isSplit : Step → ℕ
 isSplit x = byKind 0 0 1 0 0 x
+
+abbrev pub isL : Step → ℕ
+isL x = byKind 0 0 0 0 1 x

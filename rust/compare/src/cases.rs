@@ -119,14 +119,16 @@ fn script_case(random: &mut Random, faults: &Faults, call: Call) -> Case {
     Case { call, n, input, number: 0, script, work, out }
 }
 
-/// A list and a script that pass 1 to 9, with no split and often with L steps; in half of the cases a step is refused.
+/// A list and a script that pass 1 to 9, with no split and often with L steps; in half of the cases a refusal is looked for.
 pub fn unsplit_case(random: &mut Random, call: Call) -> Case {
     let mistake = if random.one_in(2) { None } else { Some(random.pick(&[10, 11, 16, 17, 18, 19])) };
     let case = script_case(random, &Faults(mistake.into_iter().collect()), call);
     let (n, given) = (case.n as usize, case.cubes());
     let length = case.script.len() / STEP;
-    // Where there is no capacity no split is chosen.
+    // Where there is no capacity a split is chosen only for its place, to be refused by 10.
     let mut steps = scripts::script(random, n, &given, 0, length, mistake);
+    steps.retain(|step| !matches!(step, Step::Split { .. }));
+    steps.truncate(STEPS);
     if n > 0 {
         for _ in 0..random.below(4).min(STEPS - steps.len()) {
             let l = Step::L { v: random.below(n), literal: random.below(2) as u8 };

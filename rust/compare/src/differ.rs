@@ -77,6 +77,11 @@ pub struct After {
 /// Compares one case three ways: the library's words, its named answers, the model; reasons with value; and a written
 /// script with its run. Answers the words.
 pub fn compare(case: &Case) -> Result<[u64; 8], String> {
+    compared(case).map(|after| after.answer)
+}
+
+/// The same; answers the words and the buffers.
+pub fn compared(case: &Case) -> Result<After, String> {
     let expected = by_model(case);
     let got = by_words(case).map_err(|touched| format!("{touched}\n{case}"))?;
     if got != expected {
@@ -91,7 +96,7 @@ pub fn compare(case: &Case) -> Result<[u64; 8], String> {
         Call::WriteScript => replay(case, &expected)?,
         _ => {}
     }
-    Ok(expected.answer)
+    Ok(expected)
 }
 
 /// Document 02, One: reasons answers the number and the bit that value answers, and refuses what value does, "then 5".

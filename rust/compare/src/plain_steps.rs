@@ -1,9 +1,9 @@
-//! Document 02, Twelve: scripts with no split, each with its L steps and without them, by the library alone; and how often
-//! another rule, or a split, would have been seen.
+//! Document 02, Twelve: scripts with no split, each with its L steps and without them; and how often another rule, or a
+//! split, would have been seen.
 
 use crate::cases::{case, unsplit_case};
 use crate::counts::{Counts, unmet, write_lines};
-use crate::differ::{After, Call, Case, by_words, compare};
+use crate::differ::{After, Call, Case, compared};
 use crate::exhaustive::lists;
 use crate::random::Random;
 use model::cube::{Cube, RECORD, encoded_list};
@@ -19,9 +19,9 @@ pub fn all(calls: usize, seed: u64) -> Result<(), String> {
         let mut random = Random::new(seed.wrapping_mul(37).wrapping_add(call as u64));
         for number in 0..calls {
             let case = unsplit_case(&mut random, call);
-            let said = |difference| format!("call {number} from seed {seed}: {difference}");
-            compare(&case).map_err(said)?;
-            pairs.add(&case, &beside_plain(&case).map_err(said)?);
+            let given =
+                beside_plain(&case).map_err(|difference| format!("call {number} from seed {seed}: {difference}"))?;
+            pairs.add(&case, &given)?;
         }
     }
     with_splits(&mut pairs, calls, seed)?;
@@ -33,17 +33,25 @@ pub fn all(calls: usize, seed: u64) -> Result<(), String> {
     short_scripts()
 }
 
+fn has(script: &[u8], op: u8) -> bool {
+    script.chunks(STEP).any(|step| step[0] == op)
+}
+
 /// The call without the L steps of its script, in a work buffer that holds other bytes.
 fn plain(case: &Case) -> Case {
     let left: Vec<&[u8]> = case.script.chunks(STEP).filter(|step| step[0] != L).collect();
     Case { script: left.concat(), work: case.work.iter().map(|byte| !byte).collect(), ..case.clone() }
 }
 
-/// Makes the call and the one without its L steps: "refused exactly when the first one was, with the same number, at the
-/// step that corresponds; else it ends with the same records in the same places". Answers what the first one left.
+/// Makes the call and the one without its L steps, each compared with the model: "refused exactly when the first one was,
+/// with the same number, at the step that corresponds; else it ends with the same records in the same places". Answers what
+/// the first one left.
 fn beside_plain(case: &Case) -> Result<After, String> {
-    let given = by_words(case)?;
-    let left = by_words(&plain(case))?;
+    if has(&case.script, SPLIT) {
+        return Err(format!("a split\n{case}"));
+    }
+    let given = compared(case)?;
+    let left = compared(&plain(case))?;
     let mut answer = given.answer;
     if answer[0] != 0 {
         let before = &case.script[..STEP * answer[1] as usize];
@@ -60,12 +68,13 @@ fn beside_plain(case: &Case) -> Result<After, String> {
 /// Random calls of run whose scripts have a split and an L step: without the L steps some have another outcome.
 fn with_splits(pairs: &mut Pairs, calls: usize, seed: u64) -> Result<(), String> {
     let mut random = Random::new(seed.wrapping_mul(41));
-    for _ in 0..calls {
+    for number in 0..calls {
         let case = case(&mut random, Call::Run);
-        let has = |op| case.script.chunks(STEP).any(|step| step[0] == op);
-        let given = by_words(&case)?;
-        if has(SPLIT) && has(L) && !matches!(given.answer[0], 1..=9) {
-            let left = by_words(&plain(&case))?;
+        let made =
+            |case: &Case| compared(case).map_err(|difference| format!("call {number} from seed {seed}: {difference}"));
+        let given = made(&case)?;
+        if has(&case.script, SPLIT) && has(&case.script, L) && !matches!(given.answer[0], 1..=9) {
+            let left = made(&plain(&case))?;
             let kind = match (given.answer[0], left.answer[0]) {
                 (0, 0) if given.work == left.work => 0,
                 (0, 0) => 1,
@@ -79,8 +88,8 @@ fn with_splits(pairs: &mut Pairs, calls: usize, seed: u64) -> Result<(), String>
     Ok(())
 }
 
-/// Every list of up to 2 cubes over 2 variables with every script of up to 3 steps, none of them a split and at least one
-/// an L step; the other steps are at places 0 and 1 in both orders, at one place, and past the end.
+/// Every list of up to 2 cubes over 2 variables, run with every script of up to 3 steps, none of them a split and at least
+/// one an L step; the other steps are at places 0 and 1 in both orders, at one place, and past the end.
 fn short_scripts() -> Result<(), String> {
     let places = [(0, 1), (1, 0), (0, 0), (0, 2)];
     let mut steps: Vec<[u8; STEP]> = (0..4).map(|k| encoded(Step::L { v: k / 2, literal: k as u8 % 2 })).collect();
@@ -94,7 +103,7 @@ fn short_scripts() -> Result<(), String> {
         last = last.iter().flat_map(|script| steps.iter().map(move |step| [&script[..], step].concat())).collect();
         scripts.extend(last.clone());
     }
-    scripts.retain(|script| script.chunks(STEP).any(|step| step[0] == L));
+    scripts.retain(|script| has(script, L));
     let lists = lists();
     let (mut calls, mut accepted) = (0u64, 0u64);
     for input in lists.iter().map(|list| encoded_list(list)) {
@@ -116,7 +125,8 @@ fn short_scripts() -> Result<(), String> {
     if calls == expected { Ok(()) } else { Err(format!("not {expected} pairs")) }
 }
 
-const OUTCOMES: [&str; 7] = ["accepted", "refused by 10", "11", "16", "17", "18", "19"];
+const OUTCOMES: [(u64, &str); 7] =
+    [(0, "accepted"), (10, "refused by 10"), (11, "11"), (16, "16"), (17, "17"), (18, "18"), (19, "19")];
 
 const NUMBERS: [&str; 4] = ["none", "one", "two", "three or more"];
 
@@ -146,12 +156,10 @@ struct Pairs {
 }
 
 impl Pairs {
-    fn add(&mut self, case: &Case, given: &After) {
+    fn add(&mut self, case: &Case, given: &After) -> Result<(), String> {
         let [number, place, ..] = given.answer;
-        let outcome = match number {
-            0 => 0,
-            10 | 11 => number as usize - 9,
-            _ => number as usize - 13,
+        let Some(outcome) = OUTCOMES.iter().position(|(other, _)| *other == number) else {
+            return Err(format!("refused by {number}\n{case}"));
         };
         self.outcomes[outcome] += 1;
         let is_l = |step: &&[u8]| step[0] == L;
@@ -161,16 +169,16 @@ impl Pairs {
                 *count += u64::from(other);
             }
         } else {
-            let before = case.script.chunks(STEP).take(place as usize);
-            self.another[0] += u64::from(before.into_iter().any(|step| step[0] == L));
+            self.another[0] += u64::from(has(&case.script[..STEP * place as usize], L));
         }
+        Ok(())
     }
 
     fn counts(&self) -> [Counts; 4] {
         [
             (
                 "scripts without a split, with and without their L steps",
-                OUTCOMES.into_iter().zip(self.outcomes).collect(),
+                OUTCOMES.map(|(_, name)| name).into_iter().zip(self.outcomes).collect(),
             ),
             ("their L steps", NUMBERS.into_iter().zip(self.numbers).collect()),
             ("another outcome by other rules", OTHERS.into_iter().zip(self.another).collect()),

@@ -2,9 +2,10 @@
 -- bytes of a script's plain steps. Document 02, Twelve.
 -- Assumes nothing.
 use mathlib.Core.Path.{_≡_, refl, sym, ap, _∙_}
-use mathlib.Core.Bool.{Bool, true, false, true≢false, false≢true, Bool-discrete}
+use mathlib.Core.Logic.{_≢_}
 use mathlib.Core.List.{List, [], _∷_, map, append-nil, filter-map}
 use Prim.Native.Nat.{ℕ, _+_, _*_, _%_, _≤_, _<_}
+use native.Mathlib.Decide.{ℕ-discrete}
 use native.Mathlib.Omega.{arith}
 use lib.ListN.{length, getD, take, length-map, List·getD-map}
 use Rattle.bits.specs.Sums.{All}
@@ -20,7 +21,7 @@ use Rattle.orders.proofs.Codes.{exchange-permutes}
 use Rattle.steps.specs.declared.StepRefusal.{StepRefusal}
 use Rattle.steps.specs.Moves.{stop}
 use Rattle.steps.specs.declared.StepRecord.{StepRecord}
-use Rattle.steps.specs.Steps.{Step, drop, join, split, turn, L, Allowed, meaning, exchanged, step, isSplit}
+use Rattle.steps.specs.Steps.{Step, drop, join, split, turn, L, Allowed, meaning, exchanged, step, isSplit, isL}
 use Rattle.steps.proofs.Balanced.{mapAfter}
 use Rattle.steps.proofs.Commute.{TwoCubes, step-moved}
 use Rattle.steps.proofs.Kept.{takenBack, step-kept}
@@ -29,7 +30,8 @@ use Rattle.steps.proofs.Places.{take-map}
 use Rattle.script.specs.Run.{unstep, run}
 use Rattle.script.specs.Scripts.{stepRecords, stepWidth, stepsOf}
 use Rattle.script.specs.Calls.{checkScript}
-use Rattle.script.specs.Plain.{isL, without, withoutBefore, plainSteps, plainScript, corresponding}
+use Rattle.script.specs.PlainSteps.{without, withoutBefore, plainSteps, withoutL, corresponding}
+use Rattle.script.proofs.Pending.{unstep-map}
 use Rattle.script.proofs.Scripts.{steps-lawful, bytes-of-records, records-of-bytes, script-accepts, records-pass}
 use Rattle.script.proofs.Without.{all-without, length-without, without-at}
 use Rattle.script.proofs.Decoration.{renumbered, Decoration, run-without}
@@ -41,36 +43,36 @@ module _ (n cap : ℕ) where
   abbrev Unsplit : Step → Type 0
   Unsplit x = Allowed n x × (isSplit x ≡ 0)
 
-  two-cubes : (x : Step) → isL x ≡ false → isSplit x ≡ 0 → TwoCubes x
+  two-cubes : (x : Step) → isL x ≡ 0 → isSplit x ≡ 0 → TwoCubes x
   two-cubes (drop i j) e h = tt
   two-cubes (join i j) e h = tt
   two-cubes (split v i) e h = absurd (omega arith)
   two-cubes (turn v i j) e h = tt
-  two-cubes (L v b) e h = absurd (true≢false e)
+  two-cubes (L v b) e h = absurd (omega arith)
 
   -- what an L step is, by the test
-  by-L : (P : Step → Type 0) → ((v b : ℕ) → P (L v b)) → (x : Step) → isL x ≡ true → P x
-  by-L P h (drop i j) e = absurd (false≢true e)
-  by-L P h (join i j) e = absurd (false≢true e)
-  by-L P h (split v i) e = absurd (false≢true e)
-  by-L P h (turn v i j) e = absurd (false≢true e)
+  by-L : (P : Step → Type 0) → ((v b : ℕ) → P (L v b)) → (x : Step) → isL x ≢ 0 → P x
+  by-L P h (drop i j) e = absurd (e refl)
+  by-L P h (join i j) e = absurd (e refl)
+  by-L P h (split v i) e = absurd (e refl)
+  by-L P h (turn v i j) e = absurd (e refl)
   by-L P h (L v b) e = h v b
 
-  not-undone : (x : Step) → isL x ≡ false → (l : List Cube) → unstep x l ≡ l
+  not-undone : (x : Step) → isL x ≡ 0 → (l : List Cube) → unstep x l ≡ l
   not-undone (drop i j) e l = refl
   not-undone (join i j) e l = refl
   not-undone (split v i) e l = refl
   not-undone (turn v i j) e l = refl
-  not-undone (L v b) e l = absurd (true≢false e)
+  not-undone (L v b) e l = absurd (omega arith)
 
   L-steps-decorate : Decoration (step n cap) unstep isL takenBack (Good n) Unsplit
   unfolding step exchanged moved
   L-steps-decorate = record {
     kept = λ x h l m a e. step-kept n cap l m a x (h .0) e .good;
+    undone = unstep-map;
     done = by-L _ (λ v b l. refl);
-    undone = by-L _ (λ v b l. refl);
     twice = by-L _ (λ v b h l a. exchanged-list-twice n v b (h .0 .0) (h .0 .1) l a);
-    left = not-undone;
+    not-undone = not-undone;
     commutes = λ x y e h f.
         by-L (λ y. Unsplit y → (l : List Cube) → step n cap x (map (takenBack y) l) ≡ mapAfter (takenBack y) (step n cap x l))
         (λ v b g l. step-moved (exchange b) (exchange-permutes b (g .0 .1)) v n cap x (two-cubes x e (h .1)) l) y f;
@@ -87,7 +89,7 @@ module _ (n cap : ℕ) where
       all-both (x ∷ xs) h none = ((h .0, none .0), all-both xs (h .1) (none .1))
 
   -- a step that is refused is no L step
-  pub refused-plain : (x : Step) (l : List Cube) (why : StepRefusal) → step n cap x l ≡ stop why → isL x ≡ false
+  pub refused-plain : (x : Step) (l : List Cube) (why : StepRefusal) → step n cap x l ≡ stop why → isL x ≡ 0
   unfolding step
   refused-plain (drop i j) l why e = refl
   refused-plain (join i j) l why e = refl
@@ -97,26 +99,26 @@ module _ (n cap : ℕ) where
 
 -- ---- the bytes
 
--- the records of the plain script are those of the plain steps, ..
-plain-records : (b : List ℕ) → listOf stepRecords (plainScript b) ≡ without (λ r. isL (meaning r)) (listOf stepRecords b)
-unfolding plainScript
+-- the records of the script without its L steps are those of the plain steps, ..
+plain-records : (b : List ℕ) → listOf stepRecords (withoutL b) ≡ without (λ r. isL (meaning r)) (listOf stepRecords b)
+unfolding withoutL
 plain-records b = records-of-bytes (without (λ r. isL (meaning r)) (listOf stepRecords b))
 
 -- .. and its steps are they
-pub plain-read : (b : List ℕ) → stepsOf (plainScript b) ≡ plainSteps (stepsOf b)
+pub plain-read : (b : List ℕ) → stepsOf (withoutL b) ≡ plainSteps (stepsOf b)
 unfolding stepsOf
-plain-read b = ap (map meaning) (plain-records b) ∙ sym (filter-map (λ x. Bool-discrete (isL x) false) meaning (listOf stepRecords b))
+plain-read b = ap (map meaning) (plain-records b) ∙ sym (filter-map (λ x. ℕ-discrete (isL x) 0) meaning (listOf stepRecords b))
 
 -- it passes 7, 8 and 9 where the script does
-pub plain-passes : (n : ℕ) (b v : List ℕ) → checkScript n b ≡ accepted v → checkScript n (plainScript b) ≡ accepted (length (plainSteps (stepsOf b)) ∷ [])
-unfolding plainScript stepsOf
+pub plain-passes : (n : ℕ) (b v : List ℕ) → checkScript n b ≡ accepted v → checkScript n (withoutL b) ≡ accepted (length (plainSteps (stepsOf b)) ∷ [])
+unfolding withoutL stepsOf
 plain-passes n b v e =
     let a = script-accepts n b v e in
     let rs : List StepRecord = listOf stepRecords b in
     let left : List StepRecord = without (λ r. isL (meaning r)) rs in
     let fewer : length left ≤ length rs = length-without (λ r. isL (meaning r)) rs in
     let same : length left ≡ length (plainSteps (map meaning rs)) =
-    sym (length-map left meaning) ∙ ap length (sym (filter-map (λ x. Bool-discrete (isL x) false) meaning rs)) in
+    sym (length-map left meaning) ∙ ap length (sym (filter-map (λ x. ℕ-discrete (isL x) 0) meaning rs)) in
     records-pass n left (omega (arith, fewer, length-list stepRecords b, a .short)) (all-each _ _ (λ r p. p .1) left (all-without (λ r. isL (meaning r)) _ rs (a .each)))
     ∙ ap (λ (k : ℕ). accepted (k ∷ [])) same
 
@@ -126,7 +128,7 @@ module _ (b : List ℕ) (bytes : All (λ x. x < 256) b) (whole : length b % step
   abbrev given : List StepRecord
   given = listOf stepRecords b
 
-  abbrev gone : StepRecord → Bool
+  abbrev gone : StepRecord → ℕ
   gone r = isL (meaning r)
 
   -- byte k of record i
@@ -140,16 +142,16 @@ module _ (b : List ℕ) (bytes : All (λ x. x < 256) b) (whole : length b % step
   before-same : (s : ℕ) → withoutBefore gone given s ≡ corresponding (map meaning given) s
   before-same s =
       sym (length-map (without gone (take s given)) meaning)
-      ∙ ap length (sym (filter-map (λ x. Bool-discrete (isL x) false) meaning (take s given)) ∙ ap plainSteps (sym (take-map meaning s given)))
+      ∙ ap length (sym (filter-map (λ x. ℕ-discrete (isL x) 0) meaning (take s given)) ∙ ap plainSteps (sym (take-map meaning s given)))
 
-  pub plain-bytes : (s k : ℕ) → s < length (stepsOf b) → isL (getD (stepsOf b) s (drop 0 0)) ≡ false → k < stepWidth
-      → getD (plainScript b) (stepWidth * corresponding (stepsOf b) s + k) 0 ≡ getD b (stepWidth * s + k) 0
-  unfolding plainScript stepsOf meaning
+  pub plain-bytes : (s k : ℕ) → s < length (stepsOf b) → isL (getD (stepsOf b) s (drop 0 0)) ≡ 0 → k < stepWidth
+      → getD (withoutL b) (stepWidth * corresponding (stepsOf b) s + k) 0 ≡ getD b (stepWidth * s + k) 0
+  unfolding withoutL stepsOf meaning
   plain-bytes s k h e hk =
       let inside : s < length given = omega (arith, length-map given meaning) in
-      let stays : gone (getD given s (stepRecords .none)) ≡ false = ap isL (sym (List·getD-map meaning given s (stepRecords .none))) ∙ e in
+      let stays : gone (getD given s (stepRecords .none)) ≡ 0 = ap isL (sym (List·getD-map meaning given s (stepRecords .none))) ∙ e in
       let t = without-at gone (stepRecords .none) given s inside stays in
-      ap (λ (i : ℕ). getD (plainScript b) (stepWidth * i + k) 0) (sym (before-same s))
+      ap (λ (i : ℕ). getD (withoutL b) (stepWidth * i + k) 0) (sym (before-same s))
       ∙ at-record (without gone given) (withoutBefore gone given s) k (t .0) hk
       ∙ ap (λ (r : StepRecord). getD (stepRecords .enc r) k 0) (t .1)
       ∙ sym (at-record given s k inside hk)
