@@ -32,7 +32,7 @@ use Rattle.script.proofs.PlainSteps as plain
 use Rattle.script.proofs.Without.{all-without, without-at}
 use Rattle.promises.specs.Calls.{Call, run, answers, leaves, Called}
 use Rattle.promises.specs.Refusals.{NoneWrong, scriptFaults, faults, RefusedBefore, RefusedAtStep}
-use Rattle.promises.specs.PlainSteps.{NoSplit, TakenOut, of-run, atCorresponding, absentRecord, complementedRecord, plainRecord, splitScript, splitAndDrop}
+use Rattle.promises.specs.PlainSteps.{NoSplit, TakenOut, of-run, atCorresponding, noLiteral, complementedLiteral, plainLiteral, splitScript, splitAndDrop}
 use Rattle.promises.proofs.Chains.{not-none}
 use Rattle.promises.proofs.TakingOut.{passes, fine-script, fine-without, outcomeAt, goes-same, refused-at}
 use Rattle.promises.proofs.DemandOne.{refused-call, accepted-not-wrong, not-wrong-goes-on}
@@ -136,15 +136,15 @@ module _ (script : List ℕ) (c c′ : Call) (taken : TakenOut script c c′) (f
 
 -- The list -, and L v=0 literal 0, split v=0 0: it ends in 1, 0. Without the L step it ends in 0, 1: the same records in other places.
 pub split-placed :
-    Called (run 1 absentRecord splitScript (replicate 16 7)) (accepted (2 ∷ 2 ∷ [])) ((plainRecord ++ complementedRecord) ∷ [])
-    × Called (run 1 absentRecord (withoutL splitScript) (replicate 16 7)) (accepted (2 ∷ 2 ∷ [])) ((complementedRecord ++ plainRecord) ∷ [])
+    Called (run 1 noLiteral splitScript (replicate 16 7)) (accepted (2 ∷ 2 ∷ [])) ((plainLiteral ++ complementedLiteral) ∷ [])
+    × Called (run 1 noLiteral (withoutL splitScript) (replicate 16 7)) (accepted (2 ∷ 2 ∷ [])) ((complementedLiteral ++ plainLiteral) ∷ [])
 unfolding answers leaves runOutcome runAfter checkRun checkListOf checkScript firstBad listOf records good fits stepsOf withoutL ℕ-discrete meaning runOf withBit listBelow bytesOf numberAt code put splitAt applied splitMove exchanged step stepsFrom undoBy running.run capacityOf image filled
 split-placed = (record { answer = refl; left = refl }, record { answer = refl; left = refl })
 
 -- The list -, 1, the same steps, and then drop 0 1: it ends in 0, after a peak of 3. Without the L step the drop, now step 1, is refused by 16, and 1 variable differs.
 pub split-refused :
-    Called (run 1 (absentRecord ++ plainRecord) splitAndDrop (replicate 24 7)) (accepted (1 ∷ 3 ∷ [])) ((complementedRecord ++ zeros 16) ∷ [])
-    × Called (run 1 (absentRecord ++ plainRecord) (withoutL splitAndDrop) (replicate 24 7)) (refused (refusalWith 16 1 1)) (zeros 24 ∷ [])
+    Called (run 1 (noLiteral ++ plainLiteral) splitAndDrop (replicate 24 7)) (accepted (1 ∷ 3 ∷ [])) ((complementedLiteral ++ zeros 16) ∷ [])
+    × Called (run 1 (noLiteral ++ plainLiteral) (withoutL splitAndDrop) (replicate 24 7)) (refused (refusalWith 16 1 1)) (zeros 24 ∷ [])
 unfolding answers leaves runOutcome runAfter checkRun checkListOf checkScript firstBad listOf records good fits stepsOf withoutL ℕ-discrete meaning runOf withBit those listBelow bytesOf numberAt removeAt code put apart dropAt splitAt applied dropMove splitMove exchanged step stepsFrom undoBy running.run capacityOf image filled
 split-refused = (record { answer = refl; left = refl }, record { answer = refl; left = refl })
 
@@ -152,12 +152,12 @@ split-refused = (record { answer = refl; left = refl }, record { answer = refl; 
 pub bytes-need-no-split : ((script : List ℕ) (c c′ : Call) → TakenOut script c c′ → NoneWrong (faults c) → leaves c′ ≡ leaves c) → ⊥
 bytes-need-no-split claim =
     let p = split-placed in
-    let e = p .1 .left ∙ claim splitScript _ _ (of-run 1 absentRecord (replicate 16 7) (replicate 16 7) refl) (accepted-not-wrong _ _ _ (p .0) _ refl) ∙ sym (p .0 .left) in
+    let e = p .1 .left ∙ claim splitScript _ _ (of-run 1 noLiteral (replicate 16 7) (replicate 16 7) refl) (accepted-not-wrong _ _ _ (p .0) _ refl) ∙ sym (p .0 .left) in
     let z : _≡_ {A = ℕ} 0 1 = ap (λ (b : List (List ℕ)). getD (getD b 0 []) 4 0) e in
     omega arith
 
 pub refusals-need-no-split : ((script : List ℕ) (c c′ : Call) → TakenOut script c c′ → NoneWrong (faults c) → (v : List ℕ) → answers c ≡ accepted v → answers c′ ≡ accepted v) → ⊥
 refusals-need-no-split claim =
     let p = split-refused in
-    let taken = of-run 1 (absentRecord ++ plainRecord) (replicate 24 7) (replicate 24 7) refl in
+    let taken = of-run 1 (noLiteral ++ plainLiteral) (replicate 24 7) (replicate 24 7) refl in
     not-both (sym (claim splitAndDrop _ _ taken (accepted-not-wrong _ _ _ (p .0) _ refl) _ (sym (p .0 .answer))) ∙ sym (p .1 .answer))

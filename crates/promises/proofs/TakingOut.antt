@@ -1,6 +1,6 @@
 -- A call without its L steps: nothing is wrong of it, its script runs to the same end, and so it answers and leaves what PlainSteps says.
 -- Assumes nothing.
-use mathlib.Core.Path.{_≡_, refl, ap, ap₂, _∙_, subst}
+use mathlib.Core.Path.{_≡_, refl, sym, ap, ap₂, _∙_, subst}
 use mathlib.Core.List.{List, [], _∷_}
 use Prim.Native.Nat.{ℕ, _<_}
 use lib.ListN.{length, getD}
@@ -34,17 +34,21 @@ passes n script fine = plain-passes n script _ (judged-right (scriptFaults n scr
 pub fine-script : (n : ℕ) (script : List ℕ) → NoneWrong (scriptFaults n script) → NoneWrong (scriptFaults n (withoutL script))
 fine-script n script fine = judged-none (scriptFaults n (withoutL script)) _ _ _ (by-script n (withoutL script)) (passes n script fine)
 
+-- as long a work buffer has room too
+room-same : (count : ℕ) (work again : List ℕ) → length again ≡ length work → ((q : ℕ) → (q ≡ 0) × (cubeCapacity (length work) < count) → ⊥)
+    → (q : ℕ) → (q ≡ 0) × (cubeCapacity (length again) < count) → ⊥
+room-same count work again e = subst (λ (k : ℕ). (q : ℕ) → (q ≡ 0) × (cubeCapacity k < count) → ⊥) (sym e)
+
 pub fine-without : {script : List ℕ} {c c′ : Call} → TakenOut script c c′ → NoneWrong (faults c) → NoneWrong (faults c′)
 unfolding faults
 fine-without {script} (of-run n list work again e) fine =
-    let l : _ = none-left (listFaults cubes mostVariables n list) _ fine in
-    let r : _ = none-right (listFaults cubes mostVariables n list) _ fine in
-    none-both (listFaults cubes mostVariables n list) _ l ((λ q w. r .0 q (w .0, subst (λ (k : ℕ). cubeCapacity k < length (cubesOf list)) e (w .1))), fine-script n script (r .1))
+    let xs = listFaults cubes mostVariables n list in
+    let r : _ = none-right xs _ fine in
+    none-both xs _ (none-left xs _ fine) (room-same (length (cubesOf list)) work again e (r .0), fine-script n script (r .1))
 fine-without {script} (of-settle n list work again out e) fine =
-    let l : _ = none-left (listFaults cubes mostVariables n list) _ fine in
-    let r : _ = none-right (listFaults cubes mostVariables n list) _ fine in
-    none-both (listFaults cubes mostVariables n list) _ l
-    ((λ q w. r .0 q (w .0, subst (λ (k : ℕ). cubeCapacity k < length (cubesOf list)) e (w .1))), (r .1 .0, fine-script n script (r .1 .1)))
+    let xs = listFaults cubes mostVariables n list in
+    let r : _ = none-right xs _ fine in
+    none-both xs _ (none-left xs _ fine) (room-same (length (cubesOf list)) work again e (r .0), (r .1 .0, fine-script n script (r .1 .1)))
 
 -- ---- the steps
 

@@ -31,15 +31,15 @@ atCorresponding script r = refusalWith (r .number) (corresponding (stepsOf scrip
 
 -- ---- "With splits it isn't claimed": two scripts over 1 variable
 
--- the cubes -, 0 and 1 as records
-abbrev pub absentRecord : List ℕ
-absentRecord = zeros 8
+-- the cubes -, 0 and 1, a record each
+abbrev pub noLiteral : List ℕ
+noLiteral = zeros 8
 
-abbrev pub complementedRecord : List ℕ
-complementedRecord = 1 ∷ 0 ∷ 0 ∷ 0 ∷ 0 ∷ 0 ∷ 0 ∷ 0 ∷ []
+abbrev pub complementedLiteral : List ℕ
+complementedLiteral = 1 ∷ 0 ∷ 0 ∷ 0 ∷ 0 ∷ 0 ∷ 0 ∷ 0 ∷ []
 
-abbrev pub plainRecord : List ℕ
-plainRecord = 1 ∷ 0 ∷ 0 ∷ 0 ∷ 1 ∷ 0 ∷ 0 ∷ 0 ∷ []
+abbrev pub plainLiteral : List ℕ
+plainLiteral = 1 ∷ 0 ∷ 0 ∷ 0 ∷ 1 ∷ 0 ∷ 0 ∷ 0 ∷ []
 
 -- L v=0 literal 0, then split v=0 0
 abbrev pub splitScript : List ℕ

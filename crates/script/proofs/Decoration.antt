@@ -36,21 +36,22 @@ pub record Decoration {A X : Type 0} (σ : X → List A → After A) (un : X →
 
 module _ {A X : Type 0} (σ : X → List A → After A) (un : X → List A → List A) (kind : X → ℕ) (back : X → A → A) (Fine : A → Type 0)
     (Allowed : X → Type 0) (d : Decoration σ un kind back Fine Allowed) where
-  abbrev Stays : X → Type 0
-  Stays x = (kind x ≡ 0) × Allowed x
+  -- a step that is left
+  abbrev Left : X → Type 0
+  Left x = (kind x ≡ 0) × Allowed x
 
   -- steps that are left undo nothing, ..
-  undo-left : (xs : List X) → All Stays xs → (l : List A) → undoBy un xs l ≡ l
+  undo-left : (xs : List X) → All Left xs → (l : List A) → undoBy un xs l ≡ l
   unfolding undoBy
   undo-left [] h l = refl
   undo-left (x ∷ xs) h l = d .not-undone x (h .0 .0) (undoBy un xs l) ∙ undo-left xs (h .1) l
 
-  finish-left : (xs : List X) → All Stays xs → (r : Ran A) → finishBy (undoBy un xs) r ≡ r
+  finish-left : (xs : List X) → All Left xs → (r : Ran A) → finishBy (undoBy un xs) r ≡ r
   finish-left xs h (stopped why s) = refl
   finish-left xs h (ended l p) = ap (λ (m : List A). ended m p) (undo-left xs h l)
 
   -- .. and all of them commute with a decoration
-  steps-commute : (y : X) → kind y ≢ 0 → Allowed y → (xs : List X) → All Stays xs → (s q : ℕ) (l : List A)
+  steps-commute : (y : X) → kind y ≢ 0 → Allowed y → (xs : List X) → All Left xs → (s q : ℕ) (l : List A)
       → stepsFrom σ s q xs (map (back y) l) ≡ finishBy (map (back y)) (stepsFrom σ s q xs l)
   unfolding stepsFrom
   steps-commute y e g [] h s q l = refl

@@ -50,7 +50,7 @@ module _ (n cap : ℕ) where
   two-cubes (turn v i j) e h = tt
   two-cubes (L v b) e h = absurd (omega arith)
 
-  -- what an L step is, by the test
+  -- an L step, by its kind
   by-L : (P : Step → Type 0) → ((v b : ℕ) → P (L v b)) → (x : Step) → isL x ≢ 0 → P x
   by-L P h (drop i j) e = absurd (e refl)
   by-L P h (join i j) e = absurd (e refl)
