@@ -1,0 +1,169 @@
+-- What is written of the steps that are kept, and the call by its tests: what each return answers and leaves, and what an accepted call is.
+-- Assumes nothing.
+use mathlib.Core.Path.{_≡_, refl, sym, ap, ap₂, _∙_}
+use mathlib.Core.Bool.{true}
+use mathlib.Core.List.{List, [], _∷_, map, map-append}
+use Prim.Native.Nat.{ℕ, zero, _+_, _*_, _≤_, _<_, zero-le}
+use native.Mathlib.Nat.{zero-add, mod-eq-of-lt}
+use native.Mathlib.Numerals.{add-one}
+use native.Mathlib.Omega.{arith}
+use lib.Dec.{leb}
+use lib.ListN.{length, getD, take, length-map, length-take}
+use lib.Seq.{take-suc}
+use borrow.Author.Tests.{le-leb, lt-leb, leb-true}
+use Rattle.bits.proofs.Sums.{all-each, map-each, map-map}
+use Rattle.records.specs.declared.Refusal.{Refusal}
+use Rattle.records.specs.Records.{listOf, stored, written}
+use Rattle.records.specs.Answers.{Outcome, accepted, refused, refusal, Accepts}
+use Rattle.records.proofs.Answers.{accepted-values, and-then, and-not, unless-passes, unless-fails, unless-accepted, both-accepted, call-refused, call-accepted}
+use Rattle.records.proofs.Records.{list-at, length-written, written-snoc}
+use Rattle.records.proofs.Widths.{number-lt}
+use Rattle.cube.specs.Lists.{mostVariables, mostRecords}
+use Rattle.steps.specs.declared.StepRecord.{StepRecord}
+use Rattle.script.specs.Scripts.{stepRecords, mostSteps, narrowStep, fits, recordOf, stepsOf}
+use Rattle.script.specs.Calls.{checkScript}
+use Rattle.script.proofs.Scripts.{AcceptedScript, script-accepts, record-meaning}
+use Rattle.compactor.specs.Compact.{compacted}
+use Rattle.compactor.specs.Calls.{compactOutcome, compactAfter}
+use Rattle.compactor.specs.Keeping.{Meant, stepAt, Kept, readStep, Compacting}
+use Rattle.compactor.proofs.Stack.{length-script, meaning-at, meant-at}
+
+-- ---- the loop over the steps that are kept
+
+-- t of them are written
+pub record Putting (b kept : List ℕ) (top : ℕ) (out₀ out : List ℕ) (t : ℕ) : Type 0 where
+  pub few : t ≤ top
+  pub long : length out ≡ length out₀
+  pub bytes : out ≡ written stepRecords 0 (map (readStep b) (take t kept)) out₀
+
+module _ (b kept : List ℕ) (top : ℕ) (out₀ : List ℕ) where
+  pub putting-none : Putting b kept top out₀ out₀ 0
+  unfolding written
+  putting-none = record { few = zero-le; long = refl; bytes = refl }
+
+  module _ (out : List ℕ) (t : ℕ) (p : Putting b kept top out₀ out t) where
+    pub putting-more : top ≤ length kept → t < top → (k : ℕ) → k ≡ getD kept t 0 → (x : StepRecord) → x ≡ getD (listOf stepRecords b) k (stepRecords .none)
+        → (out′ : List ℕ) → out′ ≡ stored stepRecords out t (narrowStep x) → Putting b kept top out₀ out′ (t + 1)
+    putting-more room h k ek x ex out′ eo =
+        let xs : List StepRecord = map (readStep b) (take t kept) in
+        let many : length xs ≡ t = length-map (take t kept) (readStep b) ∙ omega (arith, length-take t kept) in
+        let bytes : out′ ≡ written stepRecords 0 (map (readStep b) (take (t + 1) kept)) out₀
+        = eo
+        ∙ ap₂ (λ (c : List ℕ) (y : StepRecord). stored stepRecords c t (narrowStep y)) (p .bytes) (ex ∙ ap (λ (i : ℕ). getD (listOf stepRecords b) i (stepRecords .none)) ek)
+        ∙ ap (λ (i : ℕ). stored stepRecords (written stepRecords 0 xs out₀) i (readStep b (getD kept t 0))) (sym many ∙ sym (zero-add (length xs)))
+        ∙ sym (written-snoc stepRecords 0 xs (readStep b (getD kept t 0)) out₀)
+        ∙ ap (λ (l : List StepRecord). written stepRecords 0 l out₀) (sym (map-append (readStep b) (take t kept) (getD kept t 0 ∷ [])))
+        ∙ ap (λ (l : List ℕ). written stepRecords 0 (map (readStep b) l) out₀) (sym (ap (λ (i : ℕ). take i kept) (add-one t) ∙ take-suc kept t 0 (omega arith))) in
+        record { few = omega arith; long = ap length bytes ∙ length-written stepRecords 0 (map (readStep b) (take (t + 1) kept)) out₀; bytes = bytes }
+
+    pub putting-end : top ≤ t → out ≡ written stepRecords 0 (map (readStep b) (take top kept)) out₀
+    putting-end h = let z : t ≡ top = omega (arith, p .few) in p .bytes ∙ ap (λ (i : ℕ). written stepRecords 0 (map (readStep b) (take i kept)) out₀) z
+
+-- ---- a checked script
+
+module _ (n : ℕ) (b : List ℕ) (ok : Accepts (checkScript n b)) where
+  is : AcceptedScript n b
+  is = script-accepts n b (ok .values) (ok .is)
+
+  pub checked-meant : Meant b
+  unfolding Meant
+  checked-meant = all-each _ _ (record-meaning n) (listOf stepRecords b) (is .each)
+
+  pub checked-few : length (stepsOf b) ≤ mostSteps
+  checked-few = omega (arith, is .short, length-script b)
+
+  module _ (small : (i : ℕ) → getD b i 0 < 256) where
+    -- a record that was read has places of two bytes
+    narrow-read : (k : ℕ) → k < length (stepsOf b) → readStep b k ≡ recordOf (stepAt (stepsOf b) k)
+    narrow-read k h = narrow ∙ sym (meant-at b k checked-meant h) ∙ ap recordOf (meaning-at b k)
+      where
+        narrow : readStep b k ≡ getD (listOf stepRecords b) k (stepRecords .none)
+        narrow =
+            let at = list-at stepRecords b k (stepRecords .none) (omega (arith, length-script b)) in
+            ap narrowStep at
+            ∙ (λ j. let r : StepRecord = stepRecords .read b k in
+            record { op = r .op; v = r .v; i = mod-eq-of-lt (number-lt b small 2 (8 * k + 2)) j; j = mod-eq-of-lt (number-lt b small 2 (8 * k + 4)) j; literal = r .literal; zero = r .zero })
+            ∙ sym at
+
+    pub checked-compacting : (count : ℕ) (kept : List ℕ) (top : ℕ) → Kept count (stepsOf b) kept top → (out out′ : List ℕ)
+        → out′ ≡ written stepRecords 0 (map (readStep b) (take top kept)) out → Compacting count b out out′ top
+    checked-compacting count kept top p out out′ e = record {
+      many = sym (sym (ap length (p .left)) ∙ length-map (take top kept) (stepAt (stepsOf b)) ∙ omega (arith, length-take top kept, p .room));
+      bytes =
+          e
+          ∙ ap (λ (l : List StepRecord). written stepRecords 0 l out)
+          (map-each (λ k. k < length (stepsOf b)) (readStep b) (λ k. recordOf (stepAt (stepsOf b) k)) narrow-read (take top kept) (p .inside)
+          ∙ sym (map-map recordOf (stepAt (stepsOf b)) (take top kept)) ∙ ap (map recordOf) (p .left));
+    }
+
+-- ---- each return
+
+-- what is answered and left in the output
+abbrev pub Compacts : ℕ → ℕ → List ℕ → List ℕ → Outcome → List ℕ → Type 0
+Compacts n count script out o out′ = (o ≡ compactOutcome n count script (length out)) × (out′ ≡ compactAfter n count script out)
+
+module _ (n count : ℕ) (script out : List ℕ) where
+  -- refused, and nothing written
+  refuses : (r : Refusal) → compactOutcome n count script (length out) ≡ refused r → Compacts n count script out (refused r) out
+  unfolding compactAfter
+  refuses r e = call-refused _ _ out r e
+
+  pub many-variables : mostVariables < n → (r : Refusal) → r ≡ refusal 1 0 → Compacts n count script out (refused r) out
+  unfolding compactOutcome
+  many-variables h r er = refuses r (unless-fails _ 1 0 _ (lt-leb n mostVariables h) ∙ ap refused (sym er))
+
+  module _ (few : n ≤ mostVariables) where
+    passes-1 : leb n mostVariables ≡ true
+    passes-1 = le-leb n mostVariables few
+
+    pub many-products : mostRecords < count → (r : Refusal) → r ≡ refusal 3 0 → Compacts n count script out (refused r) out
+    unfolding compactOutcome
+    many-products h r er = refuses r (unless-passes _ 1 0 _ passes-1 ∙ unless-fails _ 3 0 _ (lt-leb count mostRecords h) ∙ ap refused (sym er))
+
+    module _ (short : count ≤ mostRecords) where
+      passes-3 : leb count mostRecords ≡ true
+      passes-3 = le-leb count mostRecords short
+
+      pub script-refused : (r : Refusal) → checkScript n script ≡ refused r → Compacts n count script out (refused r) out
+      unfolding compactOutcome
+      script-refused r e = refuses r (unless-passes _ 1 0 _ passes-1 ∙ unless-passes _ 3 0 _ passes-3 ∙ and-not _ _ r e)
+
+      module _ (ok : Accepts (checkScript n script)) where
+        pub output-short : length out < length script → (r : Refusal) → r ≡ refusal 5 0 → Compacts n count script out (refused r) out
+        unfolding compactOutcome
+        output-short h r er =
+            refuses r
+            (unless-passes _ 1 0 _ passes-1 ∙ unless-passes _ 3 0 _ passes-3 ∙ and-then _ _ _ (ok .is) ∙ unless-fails _ 5 0 _ (lt-leb (length script) (length out) h) ∙ ap refused (sym er))
+
+        pub all-compacted : length script ≤ length out → (r : ℕ) (out′ : List ℕ) → Compacting count script out out′ r → Compacts n count script out (accepted (r ∷ [])) out′
+        unfolding compactOutcome compactAfter
+        all-compacted h r out′ t =
+            call-accepted _ _ out (r ∷ []) out′
+            (unless-passes _ 1 0 _ passes-1 ∙ unless-passes _ 3 0 _ passes-3 ∙ and-then _ _ _ (ok .is) ∙ unless-passes _ 5 0 _ (le-leb (length script) (length out) h)
+            ∙ ap (λ (k : ℕ). accepted (k ∷ [])) (sym (t .many)))
+            (t .bytes)
+
+-- ---- an accepted call
+
+-- few variables, few products, a script that passes and room for it; the answer is the number of steps left
+pub record AcceptedCompact (n count : ℕ) (script : List ℕ) (room : ℕ) (v : List ℕ) : Type 0 where
+  pub few : n ≤ mostVariables
+  pub short : count ≤ mostRecords
+  pub passes : Accepts (checkScript n script)
+  pub fits : length script ≤ room
+  pub value : v ≡ length (compacted count (stepsOf script)) ∷ []
+
+pub compact-accepts : (n count : ℕ) (script : List ℕ) (room : ℕ) (v : List ℕ) → compactOutcome n count script room ≡ accepted v → AcceptedCompact n count script room v
+unfolding compactOutcome
+compact-accepts n count script room v e =
+    let a = unless-accepted (leb n mostVariables) 1 0 _ v e in
+    let b = unless-accepted (leb count mostRecords) 3 0 _ v (a .1) in
+    let c = both-accepted (checkScript n script) _ v (b .1) in
+    let d = unless-accepted (leb (length script) room) 5 0 _ v (c .second) in
+    record {
+      few = leb-true n mostVariables (a .0);
+      short = leb-true count mostRecords (b .0);
+      passes = record { values = c .values; is = c .first };
+      fits = leb-true (length script) room (d .0);
+      value = sym (accepted-values (d .1));
+    }

@@ -1,0 +1,44 @@
+-- `compact::compact_checked` meets its contract: the steps that are kept are those that are left.
+-- Assumes nothing.
+use native.Mathlib.Omega.{arith}
+use Rattle.compactor.proofs.Calls.{checked-meant, checked-few, checked-compacting}
+use borrow.Author.Needs.{needs}
+use Rattle.compactor.proofs.compact.compact_checked.Statement.{statement}
+use Rattle.compactor.proofs.compact.compact_checked.Tie as tie
+
+slice-aggregate-keep-steps : tie.Need-slice-aggregate-keep-steps
+slice-aggregate-keep-steps c = search needs
+
+keep-steps-requires : tie.Need-keep-steps-requires
+keep-steps-requires c κs =
+    let s = c .before .before .before in
+    let few = checked-few _ _ (s .pre .0) in
+    (checked-meant _ _ (s .pre .0), (few, few, s .pre .1))
+
+slice-aggregate-put-kept : tie.Need-slice-aggregate-put-kept
+slice-aggregate-put-kept c = search needs
+
+put-kept-requires : tie.Need-put-kept-requires
+put-kept-requires c κs = c .before .before .before .keep-steps .ensures .room
+
+same-length : tie.Need-same-length
+same-length c = search needs
+
+returns : tie.Need-returns
+returns c =
+    let p = c .before .before in
+    let k = p .before .before .before .before in
+    let known = k .before .before .before in
+    let s = known .before in
+    checked-compacting _ _ (s .pre .0) (λ i. omega (arith, known .shared-slice-known .given i)) _ _ _ (k .keep-steps .ensures) _ _ (p .put-kept .ensures)
+
+pub compact-checked-spec : {M : Type 1} → statement M
+compact-checked-spec =
+    tie.close
+    (tie.spec
+    slice-aggregate-keep-steps
+    keep-steps-requires
+    slice-aggregate-put-kept
+    put-kept-requires
+    same-length
+    returns)

@@ -1,0 +1,3 @@
+pub mod Compact
+pub mod Calls
+pub mod Keeping
