@@ -25,6 +25,8 @@ use Rattle.druthmoy.proofs.dm_run.Kinds as dm-run-kinds
 use Rattle.druthmoy.proofs.dm_run.Reads as dm-run-reads
 use Rattle.druthmoy.proofs.dm_write_script.Kinds as dm-write-script-kinds
 use Rattle.druthmoy.proofs.dm_write_script.Reads as dm-write-script-reads
+use Rattle.druthmoy.proofs.dm_compact.Kinds as dm-compact-kinds
+use Rattle.druthmoy.proofs.dm_compact.Reads as dm-compact-reads
 use Rattle.druthmoy.proofs.dm_settle.Kinds as dm-settle-kinds
 use Rattle.druthmoy.proofs.dm_settle.Reads as dm-settle-reads
 use Rattle.druthmoy.proofs.dm_wide_from_narrow.Kinds as dm-wide-from-narrow-kinds
@@ -66,6 +68,9 @@ dm-write-script-determined κs a z z′ ws ws′ p q = (
       (same (p .0) (q .0))
       (ap₂ (λ (b d : List ℕ). (b, d)) (same (p .1 .0) (q .1 .0)) (same (p .1 .1) (q .1 .1))),
 )
+
+pub dm-compact-determined : Determined 3 dm-compact-kinds.ps dm-compact-kinds.r dm-compact-reads.Learnt
+dm-compact-determined κs a z z′ ws ws′ p q = (refl, ap₂ (λ (w b : List ℕ). (tt, (tt, (tt, (b, (w, tt)))))) (same (p .0) (q .0)) (same (p .1) (q .1)))
 
 pub dm-settle-determined : Determined 5 dm-settle-kinds.ps dm-settle-kinds.r dm-settle-reads.Learnt
 dm-settle-determined κs a z z′ ws ws′ p q = (

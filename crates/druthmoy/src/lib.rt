@@ -10,6 +10,7 @@ ghost use Rattle.converters.specs.Calls.{wideOutcome, wideAfter, narrowOutcome,
 ghost use Rattle.polarity.specs.Calls.{coefficientsOutcome, coefficientsAfter, backAfter, formOutcome, formAfter, bestOutcome};
 ghost use Rattle.script.specs.Calls.{runOutcome, runAfter};
 ghost use Rattle.writer.specs.Calls.{writeOutcome, writeWork, writeSteps};
+ghost use Rattle.compactor.specs.Calls.{compactOutcome, compactAfter};
 ghost use Rattle.settling.specs.Calls.{settleOutcome, settleWork, settleOut};
 ghost use Rattle.druthmoy.specs.Faces.{words, settledWords};
 
@@ -133,6 +134,22 @@ pub extern "C" fn dm_write_script(
 {
     let wrote = writer::write::write_script(n as usize, list, work, script);
     answers::put_wrote(answer, wrote);
+}
+
+// Compacts a script, for lists of so many products. Values: the number of steps left.
+#[no_mangle]
+pub extern "C" fn dm_compact(
+    n: u64,
+    count: u64,
+    script: &[u8],
+    out: &mut [u8],
+    answer: &mut [u64; 8],
+)
+    ensures { λ _. ⌜ now (answer .exit) ≡ words (compactOutcome n count (now (script .entry)) (length (now (out .entry)))) ⌝ }
+    ensures { λ _. ⌜ now (out .exit) ≡ compactAfter n count (now (script .entry)) (now (out .entry)) ⌝ }
+{
+    let counted = compactor::compact::compact(n as usize, count as usize, script, out);
+    answers::put_counted(answer, counted);
 }
 
 // Settles a map. Values: given, peak, the script's count, the best polarity and its size (both all ones above 8 variables), burned.

@@ -34,6 +34,8 @@ use Rattle.script.proofs.run.run.Kinds as run-kinds
 use Rattle.script.proofs.run.run.Reads as run-reads
 use Rattle.writer.proofs.write.write_script.Kinds as write-script-kinds
 use Rattle.writer.proofs.write.write_script.Reads as write-script-reads
+use Rattle.compactor.proofs.compact.compact.Kinds as compact-kinds
+use Rattle.compactor.proofs.compact.compact.Reads as compact-reads
 use Rattle.settling.proofs.settle.settle.Kinds as settle-kinds
 use Rattle.settling.proofs.settle.settle.Reads as settle-reads
 use Rattle.druthmoy.proofs.dm_check.Kinds as dm-check-kinds
@@ -56,13 +58,15 @@ use Rattle.druthmoy.proofs.dm_run.Kinds as dm-run-kinds
 use Rattle.druthmoy.proofs.dm_run.Reads as dm-run-reads
 use Rattle.druthmoy.proofs.dm_write_script.Kinds as dm-write-script-kinds
 use Rattle.druthmoy.proofs.dm_write_script.Reads as dm-write-script-reads
+use Rattle.druthmoy.proofs.dm_compact.Kinds as dm-compact-kinds
+use Rattle.druthmoy.proofs.dm_compact.Reads as dm-compact-reads
 use Rattle.druthmoy.proofs.dm_settle.Kinds as dm-settle-kinds
 use Rattle.druthmoy.proofs.dm_settle.Reads as dm-settle-reads
 use Rattle.druthmoy.proofs.dm_wide_from_narrow.Kinds as dm-wide-from-narrow-kinds
 use Rattle.druthmoy.proofs.dm_wide_from_narrow.Reads as dm-wide-from-narrow-reads
 use Rattle.druthmoy.proofs.dm_narrow_from_wide.Kinds as dm-narrow-from-wide-kinds
 use Rattle.druthmoy.proofs.dm_narrow_from_wide.Reads as dm-narrow-from-wide-reads
-use Rattle.promises.specs.Calls.{Call, check, value, reasons, truthVector, coefficients, vectorBack, writeForm, bestPolarity, run, writeScript, settle, wideFromNarrow, narrowFromWide, answers, leaves, wordsOf, Faced}
+use Rattle.promises.specs.Calls.{Call, check, value, reasons, truthVector, coefficients, vectorBack, writeForm, bestPolarity, run, writeScript, compact, settle, wideFromNarrow, narrowFromWide, answers, leaves, wordsOf, Faced}
 use Rattle.promises.specs.Contracts.{IsCalled, IsFaced}
 
 -- ---- from Rattle
@@ -126,6 +130,11 @@ pub write-script-called : IsCalled 3 write-script-kinds.ps write-script-kinds.r 
     (λ κs a ws. ws .1 .1 .0 ∷ ws .1 .1 .1 .0 ∷ []) (λ κs z. wrote z)
 unfolding answers leaves
 write-script-called κs a z ws p = record { answer = p .0; left = ap₂ (λ (b d : List ℕ). b ∷ d ∷ []) (p .1 .0) (p .1 .1) }
+
+pub compact-called : IsCalled 2 compact-kinds.ps compact-kinds.r compact-reads.Learnt (λ κs a. compact (a .0) (a .1 .0) (a .1 .1 .0 .now) (a .1 .1 .1 .0 .now))
+    (λ κs a ws. ws .1 .1 .1 .0 ∷ []) (λ κs z. counted z)
+unfolding answers leaves
+compact-called κs a z ws p = record { answer = p .0; left = ap (λ (b : List ℕ). b ∷ []) (p .1) }
 
 pub settle-called : IsCalled 4 settle-kinds.ps settle-kinds.r settle-reads.Learnt
     (λ κs a. settle (a .0) (a .1 .0 .now) (a .1 .1 .0 .now) (a .1 .1 .1 .0 .now) (a .1 .1 .1 .1 .0 .now))
@@ -210,6 +219,11 @@ pub dm-write-script-faced : IsFaced 4 dm-write-script-kinds.ps dm-write-script-k
     (λ κs a ws. ws .1 .1 .0 ∷ ws .1 .1 .1 .0 ∷ []) (λ κs a ws. ws .1 .1 .1 .1 .0)
 unfolding answers leaves wordsOf
 dm-write-script-faced κs a z ws p = faced _ _ _ (p .0) (ap₂ (λ (b d : List ℕ). b ∷ d ∷ []) (p .1 .0) (p .1 .1))
+
+pub dm-compact-faced : IsFaced 3 dm-compact-kinds.ps dm-compact-kinds.r dm-compact-reads.Learnt (λ κs a. compact (a .0) (a .1 .0) (a .1 .1 .0 .now) (a .1 .1 .1 .0 .now))
+    (λ κs a ws. ws .1 .1 .1 .0 ∷ []) (λ κs a ws. ws .1 .1 .1 .1 .0)
+unfolding answers leaves wordsOf
+dm-compact-faced κs a z ws p = faced _ _ _ (p .0) (ap (λ (b : List ℕ). b ∷ []) (p .1))
 
 pub dm-settle-faced : IsFaced 5 dm-settle-kinds.ps dm-settle-kinds.r dm-settle-reads.Learnt
     (λ κs a. settle (a .0) (a .1 .0 .now) (a .1 .1 .0 .now) (a .1 .1 .1 .0 .now) (a .1 .1 .1 .1 .0 .now))

@@ -24,7 +24,7 @@ use Rattle.script.specs.Scripts.{stepsOf}
 use Rattle.script.specs.Calls.{runOf, atStep, ofStep, ranOutcome, ranWork}
 use Rattle.script.proofs.Refusals.{stopped-steps, refused-stops}
 use Rattle.settling.specs.Calls.{ranSettled, ranBurned}
-use Rattle.promises.specs.Calls.{Call, check, value, reasons, truthVector, coefficients, vectorBack, writeForm, bestPolarity, run, writeScript, settle, wideFromNarrow, narrowFromWide, answers, lent, leaves, Called}
+use Rattle.promises.specs.Calls.{Call, check, value, reasons, truthVector, coefficients, vectorBack, writeForm, bestPolarity, run, writeScript, compact, settle, wideFromNarrow, narrowFromWide, answers, lent, leaves, Called}
 use Rattle.promises.specs.Refusals.{NoneWrong, FirstWrong, faults, beforeSteps, RefusedBefore, StepStops, Stopped, RefusedAtStep, in-run, in-settle}
 use Rattle.promises.specs.Accepted.{goesOn, goesOnLeaving, ScriptStops, run-stops, settle-stops, ScriptEnds}
 use Rattle.promises.proofs.Chains.{first-only, first-number, not-none}
@@ -59,6 +59,7 @@ at-step (vectorBack n vector p out) r buffers none e f = absurd (not-both e)
 at-step (writeForm n vector p out) r buffers none e f = absurd (not-both e)
 at-step (bestPolarity n vector) r buffers none e f = absurd (not-both e)
 at-step (writeScript n list work script) r buffers none e f = absurd (not-both e)
+at-step (compact n count script out) r buffers none e f = absurd (not-both e)
 at-step (wideFromNarrow n list out) r buffers none e f = absurd (not-both e)
 at-step (narrowFromWide n list out) r buffers none e f = absurd (not-both e)
 at-step (run n list script work) r buffers none e f = go (runOf n list script (length work)) refl e f
@@ -111,6 +112,7 @@ accepts (writeForm n vector p out) s = (_, refl)
 accepts (bestPolarity n vector) s = (_, refl)
 accepts (run n list script work) s = (_, ap ranOutcome (s .is))
 accepts (writeScript n list work script) s = (_, refl)
+accepts (compact n count script out) s = (_, refl)
 accepts (settle n list script work out) s = (_, ap (ranSettled n (cubesOf list)) (s .is))
 accepts (wideFromNarrow n list out) s = (_, refl)
 accepts (narrowFromWide n list out) s = (_, refl)

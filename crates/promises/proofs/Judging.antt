@@ -25,8 +25,9 @@ use Rattle.polarity.specs.Calls.{coefficientsOutcome, coefficientsAfter, backAf
 use Rattle.script.specs.Scripts.{stepRecords, stepWidth, mostSteps, fits}
 use Rattle.script.specs.Calls.{checkScript, checkRun, runOf, runOutcome, workAfter, runAfter}
 use Rattle.writer.specs.Calls.{writeOutcome, writeWork, writeSteps}
+use Rattle.compactor.specs.Calls.{compactOutcome, compactAfter}
 use Rattle.settling.specs.Calls.{checkSettle, settleOutcome, settleWorkBy, settleWork, settleOutBy, settleOut}
-use Rattle.promises.specs.Calls.{Call, check, value, reasons, truthVector, coefficients, vectorBack, writeForm, bestPolarity, run, writeScript, settle, wideFromNarrow, narrowFromWide, answers, lent, leaves}
+use Rattle.promises.specs.Calls.{Call, check, value, reasons, truthVector, coefficients, vectorBack, writeForm, bestPolarity, run, writeScript, compact, settle, wideFromNarrow, narrowFromWide, answers, lent, leaves}
 use Rattle.promises.specs.Refusals.{Fault, at, NoneWrong, FirstWrong, recordFaults, listFaults, atFaults, scriptFaults, vectorFaults, faults}
 use Rattle.promises.specs.Accepted.{goesOn, goesOnLeaving}
 use Rattle.promises.proofs.Chains.{Judged, judge-end, judge-unless, judge-lowest, judge-and}
@@ -110,7 +111,7 @@ one-buffer : {b d : List ℕ} → b ≡ d → b ∷ [] ≡ d ∷ []
 one-buffer e = ap (λ (x : List ℕ). x ∷ []) e
 
 pub judged : (c : Call) → Outcomes c
-unfolding answers lent leaves faults goesOn goesOnLeaving valueOutcome reasonsOutcome reasonsAfter vectorOutcome vectorAfter coefficientsOutcome coefficientsAfter backAfter formOutcome formAfter bestOutcome runOutcome runAfter checkRun writeOutcome writeWork writeSteps checkSettle settleOutcome settleWork settleOut wideOutcome wideAfter narrowOutcome narrowAfter
+unfolding answers lent leaves faults goesOn goesOnLeaving valueOutcome reasonsOutcome reasonsAfter vectorOutcome vectorAfter coefficientsOutcome coefficientsAfter backAfter formOutcome formAfter bestOutcome runOutcome runAfter checkRun writeOutcome writeWork writeSteps compactOutcome compactAfter checkSettle settleOutcome settleWork settleOut wideOutcome wideAfter narrowOutcome narrowAfter
 judged (check n list) = by-tests (check n list) (checkList mostVariables n list) _ (by-list cubes mostVariables n list) (λ r e. (e, refl)) (λ e. (e, refl))
 judged (value n list a) =
     by-tests (value n list a) (checkAt n list a) _ (by-at n list a) (λ r e. (and-not _ _ r e, refl)) (λ e. (and-then _ _ _ e, refl))
@@ -147,6 +148,14 @@ judged (writeScript n list work script) =
     (unless-le (unless-le (judge-end _) (stepWidth * min (length (cubesOf list)) mostSteps) (length script) 5 0) (length (cubesOf list)) (cubeCapacity (length work)) 5 0))
     (λ r e. (e, ap₂ (λ (b d : List ℕ). b ∷ d ∷ []) (after-refused _ _ work r e) (after-refused _ _ script r e)))
     (λ e. (e, ap₂ (λ (b d : List ℕ). b ∷ d ∷ []) (after-accepted _ _ work _ e) (after-accepted _ _ script _ e)))
+judged (compact n count script out) =
+    by-tests (compact n count script out) (compactOutcome n count script (length out)) _
+    (unless-le
+    (unless-le
+    (judge-and (scriptFaults n script) _ (checkScript n script) _ _ _ (by-script n script) (unless-le (judge-end _) (length script) (length out) 5 0))
+    count mostRecords 3 0)
+    n mostVariables 1 0)
+    (λ r e. (e, one-buffer (after-refused _ _ out r e))) (λ e. (e, one-buffer (after-accepted _ _ out _ e)))
 judged (settle n list script work out) =
     by-tests (settle n list script work out) (checkSettle n list script (length work) (length out)) _
     (after-list cubes mostVariables n list _ _ _

@@ -1,7 +1,7 @@
 -- What each call answers and leaves where nothing before the first step is wrong. Document 01, "Refusal numbers and places": "Accepted, a check answers
 -- the record count; value, the bit; truth vector and coefficients, either way, 2^n; writing a form, its count; best polarity, p and the size; run, count
 -- and peak; settle, the counts that the program prints." With document 02, One: value answers "the number of true products" too, and reasons "their number and the
--- bit"; Three: the writer "answers the number of steps and which". The converters answer the count.
+-- bit"; Three: the writer "answers the number of steps and which"; Eleven: the compactor "answers the steps left". The converters answer the count.
 -- Assumes nothing.
 use mathlib.Core.Path.{_≡_}
 use mathlib.Core.List.{List, [], _∷_, _++_, map}
@@ -18,9 +18,10 @@ use Rattle.converters.specs.NarrowRecord.{narrowCubes, narrowCubesOf}
 use Rattle.polarity.specs.Forms.{formFrom, size, bestPolarity}
 use Rattle.polarity.specs.Vectors.{byteAt, coefficientVector, vectorBack}
 use Rattle.script.specs.Run.{ended}
-use Rattle.script.specs.Scripts.{stepRecords, mostSteps, recordOf}
+use Rattle.script.specs.Scripts.{stepRecords, mostSteps, recordOf, stepsOf}
 use Rattle.script.specs.Calls.{runOf, ranOutcome, ranWork}
 use Rattle.writer.specs.Easy.{easySteps, easyEnd, easyFinished}
+use Rattle.compactor.specs.Compact.{compacted}
 use Rattle.settling.specs.Calls.{ranSettled, ranBurned}
 use Rattle.steps.specs.declared.StepRefusal.{StepRefusal}
 use Rattle.promises.specs.Calls.{Call}
@@ -39,6 +40,7 @@ goesOn (call.bestPolarity n vector) = accepted (bestPolarity n (byteAt vector) �
 goesOn (call.run n list script work) = ranOutcome (runOf n list script (length work))
 goesOn (call.writeScript n list work script) =
     accepted (length (easySteps n mostSteps (cubesOf list)) ∷ oneIf (easyFinished n mostSteps (cubesOf list)) ∷ [])
+goesOn (call.compact n count script out) = accepted (length (compacted count (stepsOf script)) ∷ [])
 goesOn (call.settle n list script work out) = ranSettled n (cubesOf list) (runOf n list script (length work))
 goesOn (call.wideFromNarrow n list out) = accepted (length (narrowCubesOf list) ∷ [])
 goesOn (call.narrowFromWide n list out) = accepted (length (cubesOf list) ∷ [])
@@ -56,6 +58,7 @@ goesOnLeaving (call.bestPolarity n vector) = []
 goesOnLeaving (call.run n list script work) = ranWork (length work) (runOf n list script (length work)) ∷ []
 goesOnLeaving (call.writeScript n list work script) =
     image cubes (length work) (easyEnd n mostSteps (cubesOf list)) ∷ written stepRecords 0 (map recordOf (easySteps n mostSteps (cubesOf list))) script ∷ []
+goesOnLeaving (call.compact n count script out) = written stepRecords 0 (map recordOf (compacted count (stepsOf script))) out ∷ []
 goesOnLeaving (call.settle n list script work out) = zeros (length work) ∷ ranBurned n (cubesOf list) (runOf n list script (length work)) out ∷ []
 goesOnLeaving (call.wideFromNarrow n list out) = written cubes 0 (narrowCubesOf list) out ∷ []
 goesOnLeaving (call.narrowFromWide n list out) = written narrowCubes 0 (cubesOf list) out ∷ []
@@ -83,6 +86,7 @@ ScriptEnds (call.writeForm n vector p out) = Unit {0}
 ScriptEnds (call.bestPolarity n vector) = Unit {0}
 ScriptEnds (call.run n list script work) = EndOfScript n list script work
 ScriptEnds (call.writeScript n list work script) = Unit {0}
+ScriptEnds (call.compact n count script out) = Unit {0}
 ScriptEnds (call.settle n list script work out) = EndOfScript n list script work
 ScriptEnds (call.wideFromNarrow n list out) = Unit {0}
 ScriptEnds (call.narrowFromWide n list out) = Unit {0}

@@ -12,6 +12,7 @@ use Rattle.converters.specs.Calls.{wideOutcome, wideAfter, narrowOutcome, narro
 use Rattle.polarity.specs.Calls.{coefficientsOutcome, coefficientsAfter, backAfter, formOutcome, formAfter, bestOutcome}
 use Rattle.script.specs.Calls.{runOutcome, runAfter}
 use Rattle.writer.specs.Calls.{writeOutcome, writeWork, writeSteps}
+use Rattle.compactor.specs.Calls.{compactOutcome, compactAfter}
 use Rattle.settling.specs.Calls.{settleOutcome, settleWork, settleOut}
 use Rattle.druthmoy.specs.Faces.{words, settledWords}
 
@@ -36,6 +37,8 @@ pub data Call : Type 0 where
   run : ℕ → List ℕ → List ℕ → List ℕ → Call
   -- "Add a writer of scripts" (document 02, Three): n, the list, work, the script buffer
   writeScript : ℕ → List ℕ → List ℕ → List ℕ → Call
+  -- "Add a compactor" (document 02, Eleven): n, the count, the script, out
+  compact : ℕ → ℕ → List ℕ → List ℕ → Call
   -- "Settle": n, the list, the script, work, out
   settle : ℕ → List ℕ → List ℕ → List ℕ → List ℕ → Call
   -- "wide from narrow" and "narrow from wide" (document 02, Seven): n, the list, out
@@ -54,6 +57,7 @@ answers (writeForm n vector p out) = formOutcome n vector p (length out)
 answers (bestPolarity n vector) = bestOutcome n vector
 answers (run n list script work) = runOutcome n list script (length work)
 answers (writeScript n list work script) = writeOutcome n list (length work) (length script)
+answers (compact n count script out) = compactOutcome n count script (length out)
 answers (settle n list script work out) = settleOutcome n list script (length work) (length out)
 answers (wideFromNarrow n list out) = wideOutcome n list (length out)
 answers (narrowFromWide n list out) = narrowOutcome n list (length out)
@@ -70,6 +74,7 @@ lent (writeForm n vector p out) = out ∷ []
 lent (bestPolarity n vector) = []
 lent (run n list script work) = work ∷ []
 lent (writeScript n list work script) = work ∷ script ∷ []
+lent (compact n count script out) = out ∷ []
 lent (settle n list script work out) = work ∷ out ∷ []
 lent (wideFromNarrow n list out) = out ∷ []
 lent (narrowFromWide n list out) = out ∷ []
@@ -86,6 +91,7 @@ leaves (writeForm n vector p out) = formAfter n vector p out ∷ []
 leaves (bestPolarity n vector) = []
 leaves (run n list script work) = runAfter n list script work ∷ []
 leaves (writeScript n list work script) = writeWork n list work (length script) ∷ writeSteps n list (length work) script ∷ []
+leaves (compact n count script out) = compactAfter n count script out ∷ []
 leaves (settle n list script work out) = settleWork n list script work (length out) ∷ settleOut n list script (length work) out ∷ []
 leaves (wideFromNarrow n list out) = wideAfter n list out ∷ []
 leaves (narrowFromWide n list out) = narrowAfter n list out ∷ []
@@ -107,6 +113,7 @@ wordsOf (writeForm n vector p out) o = words o
 wordsOf (bestPolarity n vector) o = words o
 wordsOf (run n list script work) o = words o
 wordsOf (writeScript n list work script) o = words o
+wordsOf (compact n count script out) o = words o
 wordsOf (settle n list script work out) o = settledWords o
 wordsOf (wideFromNarrow n list out) o = words o
 wordsOf (narrowFromWide n list out) o = words o

@@ -24,7 +24,7 @@ use Rattle.steps.specs.Effects.{StepRefused, byStep, thirdAnswer}
 use Rattle.script.specs.Run.{Refused}
 use Rattle.script.specs.Scripts.{stepRecords, stepWidth, mostSteps, fits, stepsOf}
 use Rattle.script.specs.Calls.{ofStep}
-use Rattle.promises.specs.Calls.{Call, check, value, reasons, truthVector, coefficients, vectorBack, writeForm, bestPolarity, run, writeScript, settle, wideFromNarrow, narrowFromWide, lent}
+use Rattle.promises.specs.Calls.{Call, check, value, reasons, truthVector, coefficients, vectorBack, writeForm, bestPolarity, run, writeScript, compact, settle, wideFromNarrow, narrowFromWide, lent}
 
 -- ---- a fault
 
@@ -118,6 +118,9 @@ faults (writeScript n list work script) =
     ++ (at 5 0 (cubeCapacity (length work) < length (cubesOf list))
     ∷ at 5 0 (length script < stepWidth * min (length (cubesOf list)) mostSteps)
     ∷ [])
+-- "1, 3 for a count above 4,096, 7, 8, 9, then 5 for an output shorter than the script" (document 02, Eleven)
+faults (compact n count script out) =
+    at 1 0 (mostVariables < n) ∷ at 3 0 (mostRecords < count) ∷ (scriptFaults n script ++ (at 5 0 (length out < length script) ∷ []))
 -- "Settle: the same; 5 tests work, then output, against the given count"
 faults (settle n list script work out) =
     listFaults cubes mostVariables n list
