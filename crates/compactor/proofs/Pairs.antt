@@ -5,8 +5,8 @@ use mathlib.Core.Bool.{Bool, true, false, cond, false≢true}
 use Prim.Native.Nat.{ℕ, zero, suc, _+_, _-_, _≤_, _<_}
 use native.Mathlib.Omega.{arith}
 use lib.Dec.{ltb}
-use borrow.Author.Tests.{eqb-true, lt-ltb, le-ltb}
-use Rattle.bits.proofs.Bools.{both-true}
+use borrow.Author.Tests.{eqb-true, eq-eqb, lt-ltb, le-ltb}
+use Rattle.bits.proofs.Bools.{both-true, true-both}
 use Rattle.steps.specs.declared.StepRecord.{StepRecord}
 use Rattle.steps.specs.Steps.{Step, drop, join, split, turn, L, meaning, meaningBy}
 use Rattle.script.specs.Scripts.{recordOf}
@@ -33,7 +33,15 @@ equal-same r s e =
       zero = eqb-true (r .zero) (s .zero) (f .1) k;
     }
 
-pub same-step : (x y : Step) → equalSteps x y ≡ true → x ≡ y
+equal-self : (r : StepRecord) → equalRecords r r ≡ true
+unfolding equalRecords
+equal-self r =
+    true-both (eq-eqb (r .op) (r .op) refl)
+    (true-both (eq-eqb (r .v) (r .v) refl)
+    (true-both (eq-eqb (r .i) (r .i) refl)
+    (true-both (eq-eqb (r .j) (r .j) refl) (true-both (eq-eqb (r .literal) (r .literal) refl) (eq-eqb (r .zero) (r .zero) refl)))))
+
+same-step : (x y : Step) → equalSteps x y ≡ true → x ≡ y
 same-step x y e = sym (meaning-record x) ∙ ap meaning (equal-same (recordOf x) (recordOf y) e) ∙ meaning-record y
 
 -- ---- the three kinds
@@ -50,6 +58,12 @@ pair-kind count (join i j) y e = absurd (false≢true e)
 pair-kind count (split v i) y e = subst (Pair count (split v i)) (same-step (join i count) y e) split-and-join
 pair-kind count (turn v i j) y e = subst (Pair count (turn v i j)) (same-step (turn v i j) y e) two-turns
 pair-kind count (L v b) y e = subst (Pair count (L v b)) (same-step (L v b) y e) two-L
+
+pub kind-pair : (count : ℕ) {x y : Step} → Pair count x y → stepPair count x y ≡ true
+unfolding stepPair
+kind-pair count two-L = equal-self _
+kind-pair count two-turns = equal-self _
+kind-pair count split-and-join = equal-self _
 
 -- a pair leaves the count as it was
 pub pair-count : (count : ℕ) (x y : Step) → stepPair count x y ≡ true → countAfter (countAfter count x) y ≡ count

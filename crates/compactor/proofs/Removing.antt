@@ -130,6 +130,11 @@ module _ {A : Type 0} where
   all-subsequence P (Sublistᴰ·cons s) h = all-subsequence P s (h .1)
   all-subsequence P (Sublistᴰ·cons-cons e s) h = (subst P (sym e) (h .0), all-subsequence P s (h .1))
 
+  pub length-subsequence : {ys xs : List A} → Sublistᴰ ys xs → length ys ≤ length xs
+  length-subsequence Sublistᴰ·slnil = omega arith
+  length-subsequence (Sublistᴰ·cons s) = omega (arith, length-subsequence s)
+  length-subsequence (Sublistᴰ·cons-cons e s) = omega (arith, length-subsequence s)
+
   pub map-subsequence : {B : Type 0} (f : A → B) {ys xs : List A} → Sublistᴰ ys xs → Sublistᴰ (map f ys) (map f xs)
   map-subsequence f Sublistᴰ·slnil = Sublistᴰ·slnil
   map-subsequence f (Sublistᴰ·cons s) = Sublistᴰ·cons (map-subsequence f s)

@@ -25,14 +25,14 @@ use Rattle.script.specs.Run.{Ran, ended}
 use Rattle.script.specs.Run as running
 use Rattle.script.specs.Scripts.{stepRecords, stepWidth, mostSteps, recordOf, stepsOf}
 use Rattle.script.specs.Calls.{checkScript, checkRun, runOf, ranOutcome, runOutcome, workAfter, runAfter}
-use Rattle.script.proofs.Scripts.{scriptBytes, script-read}
+use Rattle.script.proofs.Scripts.{scriptBytes, script-read, steps-front, steps-rest}
 use Rattle.script.proofs.Value.{run-value}
 use Rattle.writer.specs.Pairs.{partner, lowest, hasPair, IsPair, First}
 use Rattle.writer.specs.Easy.{easyStep, easyNext, easySteps, easyFinished}
 use Rattle.writer.specs.Calls.{writeWork, writeSteps}
 use Rattle.writer.proofs.Pairs as pairs
 use Rattle.writer.proofs.Easy.{easy-accepted, easy-fewer, easy-count, easy-fit, easy-run, easy-short}
-use Rattle.writer.proofs.Replaying.{easy-passes, easy-replays, easy-front, easy-rest, easy-lists}
+use Rattle.writer.proofs.Replaying.{easy-passes, easy-replays, easy-room, easy-lists}
 use Rattle.writer.proofs.Calls.{AcceptedWrite, write-accepts}
 use Rattle.settling.specs.declared.Settled.the-variants as settled-is
 use Rattle.settling.specs.declared.Settlement.{Settlement}
@@ -85,8 +85,11 @@ module _ (n : ℕ) (list work script : List ℕ) (steps which : ℕ) (work′ sc
   unfolding answers leaves writeSteps
   script-is = out-of (called .left) ∙ after-accepted _ _ script _ (sym (called .answer))
 
+  room : stepWidth * length (easySteps n mostSteps (cubesOf list)) ≤ length script
+  room = easy-room n (cubesOf list) (length script) (taken .room)
+
   bytes : writtenIn steps script′ ≡ scriptBytes (easySteps n mostSteps (cubesOf list))
-  bytes = (λ i. writtenIn (all i) (script-is i)) ∙ easy-front n (cubesOf list) script (taken .room)
+  bytes = (λ i. writtenIn (all i) (script-is i)) ∙ steps-front (easySteps n mostSteps (cubesOf list)) script room
 
   -- The steps stand at the front of the script buffer, ..
   pub written-steps : stepsOf (writtenIn steps script′) ≡ easySteps n mostSteps (cubesOf list)
@@ -95,7 +98,7 @@ module _ (n : ℕ) (list work script : List ℕ) (steps which : ℕ) (work′ sc
   -- .. and every byte after them is as it was.
   pub script-no-more : drop (stepWidth * steps) script′ ≡ drop (stepWidth * steps) script
   script-no-more =
-      (λ i. drop (stepWidth * all i) (script-is i)) ∙ easy-rest n (cubesOf list) script (taken .room) ∙ ap (λ (k : ℕ). drop (stepWidth * k) script) (sym all)
+      (λ i. drop (stepWidth * all i) (script-is i)) ∙ steps-rest (easySteps n mostSteps (cubesOf list)) script room ∙ ap (λ (k : ℕ). drop (stepWidth * k) script) (sym all)
 
   -- There are at most 1,024 steps, and each takes at least one product away: so much for all of them, ..
   pub steps-most : (steps ≤ mostSteps) × (steps + length (endList n list) ≤ length (cubesOf list))

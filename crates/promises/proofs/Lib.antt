@@ -11,6 +11,9 @@ pub mod Converters
 pub mod Reasons
 pub mod EasyScript
 pub mod NotWrong
+pub mod OtherScript
+pub mod Shortening
+pub mod ShortScript
 pub mod TakingOut
 pub mod PlainSteps
 pub mod DemandTwoCalls

@@ -32,9 +32,11 @@ use Rattle.script.proofs.PlainSteps as plain
 use Rattle.script.proofs.Without.{all-without, without-at}
 use Rattle.promises.specs.Calls.{Call, run, answers, leaves, Called}
 use Rattle.promises.specs.Refusals.{NoneWrong, scriptFaults, faults, RefusedBefore, RefusedAtStep}
-use Rattle.promises.specs.PlainSteps.{NoSplit, TakenOut, of-run, atCorresponding, noLiteral, complementedLiteral, plainLiteral, splitScript, splitAndDrop}
+use Rattle.promises.specs.OtherScript.{of-run}
+use Rattle.promises.specs.PlainSteps.{NoSplit, TakenOut, atCorresponding, noLiteral, complementedLiteral, plainLiteral, splitScript, splitAndDrop}
 use Rattle.promises.proofs.Chains.{not-none}
-use Rattle.promises.proofs.TakingOut.{passes, fine-script, fine-without, outcomeAt, goes-same, refused-at}
+use Rattle.promises.proofs.OtherScript.{fine-script, fine-other}
+use Rattle.promises.proofs.TakingOut.{passes, shorter, outcomeAt, goes-same, refused-at}
 use Rattle.promises.proofs.DemandOne.{refused-call, accepted-not-wrong, not-wrong-goes-on}
 
 -- ---- the script without its L steps
@@ -55,7 +57,7 @@ module _ (script : List ℕ) where
   shorter-passes n fine = passes n script fine
 
   pub shorter-fine : (n : ℕ) → NoneWrong (scriptFaults n script) → NoneWrong (scriptFaults n (withoutL script))
-  shorter-fine n fine = fine-script n script fine
+  shorter-fine n fine = shorter n script fine
 
   -- Each step that is not an L step is there at the step that corresponds; ..
   pub same-step : (s : ℕ) → s < length (stepsOf script) → isL (getD (stepsOf script) s (drop 0 0)) ≡ 0
@@ -74,16 +76,16 @@ module _ (script : List ℕ) where
 -- ---- a call, and the same without its L steps
 
 -- For every list and script that pass 1 to 9, and that script has no split; c′ is c without its L steps.
-module _ (script : List ℕ) (c c′ : Call) (taken : TakenOut script c c′) (fine : NoneWrong (faults c)) (none : NoSplit script) where
+module _ (n : ℕ) (list script : List ℕ) (c c′ : Call) (taken : TakenOut n list script c c′) (fine : NoneWrong (faults c)) (none : NoSplit script) where
   -- Nothing before the first step is wrong of the call without them either.
   pub nothing-wrong : NoneWrong (faults c′)
-  nothing-wrong = fine-without taken fine
+  nothing-wrong = fine-other taken fine (shorter-fine script n (fine-script taken fine))
 
   -- Both calls were made.
-  module _ (o o′ : Outcome) (buffers buffers′ : List (List ℕ)) (given : Called c o buffers) (shorter : Called c′ o′ buffers′) where
+  module _ (o o′ : Outcome) (buffers buffers′ : List (List ℕ)) (given : Called c o buffers) (short : Called c′ o′ buffers′) where
     same : o′ ≡ outcomeAt script o
     same =
-        not-wrong-goes-on c′ o′ buffers′ shorter nothing-wrong .0 ∙ goes-same taken fine none .0
+        not-wrong-goes-on c′ o′ buffers′ short nothing-wrong .0 ∙ goes-same taken fine none .0
         ∙ ap (outcomeAt script) (sym (not-wrong-goes-on c o buffers given fine .0))
 
     -- It is refused exactly when the first one was: with the same number and the same third answer, at the step that corresponds; ..
@@ -130,7 +132,7 @@ module _ (script : List ℕ) (c c′ : Call) (taken : TakenOut script c c′) (f
     -- .. and leave the same bytes in every buffer, refused or not.
     pub same-bytes : buffers′ ≡ buffers
     same-bytes =
-        not-wrong-goes-on c′ o′ buffers′ shorter nothing-wrong .1 ∙ goes-same taken fine none .1 ∙ sym (not-wrong-goes-on c o buffers given fine .1)
+        not-wrong-goes-on c′ o′ buffers′ short nothing-wrong .1 ∙ goes-same taken fine none .1 ∙ sym (not-wrong-goes-on c o buffers given fine .1)
 
 -- ---- "With splits it isn't claimed": two calls of run over 1 variable, each with its script and then without the script's L step
 
@@ -149,15 +151,16 @@ unfolding answers leaves runOutcome runAfter checkRun checkListOf checkScript fi
 split-refused = (record { answer = refl; left = refl }, record { answer = refl; left = refl })
 
 -- So the premise is needed: without it neither the bytes are always the same, nor is always accepted what was.
-pub bytes-need-no-split : ((script : List ℕ) (c c′ : Call) → TakenOut script c c′ → NoneWrong (faults c) → leaves c′ ≡ leaves c) → ⊥
+pub bytes-need-no-split : ((n : ℕ) (list script : List ℕ) (c c′ : Call) → TakenOut n list script c c′ → NoneWrong (faults c) → leaves c′ ≡ leaves c) → ⊥
 bytes-need-no-split claim =
     let p = split-placed in
-    let e = p .1 .left ∙ claim splitScript _ _ (of-run 1 noLiteral (replicate 16 7) (replicate 16 7) refl) (accepted-not-wrong _ _ _ (p .0) _ refl) ∙ sym (p .0 .left) in
+    let e = p .1 .left ∙ claim 1 noLiteral splitScript _ _ (of-run (replicate 16 7) (replicate 16 7) refl) (accepted-not-wrong _ _ _ (p .0) _ refl) ∙ sym (p .0 .left) in
     let z : _≡_ {A = ℕ} 0 1 = ap (λ (b : List (List ℕ)). getD (getD b 0 []) 4 0) e in
     omega arith
 
-pub refusals-need-no-split : ((script : List ℕ) (c c′ : Call) → TakenOut script c c′ → NoneWrong (faults c) → (v : List ℕ) → answers c ≡ accepted v → answers c′ ≡ accepted v) → ⊥
+pub refusals-need-no-split : ((n : ℕ) (list script : List ℕ) (c c′ : Call) → TakenOut n list script c c′ → NoneWrong (faults c) → (v : List ℕ) → answers c ≡ accepted v → answers c′ ≡ accepted v) → ⊥
 refusals-need-no-split claim =
     let p = split-refused in
-    let taken = of-run 1 (noLiteral ++ plainLiteral) (replicate 24 7) (replicate 24 7) refl in
-    not-both (sym (claim splitAndDrop _ _ taken (accepted-not-wrong _ _ _ (p .0) _ refl) _ (sym (p .0 .answer))) ∙ sym (p .1 .answer))
+    let list = noLiteral ++ plainLiteral in
+    let taken = of-run (replicate 24 7) (replicate 24 7) refl in
+    not-both (sym (claim 1 list splitAndDrop _ _ taken (accepted-not-wrong _ _ _ (p .0) _ refl) _ (sym (p .0 .answer))) ∙ sym (p .1 .answer))

@@ -1,6 +1,6 @@
--- A call without its L steps: nothing is wrong of it, its script runs to the same end, and so it answers and leaves what PlainSteps says.
+-- A call without its L steps: its script passes, and runs to the same end, and so it answers and leaves what PlainSteps says.
 -- Assumes nothing.
-use mathlib.Core.Path.{_≡_, refl, sym, ap, ap₂, _∙_, subst}
+use mathlib.Core.Path.{_≡_, refl, ap, ap₂, _∙_}
 use mathlib.Core.List.{List, [], _∷_}
 use Prim.Native.Nat.{ℕ, _<_}
 use lib.ListN.{length, getD}
@@ -21,34 +21,20 @@ use Rattle.settling.specs.Calls.{ranSettled, ranBurned}
 use Rattle.promises.specs.Calls.{Call}
 use Rattle.promises.specs.Refusals.{NoneWrong, listFaults, scriptFaults, faults, RefusedAtStep, in-run, in-settle}
 use Rattle.promises.specs.Accepted.{goesOn, goesOnLeaving}
-use Rattle.promises.specs.PlainSteps.{NoSplit, TakenOut, of-run, of-settle, atCorresponding}
-use Rattle.promises.proofs.Chains.{none-both, none-left, none-right, judged-right, judged-none}
+use Rattle.promises.specs.PlainSteps.{NoSplit, TakenOut, atCorresponding}
+use Rattle.promises.specs.OtherScript.{of-run, of-settle}
+use Rattle.promises.proofs.Chains.{judged-right, judged-none}
 use Rattle.promises.proofs.Judging.{by-script}
 use Rattle.promises.proofs.NotWrong.{good-list, fit-script}
+use Rattle.promises.proofs.OtherScript.{fine-list, fine-script}
 
 -- ---- before the first step
 
 pub passes : (n : ℕ) (script : List ℕ) → NoneWrong (scriptFaults n script) → checkScript n (withoutL script) ≡ accepted (length (plainSteps (stepsOf script)) ∷ [])
 passes n script fine = plain-passes n script _ (judged-right (scriptFaults n script) (checkScript n script) _ (by-script n script) fine)
 
-pub fine-script : (n : ℕ) (script : List ℕ) → NoneWrong (scriptFaults n script) → NoneWrong (scriptFaults n (withoutL script))
-fine-script n script fine = judged-none (scriptFaults n (withoutL script)) _ _ _ (by-script n (withoutL script)) (passes n script fine)
-
--- as long a work buffer has room too
-room-same : (count : ℕ) (work again : List ℕ) → length again ≡ length work → ((q : ℕ) → (q ≡ 0) × (cubeCapacity (length work) < count) → ⊥)
-    → (q : ℕ) → (q ≡ 0) × (cubeCapacity (length again) < count) → ⊥
-room-same count work again e = subst (λ (k : ℕ). (q : ℕ) → (q ≡ 0) × (cubeCapacity k < count) → ⊥) (sym e)
-
-pub fine-without : {script : List ℕ} {c c′ : Call} → TakenOut script c c′ → NoneWrong (faults c) → NoneWrong (faults c′)
-unfolding faults
-fine-without {script} (of-run n list work again e) fine =
-    let xs = listFaults cubes mostVariables n list in
-    let r : _ = none-right xs _ fine in
-    none-both xs _ (none-left xs _ fine) (room-same (length (cubesOf list)) work again e (r .0), fine-script n script (r .1))
-fine-without {script} (of-settle n list work again out e) fine =
-    let xs = listFaults cubes mostVariables n list in
-    let r : _ = none-right xs _ fine in
-    none-both xs _ (none-left xs _ fine) (room-same (length (cubesOf list)) work again e (r .0), (r .1 .0, fine-script n script (r .1 .1)))
+pub shorter : (n : ℕ) (script : List ℕ) → NoneWrong (scriptFaults n script) → NoneWrong (scriptFaults n (withoutL script))
+shorter n script fine = judged-none (scriptFaults n (withoutL script)) _ _ _ (by-script n (withoutL script)) (passes n script fine)
 
 -- ---- the steps
 
@@ -82,29 +68,29 @@ module _ (script : List ℕ) where
   ran-burned n given (stopped why s) out = refl
   ran-burned n given (ended l peak) out = refl
 
-pub goes-same : {script : List ℕ} {c c′ : Call} → TakenOut script c c′ → NoneWrong (faults c) → NoSplit script
-    → (goesOn c′ ≡ outcomeAt script (goesOn c)) × (goesOnLeaving c′ ≡ goesOnLeaving c)
-unfolding faults goesOn goesOnLeaving
-goes-same {script} (of-run n list work again e) fine none =
-    let same = ran-plain n list script (length work) (length again) e (none-left (listFaults cubes mostVariables n list) _ fine)
-    (none-right (listFaults cubes mostVariables n list) _ fine .1) none in
-    let r : Ran Cube = runOf n list script (length work) in (
-      ap ranOutcome same ∙ ran-outcome script r,
-      ap₂ (λ (k : ℕ) (q : Ran Cube). ranWork k q ∷ []) e same ∙ ap (λ (b : List ℕ). b ∷ []) (ran-work script (length work) r),
-    )
-goes-same {script} (of-settle n list work again out e) fine none =
-    let same = ran-plain n list script (length work) (length again) e (none-left (listFaults cubes mostVariables n list) _ fine)
-    (none-right (listFaults cubes mostVariables n list) _ fine .1 .1) none in
-    let r : Ran Cube = runOf n list script (length work) in (
-      ap (ranSettled n (cubesOf list)) same ∙ ran-settled script n (cubesOf list) r,
-      ap₂ (λ (k : ℕ) (q : Ran Cube). zeros k ∷ ranBurned n (cubesOf list) q out ∷ []) e same
-          ∙ ap (λ (b : List ℕ). zeros (length work) ∷ b ∷ []) (ran-burned script n (cubesOf list) r out),
-    )
+module _ {n : ℕ} {list script : List ℕ} where
+  pub goes-same : {c c′ : Call} → TakenOut n list script c c′ → NoneWrong (faults c) → NoSplit script → (goesOn c′ ≡ outcomeAt script (goesOn c)) × (goesOnLeaving c′ ≡ goesOnLeaving c)
+  unfolding goesOn goesOnLeaving
+  goes-same (of-run work again e) fine none =
+      let taken : TakenOut n list script _ _ = of-run work again e in
+      let same = ran-plain n list script (length work) (length again) e (fine-list taken fine) (fine-script taken fine) none in
+      let r : Ran Cube = runOf n list script (length work) in (
+        ap ranOutcome same ∙ ran-outcome script r,
+        ap₂ (λ (k : ℕ) (q : Ran Cube). ranWork k q ∷ []) e same ∙ ap (λ (b : List ℕ). b ∷ []) (ran-work script (length work) r),
+      )
+  goes-same (of-settle work again out e) fine none =
+      let taken : TakenOut n list script _ _ = of-settle work again out e in
+      let same = ran-plain n list script (length work) (length again) e (fine-list taken fine) (fine-script taken fine) none in
+      let r : Ran Cube = runOf n list script (length work) in (
+        ap (ranSettled n (cubesOf list)) same ∙ ran-settled script n (cubesOf list) r,
+        ap₂ (λ (k : ℕ) (q : Ran Cube). zeros k ∷ ranBurned n (cubesOf list) q out ∷ []) e same
+            ∙ ap (λ (b : List ℕ). zeros (length work) ∷ b ∷ []) (ran-burned script n (cubesOf list) r out),
+      )
 
 -- the step at which such a call is refused
-pub refused-at : {script : List ℕ} {c c′ : Call} → TakenOut script c c′ → (r : Refusal) (buffers : List (List ℕ)) → RefusedAtStep r buffers c
+pub refused-at : {n : ℕ} {list script : List ℕ} {c c′ : Call} → TakenOut n list script c c′ → (r : Refusal) (buffers : List (List ℕ)) → RefusedAtStep r buffers c
     → (r .place < length (stepsOf script)) × (isL (getD (stepsOf script) (r .place) (drop 0 0)) ≡ 0)
-refused-at {script} (of-run n list work again e) r buffers (in-run _ _ _ _ fine s left) =
+refused-at (of-run work again e) r buffers (in-run n _ _ _ fine s left) =
     (s .steps .within, refused-plain n (cubeCapacity (length work)) _ (s .steps .between) _ (s .steps .here))
-refused-at {script} (of-settle n list work again out e) r buffers (in-settle _ _ _ _ _ fine s left) =
+refused-at (of-settle work again out e) r buffers (in-settle n _ _ _ _ fine s left) =
     (s .steps .within, refused-plain n (cubeCapacity (length work)) _ (s .steps .between) _ (s .steps .here))

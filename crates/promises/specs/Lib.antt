@@ -5,6 +5,8 @@ pub mod Accepted
 pub mod Burned
 pub mod Reasons
 pub mod EasyScript
+pub mod OtherScript
+pub mod ShortScript
 pub mod PlainSteps
 pub mod Faced
 pub mod Marked

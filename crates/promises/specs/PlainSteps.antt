@@ -5,7 +5,6 @@
 use mathlib.Core.Path.{_≡_}
 use mathlib.Core.List.{List, [], _∷_, _++_}
 use Prim.Native.Nat.{ℕ}
-use lib.ListN.{length}
 use Rattle.bits.specs.Sums.{All}
 use Rattle.records.specs.declared.Refusal.{Refusal}
 use Rattle.records.specs.Records.{zeros}
@@ -13,17 +12,16 @@ use Rattle.records.specs.Answers.{refusalWith}
 use Rattle.steps.specs.Steps.{isSplit}
 use Rattle.script.specs.Scripts.{stepsOf}
 use Rattle.script.specs.PlainSteps.{withoutL, corresponding}
-use Rattle.promises.specs.Calls.{Call, run, settle}
+use Rattle.promises.specs.Calls.{Call}
+use Rattle.promises.specs.OtherScript.{OtherScript}
 
 -- "script with no split"
 abbrev pub NoSplit : List ℕ → Type 0
 NoSplit script = All (λ x. isSplit x ≡ 0) (stepsOf script)
 
--- the second call is the first one with all L steps taken out of its script, on the same list, in a work buffer as long, whatever it holds
-pub data TakenOut (script : List ℕ) : Call → Call → Type 0 where
-  of-run : (n : ℕ) (list work again : List ℕ) → length again ≡ length work → TakenOut script (run n list script work) (run n list (withoutL script) again)
-  of-settle : (n : ℕ) (list work again out : List ℕ) → length again ≡ length work
-      → TakenOut script (settle n list script work out) (settle n list (withoutL script) again out)
+-- the second call is the first one with all L steps taken out of its script
+abbrev pub TakenOut : ℕ → List ℕ → List ℕ → Call → Call → Type 0
+TakenOut n list script c c′ = OtherScript n list script (withoutL script) c c′
 
 -- "with the same number, at the step that corresponds", and the same third answer
 abbrev pub atCorresponding : List ℕ → Refusal → Refusal

@@ -6,17 +6,18 @@ use mathlib.Core.List.{List, [], _∷_, map}
 use Prim.Native.Nat.{ℕ, zero, suc, _*_, _/_, _%_, _≤_, _<_}
 use native.Mathlib.Omega.{arith}
 use lib.Dec.{eqb, ltb, leb}
-use lib.ListN.{length, getD}
+use lib.ListN.{length, getD, take, drop as dropped, length-map}
+use lib.Seq.{take-at}
 use borrow.Author.Tests.{eqb-true, eq-eqb, ltb-true, leb-true, lt-ltb, le-leb}
 use Rattle.bits.specs.Sums.{All}
 use Rattle.bits.proofs.Bools.{both-true, true-both}
 use Rattle.bits.proofs.Sums.{all-get-or, all-map, map-same, map-map, map-back}
-use Rattle.records.specs.Records.{flat, listOf}
+use Rattle.records.specs.Records.{flat, listOf, written}
 use Rattle.records.specs.Answers.{accepted}
 use Rattle.records.proofs.Checks.{checked, AcceptedRecords, records-accepted, accepted-records}
 use Rattle.records.proofs.Fields.{Fields, fields-lawful, fields-bytes}
 use Rattle.records.proofs.Images.{length-flat}
-use Rattle.records.proofs.Records.{Lawful, list-flat}
+use Rattle.records.proofs.Records.{Lawful, list-flat, written-front, written-rest}
 use Rattle.steps.specs.declared.StepRecord.{StepRecord}
 use Rattle.steps.specs.Steps.{Step, drop, join, split, turn, L, Allowed, meaning}
 use Rattle.script.specs.Scripts.{stepWidth, mostSteps, stepRecords, known, usesV, usesI, usesJ, usesLiteral, field, fits, recordOf, stepsOf}
@@ -187,3 +188,31 @@ records-pass n l few a =
       each = subst (All (λ r. fits n r ≡ true)) (sym (records-of-bytes l)) a;
     })
     ∙ ap (λ (k : ℕ). accepted (k ∷ [])) count
+
+-- ---- steps that are written to the front of a buffer, which a call that makes a script does
+
+module _ (xs : List Step) where
+  length-script-bytes : length (scriptBytes xs) ≡ stepWidth * length xs
+  length-script-bytes = length-steps (map recordOf xs) ∙ ap (λ (k : ℕ). stepWidth * k) (length-map xs recordOf)
+
+  -- the bytes of steps that fit, and are not too many, pass 7, 8 and 9
+  pub steps-pass : (n : ℕ) → length xs ≤ mostSteps → All (Allowed n) xs → checkScript n (scriptBytes xs) ≡ accepted (length xs ∷ [])
+  steps-pass n few a =
+      let many : length (map recordOf xs) ≡ length xs = length-map xs recordOf in
+      records-pass n (map recordOf xs) (omega (arith, many, few)) (all-map (Allowed n) (λ r. fits n r ≡ true) recordOf (fits-record n) xs a)
+      ∙ ap (λ (k : ℕ). accepted (k ∷ [])) many
+
+  -- they are its front, and the rest of it is as it was
+  module _ (b : List ℕ) (room : stepWidth * length xs ≤ length b) where
+    fit : stepWidth * length (map recordOf xs) ≤ length b
+    fit = omega (arith, length-map xs recordOf)
+
+    pub steps-front : take (stepWidth * length xs) (written stepRecords 0 (map recordOf xs) b) ≡ scriptBytes xs
+    steps-front =
+        ap (take (stepWidth * length xs)) (written-front stepRecords steps-lawful b (map recordOf xs) fit)
+        ∙ take-at (scriptBytes xs) (dropped (stepWidth * length (map recordOf xs)) b) (stepWidth * length xs) length-script-bytes
+
+    pub steps-rest : dropped (stepWidth * length xs) (written stepRecords 0 (map recordOf xs) b) ≡ dropped (stepWidth * length xs) b
+    steps-rest =
+        subst (λ (k : ℕ). dropped (stepWidth * k) (written stepRecords 0 (map recordOf xs) b) ≡ dropped (stepWidth * k) b) (length-map xs recordOf)
+        (written-rest stepRecords steps-lawful b (map recordOf xs) fit)

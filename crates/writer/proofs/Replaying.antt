@@ -2,23 +2,19 @@
 -- Assumes nothing.
 use mathlib.Core.Path.{_≡_, refl, sym, ap, _∙_, subst}
 use mathlib.Core.Bool.{true}
-use mathlib.Core.List.{List, [], _∷_, map}
+use mathlib.Core.List.{List, [], _∷_}
 use Prim.Native.Nat.{ℕ, zero, suc, _*_, _≤_, _<_, min}
 use native.Mathlib.Omega.{arith}
-use lib.ListN.{length, getD, take, drop, length-map}
-use lib.Seq.{take-at}
-use Rattle.bits.proofs.Sums.{all-map}
-use Rattle.records.specs.Records.{written}
+use lib.ListN.{length, getD}
 use Rattle.records.specs.Answers.{accepted}
-use Rattle.records.proofs.Records.{written-front, written-rest}
 use Rattle.cube.specs.declared.Cube.{Cube}
 use Rattle.steps.specs.Moves.{After}
-use Rattle.steps.specs.Steps.{Step, Allowed}
+use Rattle.steps.specs.Steps.{Step}
 use Rattle.script.specs.Counts.{metAfter, listsBy, lists}
 use Rattle.script.specs.Run.{ended, run}
-use Rattle.script.specs.Scripts.{stepRecords, stepWidth, mostSteps, fits, recordOf, stepsOf}
+use Rattle.script.specs.Scripts.{stepWidth, mostSteps, stepsOf}
 use Rattle.script.specs.Calls.{checkScript}
-use Rattle.script.proofs.Scripts.{steps-lawful, fits-record, scriptBytes, script-read, length-steps, records-pass}
+use Rattle.script.proofs.Scripts.{scriptBytes, script-read, steps-pass}
 use Rattle.writer.specs.Pairs.{hasPair}
 use Rattle.writer.specs.Easy.{easyNext, easySteps, easyEnd}
 use Rattle.writer.proofs.Easy.{easy-ind, easy-accepted, easy-fewer, steps-pair, steps-none, easy-count, easy-fit, easy-run}
@@ -29,40 +25,17 @@ module _ (n : ℕ) (l : List Cube) where
   abbrev xs : List Step
   xs = easySteps n mostSteps l
 
-  long : length (scriptBytes xs) ≡ stepWidth * length xs
-  long = length-steps (map recordOf xs) ∙ ap (λ (k : ℕ). stepWidth * k) (length-map xs recordOf)
-
   -- they pass 7, 8 and 9
   pub easy-passes : checkScript n (scriptBytes (easySteps n mostSteps l)) ≡ accepted (length (easySteps n mostSteps l) ∷ [])
-  easy-passes =
-      let many : length (map recordOf xs) ≡ length xs = length-map xs recordOf in
-      records-pass n (map recordOf xs) (omega (arith, many, easy-count n mostSteps l .0))
-      (all-map (Allowed n) (λ r. fits n r ≡ true) recordOf (fits-record n) xs (easy-fit n mostSteps l))
-      ∙ ap (λ (k : ℕ). accepted (k ∷ [])) many
+  easy-passes = steps-pass xs n (easy-count n mostSteps l .0) (easy-fit n mostSteps l)
 
   -- and their run, in any capacity, ends in the end list, with the given count as peak
   pub easy-replays : (cap : ℕ) → run n cap (stepsOf (scriptBytes (easySteps n mostSteps l))) l ≡ ended (easyEnd n mostSteps l) (length l)
   easy-replays cap = ap (λ (ys : List Step). run n cap ys l) (script-read xs) ∙ easy-run n cap mostSteps l
 
-  -- the front of a script buffer that they are written to, and the rest of it
-  module _ (script : List ℕ) (room : stepWidth * min (length l) mostSteps ≤ length script) where
-    fit : stepWidth * length (map recordOf xs) ≤ length script
-    fit = omega (arith, length-map xs recordOf, easy-count n mostSteps l .0, easy-count n mostSteps l .1)
-
-    many : length (map recordOf xs) ≡ length xs
-    many = length-map xs recordOf
-
-    pub easy-front : take (stepWidth * length (easySteps n mostSteps l)) (written stepRecords 0 (map recordOf (easySteps n mostSteps l)) script)
-        ≡ scriptBytes (easySteps n mostSteps l)
-    easy-front =
-        ap (take (stepWidth * length xs)) (written-front stepRecords steps-lawful script (map recordOf xs) fit)
-        ∙ take-at (scriptBytes xs) (drop (stepWidth * length (map recordOf xs)) script) (stepWidth * length xs) long
-
-    pub easy-rest : drop (stepWidth * length (easySteps n mostSteps l)) (written stepRecords 0 (map recordOf (easySteps n mostSteps l)) script)
-        ≡ drop (stepWidth * length (easySteps n mostSteps l)) script
-    easy-rest =
-        subst (λ (k : ℕ). drop (stepWidth * k) (written stepRecords 0 (map recordOf xs) script) ≡ drop (stepWidth * k) script) many
-        (written-rest stepRecords steps-lawful script (map recordOf xs) fit)
+  -- there is room for them in a script buffer that is not refused
+  pub easy-room : (room : ℕ) → stepWidth * min (length l) mostSteps ≤ room → stepWidth * length (easySteps n mostSteps l) ≤ room
+  easy-room room h = omega (arith, easy-count n mostSteps l .0, easy-count n mostSteps l .1)
 
 -- ---- the lists between the steps
 
