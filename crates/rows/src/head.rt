@@ -3,7 +3,7 @@ use text::ReadNumber;
 use text::number;
 use text::place;
 
-// The calls: those on lists, from WIDE on the two converters of lists, and from TEST on those on vectors and coefficients.
+// The calls: those on lists, COMPACT on a script, from WIDE on the two converters of lists, and from TEST on those on vectors and coefficients.
 pub const CHECK: usize = 1;
 
 pub const VALUE: usize = 2;
@@ -16,19 +16,21 @@ pub const RUN: usize = 5;
 
 pub const WRITE: usize = 6;
 
-pub const WIDE: usize = 7;
+pub const COMPACT: usize = 7;
 
-pub const NARROW: usize = 8;
+pub const WIDE: usize = 8;
 
-pub const TEST: usize = 9;
+pub const NARROW: usize = 9;
 
-pub const BEST: usize = 10;
+pub const TEST: usize = 10;
 
-pub const FORM: usize = 11;
+pub const BEST: usize = 11;
 
-pub const COEFFICIENTS: usize = 12;
+pub const FORM: usize = 12;
 
-pub const BACK: usize = 13;
+pub const COEFFICIENTS: usize = 13;
+
+pub const BACK: usize = 14;
 
 // A number and the place after it; 0 and the same place where there is none.
 pub struct Numeral {
@@ -36,7 +38,7 @@ pub struct Numeral {
     pub p: usize,
 }
 
-// The number of variables, the assignment or the polarity, the bytes of the lent buffer and of a second one, and the place after them.
+// The number of variables, the assignment, the polarity or the count, the bytes of the lent buffer and of a second one, and the place after them.
 pub struct Head {
     pub n: usize,
     pub given: usize,
@@ -84,10 +86,17 @@ fn name_by_v(row: &[u8], first: u8) -> ReadNumber {
     name_by_w(row, first)
 }
 
+fn name_by_c(row: &[u8]) -> ReadNumber {
+    match either(row, b"check ", CHECK, b"compact ", COMPACT) {
+        ReadNumber::Read(name, p) => ReadNumber::Read(name, p),
+        ReadNumber::Wrong(_) => place::word_at(row, 0, b"coefficients ", COEFFICIENTS),
+    }
+}
+
 // The name that a row begins with, by its first letter.
 pub fn name(row: &[u8], first: u8) -> ReadNumber {
     if first == b'c' {
-        return either(row, b"check ", CHECK, b"coefficients ", COEFFICIENTS);
+        return name_by_c(row);
     }
     if first == b'f' {
         return place::word_at(row, 0, b"form ", FORM);
@@ -112,16 +121,17 @@ pub fn field(row: &[u8], at: usize, word: &[u8]) -> Numeral {
     }
 }
 
-// The numbers of a call: `N`, then `at A` or `under P`, then `into B` and `and C`. One that isn't there is 0.
+// The numbers of a call: `N`, then `at A`, `under P` or `for M`, then `into B` and `and C`. One that isn't there is 0.
 pub fn numbers(row: &[u8], at: usize) -> Head {
     let n = field(row, at, b"");
     let a = field(row, n.p, b" at ");
     let u = field(row, a.p, b" under ");
-    let b = field(row, u.p, b" into ");
+    let m = field(row, u.p, b" for ");
+    let b = field(row, m.p, b" into ");
     let c = field(row, b.p, b" and ");
     Head {
         n: n.x,
-        given: a.x | u.x,
+        given: a.x | u.x | m.x,
         room: b.x,
         second: c.x,
         p: c.p,

@@ -1,4 +1,5 @@
 // A row's call: its data read, its buffer lent, and its answer printed.
+use compactor::compact;
 use converters::narrow_from_wide;
 use converters::wide_from_narrow;
 use cube::list;
@@ -89,6 +90,11 @@ fn on_list(name: usize, h: Head, list: &[u8], script: &[u8], out: &mut [u8]) {
     run(h.n, list, script, out);
 }
 
+fn compact(n: usize, count: usize, script: &[u8], out: &mut [u8]) {
+    print::counted(compact::compact(n, count, script, out));
+    print::bytes(out);
+}
+
 fn wide(n: usize, list: &[u8], out: &mut [u8]) {
     print::listed(n, wide_from_narrow::wide_from_narrow(n, list, out), out);
 }
@@ -159,6 +165,10 @@ fn on_bits(name: usize, h: Head, bits: &[u8], out: &mut [u8]) {
 fn lend(name: usize, h: Head, bytes: &[u8], script: &[u8]) {
     let mut out = [UNTOUCHED; MOST_ROOM];
     let size = data::within(h.room, &out);
+    if name == head::COMPACT {
+        compact(h.n, h.given, bytes, &mut out[..size]);
+        return;
+    }
     if name < head::WIDE {
         on_list(name, h, bytes, script, &mut out[..size]);
         return;
@@ -172,6 +182,12 @@ fn lend(name: usize, h: Head, bytes: &[u8], script: &[u8]) {
 
 // What a row's first part is made of, and its second one.
 fn first_kind(name: usize, n: usize) -> Kind {
+    if name == head::COMPACT {
+        return Kind {
+            of: item::STEPS,
+            n: 0,
+        };
+    }
     if head::TEST <= name {
         return Kind {
             of: item::BITS,
