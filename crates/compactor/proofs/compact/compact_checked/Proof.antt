@@ -13,7 +13,7 @@ keep-steps-requires : tie.Need-keep-steps-requires
 keep-steps-requires c κs =
     let s = c .before .before .before in
     let few = checked-few _ _ (s .pre .0) in
-    (checked-meant _ _ (s .pre .0), (few, few, s .pre .1))
+    (checked-meant _ _ (s .pre .0), (few, few, omega (arith, s .pre .1)))
 
 slice-aggregate-put-kept : tie.Need-slice-aggregate-put-kept
 slice-aggregate-put-kept c = search needs

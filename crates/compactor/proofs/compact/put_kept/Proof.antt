@@ -1,5 +1,6 @@
 -- `compact::put_kept` meets its contract: the loop keeps `Putting`.
 -- Assumes nothing.
+use mathlib.Core.Path.{refl}
 use Prim.Native.Nat.{_-_}
 use native.Mathlib.Omega.{arith}
 use Rattle.compactor.proofs.Calls.{Putting, putting-none, putting-more, putting-end}
@@ -38,7 +39,10 @@ loop-less : tie.Need-loop-less Inv-loop μ-loop
 loop-less c = search needs
 
 loop-again : tie.Need-loop-again Inv-loop μ-loop
-loop-again c = search putting-more
+loop-again c =
+    let x = c .before .before .before in
+    let l = x .before .before .before .before in
+    putting-more _ _ _ _ _ _ (l .loop .inv) (l .before .before .before .before .pre) (x .before .before .before .loop-test .taken) _ refl _ (x .step-at .ensures) _ (c .before .before .put-step .ensures)
 
 same-length : tie.Need-same-length Inv-loop μ-loop
 same-length c = search needs
