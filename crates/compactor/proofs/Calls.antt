@@ -1,32 +1,35 @@
 -- What is written of the steps that are kept, and the call by its tests: what each return answers and leaves, and what an accepted call is.
 -- Assumes nothing.
-use mathlib.Core.Path.{_≡_, refl, sym, ap, ap₂, _∙_}
+use mathlib.Core.Path.{_≡_, refl, sym, ap, _∙_}
 use mathlib.Core.Bool.{true}
 use mathlib.Core.List.{List, [], _∷_, map, map-append}
-use Prim.Native.Nat.{ℕ, zero, _+_, _*_, _≤_, _<_, zero-le}
-use native.Mathlib.Nat.{zero-add, mod-eq-of-lt}
+use Prim.Native.Nat.{ℕ, _+_, _/_, _≤_, _<_, zero-le}
+use native.Mathlib.Nat.{zero-add}
 use native.Mathlib.Numerals.{add-one}
 use native.Mathlib.Omega.{arith}
 use lib.Dec.{leb}
 use lib.ListN.{length, getD, take, length-map, length-take}
-use lib.Seq.{take-suc}
+use lib.Seq.{getD-take, take-suc}
 use borrow.Author.Tests.{le-leb, lt-leb, leb-true}
-use Rattle.bits.proofs.Sums.{all-each, map-each, map-map}
+use Rattle.bits.specs.Sums.{All}
+use Rattle.bits.proofs.Sums.{all-get, all-each, map-each, map-map}
 use Rattle.records.specs.declared.Refusal.{Refusal}
 use Rattle.records.specs.Records.{listOf, stored, written}
 use Rattle.records.specs.Answers.{Outcome, accepted, refused, refusal, Accepts}
 use Rattle.records.proofs.Answers.{accepted-values, and-then, and-not, unless-passes, unless-fails, unless-accepted, both-accepted, call-refused, call-accepted}
-use Rattle.records.proofs.Records.{list-at, length-written, written-snoc}
-use Rattle.records.proofs.Widths.{number-lt}
+use Rattle.records.proofs.Records.{length-written, written-snoc}
 use Rattle.cube.specs.Lists.{mostVariables, mostRecords}
 use Rattle.steps.specs.declared.StepRecord.{StepRecord}
-use Rattle.script.specs.Scripts.{stepRecords, mostSteps, narrowStep, fits, recordOf, stepsOf}
+use Rattle.script.specs.Scripts.{stepRecords, stepWidth, mostSteps, recordOf, stepsOf}
 use Rattle.script.specs.Calls.{checkScript}
 use Rattle.script.proofs.Scripts.{AcceptedScript, script-accepts, record-meaning}
 use Rattle.compactor.specs.Compact.{compacted}
 use Rattle.compactor.specs.Calls.{compactOutcome, compactAfter}
-use Rattle.compactor.specs.Keeping.{Meant, stepAt, Kept, readStep, Compacting}
+use Rattle.compactor.specs.declared.Halves.{Halves}
+use Rattle.compactor.specs.Keeping.{halfRecords, recordAt, halvesAt, Meant, stepAt, Kept, Compacting}
+use Rattle.compactor.proofs.Removing.{compacted-subsequence, length-subsequence}
 use Rattle.compactor.proofs.Stack.{length-script, meaning-at, meant-at}
+use Rattle.compactor.proofs.StepBytes.{halves-copied}
 
 -- ---- the loop over the steps that are kept
 
@@ -34,7 +37,7 @@ use Rattle.compactor.proofs.Stack.{length-script, meaning-at, meant-at}
 pub record Putting (b kept : List ℕ) (top : ℕ) (out₀ out : List ℕ) (t : ℕ) : Type 0 where
   pub few : t ≤ top
   pub long : length out ≡ length out₀
-  pub bytes : out ≡ written stepRecords 0 (map (readStep b) (take t kept)) out₀
+  pub bytes : out ≡ written stepRecords 0 (map (recordAt b) (take t kept)) out₀
 
 module _ (b kept : List ℕ) (top : ℕ) (out₀ : List ℕ) where
   pub putting-none : Putting b kept top out₀ out₀ 0
@@ -42,22 +45,32 @@ module _ (b kept : List ℕ) (top : ℕ) (out₀ : List ℕ) where
   putting-none = record { few = zero-le; long = refl; bytes = refl }
 
   module _ (out : List ℕ) (t : ℕ) (p : Putting b kept top out₀ out t) where
-    pub putting-more : top ≤ length kept → t < top → (k : ℕ) → k ≡ getD kept t 0 → (x : StepRecord) → x ≡ getD (listOf stepRecords b) k (stepRecords .none)
-        → (out′ : List ℕ) → out′ ≡ stored stepRecords out t (narrowStep x) → Putting b kept top out₀ out′ (t + 1)
-    putting-more room h k ek x ex out′ eo =
-        let xs : List StepRecord = map (readStep b) (take t kept) in
-        let many : length xs ≡ t = length-map (take t kept) (readStep b) ∙ omega (arith, length-take t kept) in
-        let bytes : out′ ≡ written stepRecords 0 (map (readStep b) (take (t + 1) kept)) out₀
-        = eo
-        ∙ ap₂ (λ (c : List ℕ) (y : StepRecord). stored stepRecords c t (narrowStep y)) (p .bytes) (ex ∙ ap (λ (i : ℕ). getD (listOf stepRecords b) i (stepRecords .none)) ek)
-        ∙ ap (λ (i : ℕ). stored stepRecords (written stepRecords 0 xs out₀) i (readStep b (getD kept t 0))) (sym many ∙ sym (zero-add (length xs)))
-        ∙ sym (written-snoc stepRecords 0 xs (readStep b (getD kept t 0)) out₀)
-        ∙ ap (λ (l : List StepRecord). written stepRecords 0 l out₀) (sym (map-append (readStep b) (take t kept) (getD kept t 0 ∷ [])))
-        ∙ ap (λ (l : List ℕ). written stepRecords 0 (map (readStep b) l) out₀) (sym (ap (λ (i : ℕ). take i kept) (add-one t) ∙ take-suc kept t 0 (omega arith))) in
-        record { few = omega arith; long = ap length bytes ∙ length-written stepRecords 0 (map (readStep b) (take (t + 1) kept)) out₀; bytes = bytes }
+    pub putting-end : top ≤ t → out ≡ written stepRecords 0 (map (recordAt b) (take top kept)) out₀
+    putting-end h = let z : t ≡ top = omega (arith, p .few) in p .bytes ∙ ap (λ (i : ℕ). written stepRecords 0 (map (recordAt b) (take i kept)) out₀) z
 
-    pub putting-end : top ≤ t → out ≡ written stepRecords 0 (map (readStep b) (take top kept)) out₀
-    putting-end h = let z : t ≡ top = omega (arith, p .few) in p .bytes ∙ ap (λ (i : ℕ). written stepRecords 0 (map (readStep b) (take i kept)) out₀) z
+    module _ (fits : (top ≤ length kept) × (top ≤ length out₀ / stepWidth)) (inside : All (λ k. k < length b / stepWidth) (take top kept)) (h : t < top) where
+      pub putting-room : t < length out / stepWidth
+      putting-room = omega (arith, p .long, fits .1)
+
+      pub putting-inside : getD kept t 0 < length b / stepWidth
+      putting-inside =
+          let taken : length (take top kept) ≡ top = omega (arith, length-take top kept, fits .0) in
+          omega (arith, all-get (λ k. k < length b / stepWidth) (take top kept) t 0 inside (omega arith), getD-take top kept t 0 h)
+
+      pub putting-more : ((i : ℕ) → getD b i 0 < 256) → (x : Halves) → x ≡ halvesAt b (getD kept t 0) → (out′ : List ℕ) → out′ ≡ stored halfRecords out t x
+          → Putting b kept top out₀ out′ (t + 1)
+      putting-more small x ex out′ eo =
+          let k : ℕ = getD kept t 0 in
+          let xs : List StepRecord = map (recordAt b) (take t kept) in
+          let many : length xs ≡ t = length-map (take t kept) (recordAt b) ∙ omega (arith, length-take t kept, fits .0) in
+          let bytes : out′ ≡ written stepRecords 0 (map (recordAt b) (take (t + 1) kept)) out₀
+          = eo ∙ ap (stored halfRecords out t) ex ∙ halves-copied b k putting-inside small out t
+          ∙ ap (λ (c : List ℕ). stored stepRecords c t (recordAt b k)) (p .bytes)
+          ∙ ap (λ (i : ℕ). stored stepRecords (written stepRecords 0 xs out₀) i (recordAt b k)) (sym many ∙ sym (zero-add (length xs)))
+          ∙ sym (written-snoc stepRecords 0 xs (recordAt b k) out₀)
+          ∙ ap (λ (l : List StepRecord). written stepRecords 0 l out₀) (sym (map-append (recordAt b) (take t kept) (k ∷ [])))
+          ∙ ap (λ (l : List ℕ). written stepRecords 0 (map (recordAt b) l) out₀) (sym (ap (λ (i : ℕ). take i kept) (add-one t) ∙ take-suc kept t 0 (omega (arith, fits .0)))) in
+          record { few = omega arith; long = ap length bytes ∙ length-written stepRecords 0 (map (recordAt b) (take (t + 1) kept)) out₀; bytes = bytes }
 
 -- ---- a checked script
 
@@ -72,27 +85,24 @@ module _ (n : ℕ) (b : List ℕ) (ok : Accepts (checkScript n b)) where
   pub checked-few : length (stepsOf b) ≤ mostSteps
   checked-few = omega (arith, is .short, length-script b)
 
-  module _ (small : (i : ℕ) → getD b i 0 < 256) where
-    -- a record that was read has places of two bytes
-    narrow-read : (k : ℕ) → k < length (stepsOf b) → readStep b k ≡ recordOf (stepAt (stepsOf b) k)
-    narrow-read k h = narrow ∙ sym (meant-at b k checked-meant h) ∙ ap recordOf (meaning-at b k)
-      where
-        narrow : readStep b k ≡ getD (listOf stepRecords b) k (stepRecords .none)
-        narrow =
-            let at = list-at stepRecords b k (stepRecords .none) (omega (arith, length-script b)) in
-            ap narrowStep at
-            ∙ (λ j. let r : StepRecord = stepRecords .read b k in
-            record { op = r .op; v = r .v; i = mod-eq-of-lt (number-lt b small 2 (8 * k + 2)) j; j = mod-eq-of-lt (number-lt b small 2 (8 * k + 4)) j; literal = r .literal; zero = r .zero })
-            ∙ sym at
+  module _ (count : ℕ) (kept : List ℕ) (top : ℕ) (p : Kept count (stepsOf b) kept top) where
+    pub checked-inside : All (λ k. k < length b / stepWidth) (take top kept)
+    checked-inside = all-each (λ k. k < length (stepsOf b)) (λ k. k < length b / stepWidth) (λ k h. omega (arith, length-script b)) (take top kept) (p .inside)
 
-    pub checked-compacting : (count : ℕ) (kept : List ℕ) (top : ℕ) → Kept count (stepsOf b) kept top → (out out′ : List ℕ)
-        → out′ ≡ written stepRecords 0 (map (readStep b) (take top kept)) out → Compacting count b out out′ top
-    checked-compacting count kept top p out out′ e = record {
-      many = sym (sym (ap length (p .left)) ∙ length-map (take top kept) (stepAt (stepsOf b)) ∙ omega (arith, length-take top kept, p .room));
+    many : top ≡ length (compacted count (stepsOf b))
+    many = sym (sym (ap length (p .left)) ∙ length-map (take top kept) (stepAt (stepsOf b)) ∙ omega (arith, length-take top kept, p .room))
+
+    pub checked-room : (out : List ℕ) → length b ≤ length out → top ≤ length out / stepWidth
+    checked-room out h = omega (arith, many, length-subsequence (compacted-subsequence count (stepsOf b)), length-script b)
+
+    pub checked-compacting : (out out′ : List ℕ) → out′ ≡ written stepRecords 0 (map (recordAt b) (take top kept)) out → Compacting count b out out′ top
+    checked-compacting out out′ e = record {
+      many = many;
       bytes =
           e
           ∙ ap (λ (l : List StepRecord). written stepRecords 0 l out)
-          (map-each (λ k. k < length (stepsOf b)) (readStep b) (λ k. recordOf (stepAt (stepsOf b) k)) narrow-read (take top kept) (p .inside)
+          (map-each (λ k. k < length (stepsOf b)) (recordAt b) (λ k. recordOf (stepAt (stepsOf b) k))
+          (λ k h. sym (meant-at b k checked-meant h) ∙ ap recordOf (meaning-at b k)) (take top kept) (p .inside)
           ∙ sym (map-map recordOf (stepAt (stepsOf b)) (take top kept)) ∙ ap (map recordOf) (p .left));
     }
 

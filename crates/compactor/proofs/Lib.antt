@@ -1,4 +1,5 @@
 pub mod Pairs
+pub mod StepBytes
 pub mod Removing
 pub mod Passing
 pub mod Stack

@@ -1,22 +1,21 @@
--- The pairs of steps: what they are, by their kinds and by their records; and that a pair leaves the count as it was.
+-- The pairs of steps: what they are, by their kinds; that a pair leaves the count as it was; and the count along, by the operation.
 -- Assumes nothing.
-use mathlib.Core.Path.{_≡_, refl, sym, ap, ap₂, _∙_, subst}
-use mathlib.Core.Bool.{Bool, true, false, cond, false≢true}
+use mathlib.Core.Path.{_≡_, refl, sym, ap, _∙_, subst}
+use mathlib.Core.Bool.{true, false≢true}
 use Prim.Native.Nat.{ℕ, zero, suc, _+_, _-_, _≤_, _<_}
 use native.Mathlib.Omega.{arith}
-use lib.Dec.{ltb}
-use borrow.Author.Tests.{eqb-true, eq-eqb, lt-ltb, le-ltb}
+use borrow.Author.Tests.{eqb-true, eq-eqb}
 use Rattle.bits.proofs.Bools.{both-true, true-both}
 use Rattle.steps.specs.declared.StepRecord.{StepRecord}
 use Rattle.steps.specs.Steps.{Step, drop, join, split, turn, L, meaning, meaningBy}
-use Rattle.script.specs.Scripts.{recordOf}
+use Rattle.script.specs.Scripts.{stepRecords, recordOf}
 use Rattle.script.proofs.Scripts.{meaning-record}
 use Rattle.compactor.specs.Compact.{equalRecords, equalSteps, stepPair, countAfter}
-use Rattle.compactor.specs.Keeping.{recordPair}
+use Rattle.compactor.specs.Keeping.{countBy}
 
 -- ---- equal in every field
 
-equal-same : (r s : StepRecord) → equalRecords r s ≡ true → r ≡ s
+pub equal-same : (r s : StepRecord) → equalRecords r s ≡ true → r ≡ s
 unfolding equalRecords
 equal-same r s e =
     let a = both-true _ _ e in
@@ -33,7 +32,7 @@ equal-same r s e =
       zero = eqb-true (r .zero) (s .zero) (f .1) k;
     }
 
-equal-self : (r : StepRecord) → equalRecords r r ≡ true
+pub equal-self : (r : StepRecord) → equalRecords r r ≡ true
 unfolding equalRecords
 equal-self r =
     true-both (eq-eqb (r .op) (r .op) refl)
@@ -75,76 +74,50 @@ pair-count count x y e = go (pair-kind count x y e)
     go two-turns = omega arith
     go split-and-join = omega arith
 
--- ---- by records
+-- ---- the count along, by the operation
 
--- a pair of steps is one of their records, which are equal field by field
-pub record-pair : (count : ℕ) (x y : StepRecord) → recordOf (meaning x) ≡ x → recordOf (meaning y) ≡ y → recordPair count x y ≡ stepPair count (meaning x) (meaning y)
-unfolding recordPair stepPair meaning recordOf
-record-pair count x y ex ey = ap₂ (at (x .op)) (sym ex) (sym ey) ∙ go (x .op)
+-- it goes by the operation alone
+pub count-of : (count : ℕ) (x : StepRecord) → countBy count (x .op) ≡ countAfter count (meaning x)
+unfolding countBy countAfter meaning
+count-of count x = go (x .op)
   where
-    at : ℕ → StepRecord → StepRecord → Bool
-    at op a b = cond (ltb op 3) false (cond (ltb 3 op) (equalRecords a b) (equalRecords (recordOf (join (x .i) count)) b))
-
-    go : (op : ℕ) → at op (recordOf (meaningBy op x)) (recordOf (meaning y)) ≡ stepPair count (meaningBy op x) (meaning y)
+    go : (op : ℕ) → countAfter count (meaningBy op (stepRecords .none)) ≡ countAfter count (meaningBy op x)
     go zero = refl
     go (suc zero) = refl
     go (suc (suc zero)) = refl
     go (suc (suc (suc zero))) = refl
     go (suc (suc (suc (suc zero)))) = refl
-    go (suc (suc (suc (suc (suc op))))) =
-        let z : suc (suc (suc (suc (suc op)))) ≡ op + 5 = omega arith in
-        simp (le-ltb (suc (suc (suc (suc (suc op))))) 3 (omega arith), lt-ltb 3 (suc (suc (suc (suc (suc op))))) (omega arith))
+    go (suc (suc (suc (suc (suc op))))) = refl
 
--- by the tests of the code
-module _ (count : ℕ) (x y : StepRecord) where
-  pub pair-low : x .op < 3 → false ≡ recordPair count x y
-  unfolding recordPair
-  pair-low h = sym (simp (lt-ltb (x .op) 3 h))
-
-  pub pair-equal : 3 ≤ x .op → 3 < x .op → (r : Bool) → r ≡ equalRecords x y → r ≡ recordPair count x y
-  unfolding recordPair
-  pair-equal g h r e = e ∙ sym (simp (le-ltb (x .op) 3 g, lt-ltb 3 (x .op) h))
-
-  pub pair-join : 3 ≤ x .op → x .op ≤ 3 → (r : Bool)
-      → r ≡ equalRecords (record { op = 2; v = 0; i = x .i; j = count; literal = 0; zero = 0 }) y → r ≡ recordPair count x y
-  unfolding recordPair recordOf
-  pair-join g h r e = e ∙ sym (simp (le-ltb (x .op) 3 g, le-ltb 3 (x .op) h))
-
--- ---- the count along, by the operation
-
-count-by : (count : ℕ) (x : StepRecord) (op : ℕ) → x .op ≡ op → (r : ℕ) → r ≡ countAfter count (meaningBy op x) → r ≡ countAfter count (meaning x)
-unfolding meaning
-count-by count x op e r f = f ∙ ap (λ (k : ℕ). countAfter count (meaningBy k x)) (sym e)
-
-module _ (count : ℕ) (x : StepRecord) where
-  pub count-drop : x .op < 2 → (r : ℕ) → r ≡ count - 2 → r ≡ countAfter count (meaning x)
-  unfolding countAfter
-  count-drop h r e = go (x .op) refl h
+module _ (count op o : ℕ) (is : o ≡ op) where
+  pub count-drop : o < 2 → (r : ℕ) → r ≡ count - 2 → r ≡ countBy count op
+  unfolding countBy countAfter
+  count-drop h r e = go op (omega (arith, is))
     where
-      go : (op : ℕ) → x .op ≡ op → op < 2 → r ≡ countAfter count (meaning x)
-      go zero f g = count-by count x 0 f r (omega (arith, e))
-      go (suc zero) f g = count-by count x 1 f r (omega (arith, e))
-      go (suc (suc op)) f g = absurd (omega arith)
+      go : (op : ℕ) → op < 2 → r ≡ countBy count op
+      go zero g = omega (arith, e)
+      go (suc zero) g = omega (arith, e)
+      go (suc (suc op)) g = absurd (omega arith)
 
-  pub count-join : x .op ≡ 2 → (r : ℕ) → r ≡ count - 1 → r ≡ countAfter count (meaning x)
-  unfolding countAfter
-  count-join h r e = count-by count x 2 h r (omega (arith, e))
+  pub count-join : o ≡ 2 → (r : ℕ) → r ≡ count - 1 → r ≡ countBy count op
+  unfolding countBy countAfter
+  count-join h r e = subst (λ (k : ℕ). r ≡ countBy count k) (sym h ∙ is) (omega (arith, e))
 
-  pub count-split : x .op ≡ 3 → count + 1 ≡ countAfter count (meaning x)
-  unfolding countAfter
-  count-split h = count-by count x 3 h (count + 1) (omega arith)
+  pub count-split : o ≡ 3 → count + 1 ≡ countBy count op
+  unfolding countBy countAfter
+  count-split h = subst (λ (k : ℕ). count + 1 ≡ countBy count k) (sym h ∙ is) (omega arith)
 
-  pub count-same : 2 ≤ x .op → (x .op ≡ 2 → ⊥) → (x .op ≡ 3 → ⊥) → count ≡ countAfter count (meaning x)
-  unfolding countAfter
-  count-same g a b = go (x .op) refl g a b
+  pub count-same : 2 ≤ o → (o ≡ 2 → ⊥) → (o ≡ 3 → ⊥) → count ≡ countBy count op
+  unfolding countBy countAfter
+  count-same g a b = go op (omega (arith, is)) (λ e. a (is ∙ e)) (λ e. b (is ∙ e))
     where
-      go : (op : ℕ) → x .op ≡ op → 2 ≤ op → (op ≡ 2 → ⊥) → (op ≡ 3 → ⊥) → count ≡ countAfter count (meaning x)
-      go zero f g a b = absurd (omega arith)
-      go (suc zero) f g a b = absurd (omega arith)
-      go (suc (suc zero)) f g a b = absurd (a refl)
-      go (suc (suc (suc zero))) f g a b = absurd (b refl)
-      go (suc (suc (suc (suc zero)))) f g a b = count-by count x 4 f count (omega arith)
-      go (suc (suc (suc (suc (suc op))))) f g a b = count-by count x (suc (suc (suc (suc (suc op))))) f count (omega arith)
+      go : (op : ℕ) → 2 ≤ op → (op ≡ 2 → ⊥) → (op ≡ 3 → ⊥) → count ≡ countBy count op
+      go zero g a b = absurd (omega arith)
+      go (suc zero) g a b = absurd (omega arith)
+      go (suc (suc zero)) g a b = absurd (a refl)
+      go (suc (suc (suc zero))) g a b = absurd (b refl)
+      go (suc (suc (suc (suc zero)))) g a b = omega arith
+      go (suc (suc (suc (suc (suc op))))) g a b = omega arith
 
 -- a step adds one at most
 pub count-most : (count : ℕ) (x : Step) → countAfter count x ≤ count + 1

@@ -6,19 +6,21 @@ use mathlib.Core.List.{List, [], _∷_, _++_, map, map-append, append-assoc}
 use Prim.Native.Nat.{ℕ, zero, suc, _+_, _-_, _/_, _≤_, _<_, zero-le}
 use native.Mathlib.Numerals.{add-one}
 use native.Mathlib.Omega.{arith}
-use lib.ListN.{length, getD, set, take, drop, length-map, length-set, drop-of-length-le, List·getD-map}
-use lib.Seq.{take-suc, take-suc-set, drop-cons}
+use lib.ListN.{length, getD, set, take, drop, length-map, length-take, length-set, drop-of-length-le, List·getD-map}
+use lib.Seq.{getD-take, take-suc, take-suc-set, drop-cons}
 use borrow.Author.Tests.{eq-eqb, ne-eqb}
 use Rattle.bits.specs.Sums.{All}
 use Rattle.bits.proofs.Sums.{all-get, all-snoc, all-each}
 use Rattle.records.specs.Records.{listOf}
 use Rattle.records.proofs.Records.{length-list}
-use Rattle.steps.specs.declared.StepRecord.{StepRecord}
+use Rattle.cube.specs.Lists.{mostRecords}
 use Rattle.steps.specs.Steps.{Step, drop as dropping, join, split, turn, L, meaning}
-use Rattle.script.specs.Scripts.{stepRecords, stepWidth, recordOf, stepsOf}
+use Rattle.script.specs.Scripts.{stepRecords, stepWidth, mostSteps, recordOf, stepsOf}
 use Rattle.compactor.specs.Compact.{stepPair, countAfter}
-use Rattle.compactor.specs.Keeping.{recordPair, Meant, takenOff, topAfter, keptAfter, stepAt, Kept}
-use Rattle.compactor.proofs.Pairs.{record-pair, count-most}
+use Rattle.compactor.specs.declared.Halves.{Halves}
+use Rattle.compactor.specs.Keeping.{mostCount, recordAt, halvesAt, operationOf, halfPair, countBy, Meant, takenOff, topAfter, keptAfter, stepAt, Kept}
+use Rattle.compactor.proofs.Pairs.{count-of, count-most}
+use Rattle.compactor.proofs.StepBytes.{at-halves, at-small, half-pair, operation-is}
 use Rattle.compactor.proofs.Passing.{countAlong, along-snoc, Passing, passing-start, passing-first, passing-off, passing-on, passing-end}
 
 -- ---- a script's records and its steps
@@ -28,30 +30,27 @@ unfolding stepsOf
 length-script b = length-map (listOf stepRecords b) meaning ∙ length-list stepRecords b
 
 module _ (b : List ℕ) (k : ℕ) where
-  abbrev recordAt : StepRecord
-  recordAt = getD (listOf stepRecords b) k (stepRecords .none)
-
-  pub meaning-at : meaning (getD (listOf stepRecords b) k (stepRecords .none)) ≡ stepAt (stepsOf b) k
+  pub meaning-at : meaning (recordAt b k) ≡ stepAt (stepsOf b) k
   unfolding stepsOf meaning
   meaning-at = sym (List·getD-map meaning (listOf stepRecords b) k (stepRecords .none))
 
-  pub meant-at : Meant b → k < length (stepsOf b) → recordOf (meaning recordAt) ≡ recordAt
+  pub meant-at : Meant b → k < length (stepsOf b) → recordOf (meaning (recordAt b k)) ≡ recordAt b k
   unfolding Meant stepsOf
   meant-at m h = all-get (λ r. recordOf (meaning r) ≡ r) (listOf stepRecords b) k (stepRecords .none) m (omega (arith, length-map (listOf stepRecords b) meaning))
 
 -- ---- whether a step takes the last one off, by whether there is one
 
-module _ (b kept : List ℕ) (top count : ℕ) (x : StepRecord) where
+module _ (b kept : List ℕ) (top count : ℕ) (x : Halves) where
   pub off-none : top ≡ 0 → false ≡ takenOff b kept top count x
   unfolding takenOff
-  off-none e = sym (ap (λ (t : Bool). cond t false (recordPair (count - 1) (recordAt b (getD kept (top - 1) 0)) x)) (eq-eqb top 0 e))
+  off-none e = sym (ap (λ (t : Bool). cond t false (halfPair (count - 1) (halvesAt b (getD kept (top - 1) 0)) x)) (eq-eqb top 0 e))
 
   pub off-last : (top ≡ 0 → ⊥) → (last : ℕ) → last ≡ getD kept (top - 1) 0 → (c : ℕ) → c ≡ count - 1
-      → (y : StepRecord) → y ≡ getD (listOf stepRecords b) last (stepRecords .none) → (r : Bool) → r ≡ recordPair c y x → r ≡ takenOff b kept top count x
+      → (y : Halves) → y ≡ halvesAt b last → (r : Bool) → r ≡ halfPair c y x → r ≡ takenOff b kept top count x
   unfolding takenOff
   off-last ne last el c ec y ey r er =
-      er ∙ ap₂ (λ (i : ℕ) (z : StepRecord). recordPair i z x) ec (ey ∙ ap (recordAt b) el)
-      ∙ sym (ap (λ (t : Bool). cond t false (recordPair (count - 1) (recordAt b (getD kept (top - 1) 0)) x)) (ne-eqb top 0 ne))
+      er ∙ ap₂ (λ (i : ℕ) (z : Halves). halfPair i z x) ec (ey ∙ ap (halvesAt b) el)
+      ∙ sym (ap (λ (t : Bool). cond t false (halfPair (count - 1) (halvesAt b (getD kept (top - 1) 0)) x)) (ne-eqb top 0 ne))
 
 -- the count before the last step kept, where it matters: where that is a split, one less
 pair-now : (c along : ℕ) (t x : Step) → along ≡ countAfter c t → stepPair (along - 1) t x ≡ stepPair c t x
@@ -78,7 +77,7 @@ pub record Keeping (size : ℕ) (b : List ℕ) (first : ℕ) (kept : List ℕ) (
   pub passing : Passing first (stepsOf b) (map (stepAt (stepsOf b)) (take top kept)) (drop k (stepsOf b)) count
   pub small : count ≤ first + k
 
-module _ (b : List ℕ) (first size : ℕ) (room : length (stepsOf b) ≤ size) where
+module _ (b : List ℕ) (first size : ℕ) (room : (length (stepsOf b) ≤ mostSteps) × (length (stepsOf b) ≤ size) × (first ≤ mostRecords)) where
   abbrev xs : List Step
   xs = stepsOf b
 
@@ -87,7 +86,10 @@ module _ (b : List ℕ) (first size : ℕ) (room : length (stepsOf b) ≤ size) 
 
   module _ (kept : List ℕ) (top count k : ℕ) (g : Keeping size b first kept top count k) where
     pub keeping-room : top ≤ length kept
-    keeping-room = omega (arith, g .few, g .below, g .long)
+    keeping-room = omega (arith, g .few, g .below, g .long, room .1)
+
+    pub keeping-count : count ≤ mostCount
+    keeping-count = omega (arith, g .small, g .below, room .0, room .2)
 
     pub keeping-end : length b / stepWidth ≤ k → Kept first (stepsOf b) kept top
     keeping-end h = record {
@@ -97,12 +99,18 @@ module _ (b : List ℕ) (first size : ℕ) (room : length (stepsOf b) ≤ size) 
           (subst (λ (l : List Step). Passing first xs (map (stepAt xs) (take top kept)) l count) (drop-of-length-le xs {i = k} (omega (arith, length-script b))) (g .passing));
     }
 
+    -- the last number kept is that of a step
+    pub keeping-last : k < length b / stepWidth → 0 < top → getD kept (top - 1) 0 < length b / stepWidth
+    keeping-last h some =
+        let taken : length (take top kept) ≡ top = omega (arith, length-take top kept, keeping-room) in
+        omega (arith, all-get (λ t. t < k) (take top kept) (top - 1) 0 (g .inside) (omega arith), getD-take top kept (top - 1) 0 (omega arith))
+
     module _ (m : Meant b) (h : k < length b / stepWidth) where
       k-lt : k < length (stepsOf b)
       k-lt = omega (arith, length-script b)
 
       pub keeping-more-room : top < length kept
-      keeping-more-room = omega (arith, g .few, k-lt, g .long)
+      keeping-more-room = omega (arith, g .few, k-lt, g .long, room .1)
 
       next-step : drop k xs ≡ stepAt xs k ∷ drop (suc k) xs
       next-step = drop-cons xs k (dropping 0 0) k-lt
@@ -131,7 +139,7 @@ module _ (b : List ℕ) (first size : ℕ) (room : length (stepsOf b) ≤ size) 
           (subst (λ (l : List Step). Passing first xs l (drop (suc k) xs) (countAfter count (stepAt xs k)))
           (ey ∙ sym (map-append (stepAt xs) (take top kept) (k ∷ [])) ∙ ap (map (stepAt xs)) (sym put)) p)
 
-      module _ (x : StepRecord) (ex : x ≡ getD (listOf stepRecords b) k (stepRecords .none)) where
+      module _ (bytes : (i : ℕ) → getD b i 0 < 256) (x : Halves) (ex : x ≡ halvesAt b k) where
         -- nothing is kept
         module _ (e : top ≡ 0) where
           none-kept : map (stepAt xs) (take top kept) ≡ []
@@ -172,9 +180,11 @@ module _ (b : List ℕ) (first size : ℕ) (room : length (stepsOf b) ≤ size) 
           last-off : takenOff b kept top count x ≡ stepPair (countAlong first before) t (stepAt xs k)
           last-off =
               let z : j ≡ top - 1 = omega arith in
-              sym (off-last b kept top count x (λ q. omega arith) number (ap (λ (i : ℕ). getD kept i 0) z) (count - 1) refl (recordAt b number) refl _ refl)
-              ∙ ap (recordPair (count - 1) (recordAt b number)) ex
-              ∙ record-pair (count - 1) (recordAt b number) (recordAt b k) (meant-at b number m (omega (arith, parts .1 .0, k-lt))) (meant-at b k m k-lt)
+              let inside : number < length b / stepWidth = omega (arith, parts .1 .0) in
+              sym (off-last b kept top count x (λ q. omega arith) number (ap (λ (i : ℕ). getD kept i 0) z) (count - 1) refl (halvesAt b number) refl _ refl)
+              ∙ ap₂ (halfPair (count - 1)) (at-halves b number inside) (ex ∙ at-halves b k h)
+              ∙ half-pair (count - 1) (omega (arith, keeping-count)) (recordAt b number) (recordAt b k) (at-small b number inside bytes) (at-small b k h bytes)
+              (meant-at b number m (omega (arith, parts .1 .0, k-lt))) (meant-at b k m k-lt)
               ∙ ap₂ (stepPair (count - 1)) (meaning-at b number) (meaning-at b k)
               ∙ pair-now (countAlong first before) count t (stepAt xs k) (passed .counts ∙ along-snoc first before t)
 
@@ -212,11 +222,13 @@ module _ (b : List ℕ) (first size : ℕ) (room : length (stepsOf b) ≤ size) 
               go zero z = absurd (false≢true (off-none b kept top count x z ∙ sym eo ∙ e))
               go (suc j) z = omega arith
 
-          pub keeping-more : (top′ : ℕ) → top′ ≡ topAfter off top → (kept′ : List ℕ) → kept′ ≡ keptAfter off kept top k → (c : ℕ) → c ≡ countAfter count (meaning x)
+          pub keeping-more : (top′ : ℕ) → top′ ≡ topAfter off top → (kept′ : List ℕ) → kept′ ≡ keptAfter off kept top k → (c : ℕ) → c ≡ countBy count (operationOf x)
               → Keeping size b first kept′ top′ c (k + 1)
           keeping-more top′ et kept′ ek c ec =
-              let step-is : meaning x ≡ stepAt xs k = ap meaning ex ∙ meaning-at b k in
+              let op-is : operationOf x ≡ recordAt b k .op = ap operationOf (ex ∙ at-halves b k h) ∙ operation-is (recordAt b k) (at-small b k h bytes) in
+              let step-is : countBy count (operationOf x) ≡ countAfter count (stepAt xs k) =
+              ap (countBy count) op-is ∙ count-of count (recordAt b k) ∙ ap (countAfter count) (meaning-at b k) in
               subst (λ (i : ℕ). Keeping size b first kept′ i c (k + 1)) (sym et)
               (subst (λ (l : List ℕ). Keeping size b first l (topAfter off top) c (k + 1)) (sym ek)
               (subst (λ (i : ℕ). Keeping size b first (keptAfter off kept top k) (topAfter off top) i (k + 1))
-              (sym (ec ∙ ap (countAfter count) step-is)) (by-off off eo)))
+              (sym (ec ∙ step-is)) (by-off off eo)))

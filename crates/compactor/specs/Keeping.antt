@@ -1,26 +1,52 @@
 -- Inside: what the functions within the call promise one another. None of it is needed to read the call.
 -- Assumes nothing.
 use mathlib.Core.Path.{_≡_}
-use mathlib.Core.Bool.{Bool, true, false, cond}
-use mathlib.Core.List.{List, map}
-use Prim.Native.Nat.{ℕ, _+_, _-_, _≤_, _<_}
-use lib.Dec.{eqb, ltb}
+use mathlib.Core.Bool.{Bool, true, false, cond, _&&_}
+use mathlib.Core.List.{List, [], _∷_, map}
+use Prim.Native.Nat.{ℕ, _+_, _-_, _*_, _/_, _%_, _≤_, _<_}
+use lib.Dec.{eqb, leb}
 use lib.ListN.{length, getD, set, take}
 use Rattle.bits.specs.Sums.{All}
-use Rattle.records.specs.Records.{listOf, written}
+use Rattle.records.specs.Numbers.{byteSize}
+use Rattle.records.specs.Fields.{byFields}
+use Rattle.records.specs.Records.{Codec, listOf, written}
 use Rattle.cube.specs.Lists.{mostRecords}
 use Rattle.steps.specs.declared.StepRecord.{StepRecord}
-use Rattle.steps.specs.Steps.{Step, drop, join, meaning}
-use Rattle.script.specs.Scripts.{stepRecords, mostSteps, narrowStep, recordOf, stepsOf}
-use Rattle.compactor.specs.Compact.{equalRecords, compacted}
+use Rattle.steps.specs.Steps.{Step, drop, meaning, meaningBy}
+use Rattle.script.specs.Scripts.{stepRecords, mostSteps, placeSize, recordOf, stepsOf}
+use Rattle.compactor.specs.declared.Halves.{Halves}
+use Rattle.compactor.specs.Compact.{countAfter, compacted}
 
 -- the most that a count along can be
 abbrev pub mostCount : ℕ
 mostCount = mostRecords + mostSteps
 
--- a pair, by the records of its steps
-unfoldable pub recordPair : ℕ → StepRecord → StepRecord → Bool
-recordPair count x y = cond (ltb (x .op) 3) false (cond (ltb 3 (x .op)) (equalRecords x y) (equalRecords (recordOf (join (x .i) count)) y))
+-- the bytes of a step, as two numbers of four bytes
+abbrev pub halfRecords : Codec Halves
+halfRecords = byFields (4 ∷ 4 ∷ []) (λ h. h .low ∷ h .high ∷ []) (λ xs. record { low = getD xs 0 0; high = getD xs 1 0 })
+
+-- the record of a step of a script, and its halves
+abbrev pub recordAt : List ℕ → ℕ → StepRecord
+recordAt b k = getD (listOf stepRecords b) k (stepRecords .none)
+
+abbrev pub halvesAt : List ℕ → ℕ → Halves
+halvesAt b k = getD (listOf halfRecords b) k (halfRecords .none)
+
+-- the operation is the lowest byte
+abbrev pub operationOf : Halves → ℕ
+operationOf x = x .low % byteSize
+
+-- the step that undoes x, where one does: of a split (operation 3) the join (2) of its place with this one; else x itself
+unfoldable pub undoing : ℕ → Halves → Halves
+undoing count x = cond (eqb (operationOf x) 3) (record { low = x .low / placeSize * placeSize + 2; high = count }) x
+
+-- a pair, by the halves of its steps
+unfoldable pub halfPair : ℕ → Halves → Halves → Bool
+halfPair count x y = leb 3 (operationOf x) && (eqb (undoing count x .low) (y .low) && eqb (undoing count x .high) (y .high))
+
+-- the count after a step, by its operation
+unfoldable pub countBy : ℕ → ℕ → ℕ
+countBy count op = countAfter count (meaningBy op (stepRecords .none))
 
 -- each record of a script is that of its step: it has nothing in fields that its operation does not use
 unfoldable pub Meant : List ℕ → Type 0
@@ -28,10 +54,9 @@ Meant b = All (λ r. recordOf (meaning r) ≡ r) (listOf stepRecords b)
 
 -- ---- the stack: the numbers of the steps that are kept are the first `top` of `kept`
 
--- the record x undoes the last step that is kept, after which there are `count` records: before it there was one less, where it is a split
-unfoldable pub takenOff : List ℕ → List ℕ → ℕ → ℕ → StepRecord → Bool
-takenOff script kept top count x =
-    cond (eqb top 0) false (recordPair (count - 1) (getD (listOf stepRecords script) (getD kept (top - 1) 0) (stepRecords .none)) x)
+-- the step x undoes the last step that is kept, after which there are `count` records: before it there was one less, where it is a split
+unfoldable pub takenOff : List ℕ → List ℕ → ℕ → ℕ → Halves → Bool
+takenOff script kept top count x = cond (eqb top 0) false (halfPair (count - 1) (halvesAt script (getD kept (top - 1) 0)) x)
 
 abbrev pub topAfter : Bool → ℕ → ℕ
 topAfter true top = top - 1
@@ -52,10 +77,6 @@ pub record Kept (count : ℕ) (xs : List Step) (kept : List ℕ) (top : ℕ) : T
   pub left : map (stepAt xs) (take top kept) ≡ compacted count xs
 
 -- ---- what is written
-
--- the record of a step of the script, its places cut to two bytes
-abbrev pub readStep : List ℕ → ℕ → StepRecord
-readStep script k = narrowStep (getD (listOf stepRecords script) k (stepRecords .none))
 
 -- the compacted script is written: the answer r, and the output after it
 pub record Compacting (count : ℕ) (script out out′ : List ℕ) (r : ℕ) : Type 0 where

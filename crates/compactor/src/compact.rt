@@ -1,31 +1,33 @@
 // The call: the steps that are left, written to the front of the output.
+use crate::bytes;
 use crate::keep;
 use cube::list;
 use records::Counted;
 use records::Refusal;
 use script::check;
-use script::record;
 ghost use mathlib.Core.Path.{_≡_};
 ghost use mathlib.Core.List.{map};
-ghost use Prim.Native.Nat.{_≤_};
+ghost use Prim.Native.Nat.{_/_, _<_, _≤_};
 ghost use lib.ListN.{length, take};
+ghost use Rattle.bits.specs.Sums.{All};
 ghost use Rattle.records.specs.Records.{written};
 ghost use Rattle.records.specs.Answers.{Accepts, counted};
 ghost use Rattle.cube.specs.Lists.{mostRecords};
-ghost use Rattle.script.specs.Scripts.{stepRecords};
+ghost use Rattle.script.specs.Scripts.{stepRecords, stepWidth};
 ghost use Rattle.script.specs.Calls.{checkScript};
 ghost use Rattle.compactor.specs.Calls.{compactOutcome, compactAfter};
-ghost use Rattle.compactor.specs.Keeping.{readStep, Compacting};
+ghost use Rattle.compactor.specs.Keeping.{recordAt, Compacting};
 
-// The records of the top steps that are kept, at the front of out.
+// The records of the top steps that are kept, at the front of an output that has room for them.
 fn put_kept(script: &[u8], kept: &[u16], top: usize, out: &mut [u8])
-    requires { ⌜ top ≤ length (now kept) ⌝ }
-    ensures { λ _. ⌜ now (out .exit) ≡ written stepRecords 0 (map (readStep (now (script .entry))) (take top (now (kept .entry)))) (now (out .entry)) ⌝ }
+    requires { ⌜ (top ≤ length (now kept)) × (top ≤ length (now out) / stepWidth) ⌝ }
+    requires { ⌜ All (λ k. k < length (now script) / stepWidth) (take top (now kept)) ⌝ }
+    ensures { λ _. ⌜ now (out .exit) ≡ written stepRecords 0 (map (recordAt (now (script .entry))) (take top (now (kept .entry)))) (now (out .entry)) ⌝ }
 {
     let mut t = 0;
     while t < top {
         let k = kept[t] as usize;
-        record::put_step(out, t, record::step_at(script, k));
+        bytes::put_halves(out, t, bytes::halves_at(script, k));
         t += 1;
     }
 }
@@ -33,7 +35,7 @@ fn put_kept(script: &[u8], kept: &[u16], top: usize, out: &mut [u8])
 // The compacted script at the front of an output that has room for the given one: the number of its steps.
 fn compact_checked(n: usize, count: usize, script: &[u8], out: &mut [u8]) -> usize
     requires { ⌜ Accepts (checkScript n (now script)) ⌝ }
-    requires { ⌜ count ≤ mostRecords ⌝ }
+    requires { ⌜ (count ≤ mostRecords) × (length (now script) ≤ length (now out)) ⌝ }
     ensures { λ r. ⌜ Compacting count (now (script .entry)) (now (out .entry)) (now (out .exit)) r ⌝ }
 {
     let mut kept = [0u16; check::MOST_STEPS];

@@ -1,42 +1,44 @@
 // Two steps in a row that undo each other, and the count along.
-use steps::StepRecord;
+use crate::Halves;
 ghost use mathlib.Core.Path.{_≡_};
 ghost use Prim.Native.Nat.{_-_, _≤_};
-ghost use Rattle.steps.specs.Steps.{meaning};
-ghost use Rattle.compactor.specs.Compact.{equalRecords, countAfter};
-ghost use Rattle.compactor.specs.Keeping.{recordPair, mostCount};
+ghost use Rattle.compactor.specs.Keeping.{mostCount, operationOf, undoing, halfPair, countBy};
 
-// Whether two records are equal in every field.
-fn equal(x: StepRecord, y: StepRecord) -> bool
-    ensures { λ r. ⌜ r ≡ equalRecords x y ⌝ }
+// How many numbers one byte and two bytes hold.
+const BYTE: u32 = 256;
+
+const TWO_BYTES: u32 = 65536;
+
+// The operation of a step.
+fn operation(x: Halves) -> u32
+    ensures { λ r. ⌜ r ≡ operationOf x ⌝ }
 {
-    let op = x.op == y.op;
-    let v = x.v == y.v;
-    let i = x.i == y.i;
-    let j = x.j == y.j;
-    let literal = x.literal == y.literal;
-    op & (v & (i & (j & (literal & (x.zero == y.zero)))))
+    x.low % BYTE
 }
 
-// Whether y undoes x, a step before which there are so many records.
-pub(crate) fn is_pair(count: usize, x: StepRecord, y: StepRecord) -> bool
-    ensures { λ r. ⌜ r ≡ recordPair count x y ⌝ }
+// The step that undoes x, before which there are so many records, where one does: of a split the join of its place with the place just appended, of others x itself.
+fn undoing(count: usize, x: Halves) -> Halves
+    requires { ⌜ count ≤ mostCount ⌝ }
+    ensures { λ r. ⌜ r ≡ undoing count x ⌝ }
 {
-    if x.op < 3 {
-        return false;
+    if operation(x) != 3 {
+        return x;
     }
-    if 3 < x.op {
-        return equal(x, y);
+    Halves {
+        low: x.low / TWO_BYTES * TWO_BYTES + 2,
+        high: count as u32,
     }
-    let join = StepRecord {
-        op: 2,
-        v: 0,
-        i: x.i,
-        j: count,
-        literal: 0,
-        zero: 0,
-    };
-    equal(join, y)
+}
+
+// Whether y undoes x, before which there are so many records.
+pub(crate) fn is_pair(count: usize, x: Halves, y: Halves) -> bool
+    requires { ⌜ count ≤ mostCount ⌝ }
+    ensures { λ r. ⌜ r ≡ halfPair count x y ⌝ }
+{
+    let u = undoing(count, x);
+    let low = u.low == y.low;
+    let high = u.high == y.high;
+    (3 <= operation(x)) & (low & high)
 }
 
 // The count less some, and never below zero.
@@ -50,11 +52,11 @@ pub(crate) fn less(count: usize, taken: usize) -> usize
 }
 
 // The count after a step.
-pub(crate) fn count_after(count: usize, x: StepRecord) -> usize
+pub(crate) fn count_after(count: usize, x: Halves) -> usize
     requires { ⌜ count ≤ mostCount ⌝ }
-    ensures { λ r. ⌜ r ≡ countAfter count (meaning x) ⌝ }
+    ensures { λ r. ⌜ r ≡ countBy count (operationOf x) ⌝ }
 {
-    let op = x.op;
+    let op = operation(x);
     if op < 2 {
         return less(count, 2);
     }

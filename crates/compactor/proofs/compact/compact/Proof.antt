@@ -46,7 +46,7 @@ returns-3 c =
     output-short _ _ _ _ (tests t .before .if1 .left) (tests t .if2 .left) (told t) (c .before .if3 .taken) _ (c .new3 .ensures)
 
 compact-checked-requires : tie.Need-compact-checked-requires
-compact-checked-requires c κs = let t = c .before .before in (told t, tests t .if2 .left)
+compact-checked-requires c κs = let t = c .before .before in (told t, (tests t .if2 .left, c .before .if3 .left))
 
 returns-4 : tie.Need-returns-4
 returns-4 c =

@@ -1,9 +1,8 @@
 -- `compact::put_kept` meets its contract: the loop keeps `Putting`.
 -- Assumes nothing.
-use mathlib.Core.Path.{refl}
 use Prim.Native.Nat.{_-_}
 use native.Mathlib.Omega.{arith}
-use Rattle.compactor.proofs.Calls.{Putting, putting-none, putting-more, putting-end}
+use Rattle.compactor.proofs.Calls.{Putting, putting-none, putting-end, putting-room, putting-inside, putting-more}
 use borrow.Author.Needs.{needs}
 use Rattle.compactor.proofs.compact.put_kept.Statement.{statement}
 use Rattle.compactor.proofs.compact.put_kept.Tie as tie
@@ -26,11 +25,17 @@ shared-slice-read-k c = search needs
 cast-k : tie.Need-cast-k Inv-loop μ-loop
 cast-k c = record { fits = omega (arith, c .shared-slice-known3 .given (c .before .before .loop .t)) }
 
-step-at-requires : tie.Need-step-at-requires Inv-loop μ-loop
-step-at-requires c κs = search needs
+halves-at-requires : tie.Need-halves-at-requires Inv-loop μ-loop
+halves-at-requires c κs =
+    let l = c .before .before .before in
+    let s = l .before .before .before .before in
+    putting-inside _ _ _ _ _ _ (l .loop .inv) (s .pre .0) (s .pre .1) (c .before .before .loop-test .taken)
 
-put-step-requires : tie.Need-put-step-requires Inv-loop μ-loop
-put-step-requires c κs = search needs
+put-halves-requires : tie.Need-put-halves-requires Inv-loop μ-loop
+put-halves-requires c κs =
+    let l = c .before .before .before .before in
+    let s = l .before .before .before .before in
+    putting-room _ _ _ _ _ _ (l .loop .inv) (s .pre .0) (s .pre .1) (c .before .before .before .loop-test .taken)
 
 add-t : tie.Need-add-t Inv-loop μ-loop
 add-t c = search needs
@@ -42,7 +47,10 @@ loop-again : tie.Need-loop-again Inv-loop μ-loop
 loop-again c =
     let x = c .before .before .before in
     let l = x .before .before .before .before in
-    putting-more _ _ _ _ _ _ (l .loop .inv) (l .before .before .before .before .pre) (x .before .before .before .loop-test .taken) _ refl _ (x .step-at .ensures) _ (c .before .before .put-step .ensures)
+    let known = l .before .before .before in
+    let s = known .before in
+    putting-more _ _ _ _ _ _ (l .loop .inv) (s .pre .0) (s .pre .1) (x .before .before .before .loop-test .taken) (λ i. omega (arith, known .shared-slice-known .given i)) _ (x .halves-at .ensures) _
+    (c .before .before .put-halves .ensures)
 
 same-length : tie.Need-same-length Inv-loop μ-loop
 same-length c = search needs
@@ -60,8 +68,8 @@ put-kept-spec =
     mul-k
     shared-slice-read-k
     cast-k
-    step-at-requires
-    put-step-requires
+    halves-at-requires
+    put-halves-requires
     add-t
     loop-less
     loop-again

@@ -25,8 +25,8 @@ cast-last c = let a = c .before .before .before .before .args in record { fits =
 less-requires : tie.Need-less-requires
 less-requires c κs = search needs
 
-step-at-requires : tie.Need-step-at-requires
-step-at-requires c κs = search needs
+halves-at-requires : tie.Need-halves-at-requires
+halves-at-requires c κs = let s = c .before .before .before .before .before in s .pre .1 (omega (arith, c .before .before .if1 .left))
 
 is-pair-requires : tie.Need-is-pair-requires
 is-pair-requires c κs = search needs
@@ -44,6 +44,6 @@ takes-off-spec =
     shared-slice-read-last
     cast-last
     less-requires
-    step-at-requires
+    halves-at-requires
     is-pair-requires
     returns-2)

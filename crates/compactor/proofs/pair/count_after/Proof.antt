@@ -5,6 +5,9 @@ use borrow.Author.Needs.{needs}
 use Rattle.compactor.proofs.pair.count_after.Statement.{statement}
 use Rattle.compactor.proofs.pair.count_after.Tie as tie
 
+operation-requires : tie.Need-operation-requires
+operation-requires c κs = search needs
+
 less-requires : tie.Need-less-requires
 less-requires c κs = search needs
 
@@ -29,4 +32,12 @@ returns-4 c = search count-same
 pub count-after-spec : {M : Type 1} → statement M
 count-after-spec =
     tie.close
-    (tie.spec less-requires returns less-requires-2 returns-2 add-result returns-3 returns-4)
+    (tie.spec
+    operation-requires
+    less-requires
+    returns
+    less-requires-2
+    returns-2
+    add-result
+    returns-3
+    returns-4)
