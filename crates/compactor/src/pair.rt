@@ -24,9 +24,11 @@ fn undoing(count: usize, x: Halves) -> Halves
     if operation(x) != 3 {
         return x;
     }
+    let place = x.low / TWO_BYTES;
+    let appended = count as u32;
     Halves {
-        low: x.low / TWO_BYTES * TWO_BYTES + 2,
-        high: count as u32,
+        low: place * TWO_BYTES + 2,
+        high: appended,
     }
 }
 

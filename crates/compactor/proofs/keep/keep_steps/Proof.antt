@@ -44,7 +44,8 @@ keep-requires c κs =
 count-after-requires : tie.Need-count-after-requires Inv-loop μ-loop
 count-after-requires c κs =
     let l = c .before .before .before .before .before .before .before .before in
-    keeping-count _ _ _ (l .before .before .before .pre .1) _ _ _ _ (l .loop .inv)
+    let s = l .before .before .before in
+    omega (arith, s .pre .1 .2, keeping-count _ _ _ (s .pre .1) _ _ _ _ (l .loop .inv))
 
 add-k : tie.Need-add-k Inv-loop μ-loop
 add-k c = search needs

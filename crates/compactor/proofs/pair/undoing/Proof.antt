@@ -11,17 +11,17 @@ operation-requires c κs = search needs
 returns : tie.Need-returns
 returns c = search undoing-itself
 
+cast-appended : tie.Need-cast-appended
+cast-appended c = search needs
+
 mul-t5 : tie.Need-mul-t5
 mul-t5 c = search needs
 
-add-t6 : tie.Need-add-t6
-add-t6 c = search needs
-
-cast-t7 : tie.Need-cast-t7
-cast-t7 c = search needs
+add-t7 : tie.Need-add-t7
+add-t7 c = search needs
 
 returns-2 : tie.Need-returns-2
 returns-2 c = search undoing-join
 
 pub undoing-spec : {M : Type 1} → statement M
-undoing-spec = tie.close (tie.spec operation-requires returns mul-t5 add-t6 cast-t7 returns-2)
+undoing-spec = tie.close (tie.spec operation-requires returns cast-appended mul-t5 add-t7 returns-2)
