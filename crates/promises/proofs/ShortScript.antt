@@ -6,13 +6,13 @@
 use mathlib.Core.Path.{_≡_, refl, sym, ap, _∙_, subst}
 use mathlib.Core.Bool.{true}
 use mathlib.Core.List.{List, [], _∷_, _++_, map, Sublistᴰ}
-use Prim.Native.Nat.{ℕ, _*_, _≤_}
+use Prim.Native.Nat.{ℕ, _*_, _≤_, _<_}
 use native.Mathlib.Omega.{arith}
 use borrow.Author.Tests.{le-leb}
 use lib.ListN.{length, getD, drop, replicate, length-take}
 use Rattle.bits.specs.Bits.{withBit}
 use Rattle.bits.specs.Below.{those, listBelow}
-use Rattle.bits.specs.Sums.{firstBad}
+use Rattle.bits.specs.Sums.{All, firstBad}
 use Rattle.bits.proofs.Sums.{map-back}
 use Rattle.records.specs.Numbers.{bytesOf, numberAt}
 use Rattle.records.specs.Places.{removeAt}
@@ -30,12 +30,12 @@ use Rattle.script.specs.Run.{ended, stepsFrom, undoBy}
 use Rattle.script.specs.Run as running
 use Rattle.script.specs.Scripts.{stepRecords, stepWidth, fits, recordOf, stepsOf}
 use Rattle.script.specs.Calls.{checkScript, checkRun, runOf, runOutcome, runAfter}
-use Rattle.script.proofs.Scripts.{scriptBytes, script-read, script-fits, AcceptedScript, script-accepts, record-meaning, records-of-bytes, steps-pass, steps-front, steps-rest}
+use Rattle.script.proofs.Scripts.{scriptBytes, script-read, script-fits, script-written, AcceptedScript, script-accepts, record-meaning, records-of-bytes, steps-pass, steps-front, steps-rest}
 use Rattle.compactor.specs.Compact.{equalRecords, stepPair, withoutFirst, NoPair, again, compacted}
 use Rattle.compactor.specs.Calls.{compactOutcome, compactAfter}
 use Rattle.compactor.proofs.Pairs.{Pair}
 use Rattle.compactor.proofs.Pairs as pairs
-use Rattle.compactor.proofs.Removing.{none-left, compacted-subsequence, compacted-twice, all-subsequence, length-subsequence, map-subsequence}
+use Rattle.compactor.proofs.Removing.{none-left, compacted-none, compacted-subsequence, compacted-twice, all-subsequence, length-subsequence, map-subsequence}
 use Rattle.compactor.proofs.Shorter.{EndsLower, compacted-run}
 use Rattle.compactor.proofs.Stack.{length-script}
 use Rattle.compactor.proofs.Calls.{AcceptedCompact, compact-accepts}
@@ -126,6 +126,10 @@ module _ (n count : ℕ) (script out : List ℕ) (left : ℕ) (out′ : List ℕ
       subst (λ (l : List _). Sublistᴰ l (listOf stepRecords script)) (sym (ap (listOf stepRecords) bytes ∙ records-of-bytes (map recordOf short)))
       (subst (Sublistᴰ (map recordOf short)) (map-back _ meaning recordOf (record-meaning n) (listOf stepRecords script) (is .each))
       (map-subsequence recordOf (compacted-subsequence count (stepsOf script))))
+
+  -- A script in which there is no pair is written as it stands.
+  pub no-pair-same : All (λ x. x < 256) script → NoPair count (stepsOf script) → writtenIn left out′ ≡ script
+  no-pair-same small none = bytes ∙ ap scriptBytes (compacted-none count (stepsOf script) none) ∙ script-written n script small (is .whole) (is .each)
 
   -- Compacting twice is the same as once: a second call on what the first one wrote, in any output with room for it, is not refused; it answers the same number,
   -- and the same bytes stand at the front of its output.
