@@ -1,6 +1,7 @@
 /* Druthmoy: cube lists, scripts, fixed-polarity forms, and settling a map.
  *
- * A number of variables n, an assignment a and a polarity p are uint64_t; bit k stands for variable k.
+ * A number of variables n, a count of records, an assignment a and a polarity p are uint64_t; bit k of a and of p stands for
+ * variable k.
  *
  * A list is cube records end to end, 8 bytes each: four bytes "seen", four bytes "value", little-endian. Seen is set
  * where a literal stands; value holds 0 for the complemented literal, 1 for the plain one. At most 4,096 records.
@@ -20,8 +21,8 @@
  * A truth vector is 2^n bytes, each 0 or 1, indexed by assignment; coefficients are 2^n bytes, each 0 or 1, indexed by
  * the set of variables. A set bit k of a polarity means that variable k appears only complemented.
  *
- * The limit of n is 32 for check, value, reasons, run, settle, write script and narrow from wide, 16 for wide from narrow,
- * and 8 for the other calls.
+ * The limit of n is 32 for check, value, reasons, run, settle, write script, compact and narrow from wide, 16 for wide from
+ * narrow, and 8 for the other calls.
  *
  * A buffer is passed as a pointer and a length in bytes. Pointers are not null, even where a length is 0, need no
  * alignment (but answer, which is aligned as uint64_t is), and no buffer that a call writes overlaps another argument.
@@ -40,7 +41,7 @@
  *
  *     DM_N                1   n above the call's limit                                    place 0
  *     DM_LIST_LENGTH      2   list length not a multiple of 8 (of 4 for an old list)      place 0
- *     DM_LIST_RECORDS     3   more than 4,096 records                                     place 0
+ *     DM_LIST_RECORDS     3   more than 4,096 records, or a count above 4,096             place 0
  *     DM_RECORD           4   a value bit outside seen, or a seen bit at or above n       the lowest such record
  *     DM_BUFFER           5   capacity or length of a written buffer too small            place 0
  *     DM_ASSIGNMENT       6   assignment has a bit at or above n                          place 0
@@ -207,6 +208,21 @@ void dm_write_script(uint64_t n,
                      uint8_t *work, size_t work_length,
                      uint8_t *script, size_t script_length,
                      uint64_t *answer);
+
+/* Compacts a script for lists of a given count. A pair is two equal L steps or two equal turns in a row, or a split
+ * followed at once by the join of i, its place, and j, the place just appended, named in that order. That place is the count
+ * before the split: the given one, less two for each drop and one for each join, plus one for each split, and never below
+ * zero. The first pair from the front is removed; then again from the front, until there is none. answer[2]: the number of
+ * steps left.
+ * Writes the steps left, the first 8 * number bytes of out, and no other byte; a refusal writes none.
+ * Where dm_run does not refuse the given script on a list of that count, it does not refuse the steps left in the same work
+ * buffer, and leaves the same bytes there, with a peak no higher; dm_settle likewise leaves the same bytes in out.
+ * Refuses, in this order: 1, 3 (count above 4,096), 7, 8, 9, 5 (out_length below script_length). */
+void dm_compact(uint64_t n,
+                uint64_t count,
+                const uint8_t *script, size_t script_length,
+                uint8_t *out, size_t out_length,
+                uint64_t *answer);
 
 /* An old list as a list: the same cubes at the same places. answer[2]: their number.
  * Writes the first 8 * count bytes of out, and no other byte; a refusal writes none.

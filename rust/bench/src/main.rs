@@ -2,9 +2,12 @@
 //! one, plain Rust as one would write it first.
 //!
 //! Prints a table in Markdown: medians of a call, and the library's over plain Rust's with the same algorithm. Before they are measured, all are
-//! called once, and their answers and buffers must be equal. A second table has the calls of write script on long lists by passes over all pairs.
+//! called once, and their answers and buffers must be equal. A second table has the calls of write script on long lists by passes over all pairs, a
+//! third what pairs cost in a long script that is compacted.
 
+mod compactor;
 mod easy_lists;
+mod idle_scripts;
 mod inputs;
 mod measure;
 mod plain;
@@ -39,8 +42,10 @@ fn main() {
     scripts(&mut highest);
     settling(&mut highest);
     writer::rows(&mut highest);
+    compactor::rows(&mut highest);
     println!("\nHighest ratio: {highest:.2}");
     writer::passes();
+    compactor::beside_no_pair();
 }
 
 fn lists(highest: &mut f64) {

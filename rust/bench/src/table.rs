@@ -21,7 +21,7 @@ pub enum Straightforward<F> {
 
 pub const SAME_WAY: Straightforward<Call> = Straightforward::Same;
 
-type Call = fn(&mut [u8], &mut [u8]) -> Words;
+pub type Call = fn(&mut [u8], &mut [u8]) -> Words;
 
 /// Prints one line of the table. All functions get a work and an output buffer of the greatest useful length.
 pub fn row(

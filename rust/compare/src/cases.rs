@@ -3,43 +3,20 @@
 //! Each case draws the refusals that it would like to meet; which of them the call answers, document 01's order decides.
 
 use crate::broken::AT_A_STEP;
+use crate::damage::{Faults, damaged_script, list_bytes};
 use crate::differ::{Call, Case};
+use crate::idle_scripts;
 use crate::near_lists;
 use crate::random::Random;
 use crate::scripts;
+use crate::undoings::with_undoings;
 use model::cube::{Cube, NARROW_RECORD, PLACE, RECORD, encoded_list, encoded_narrow_list};
 use model::polarity::coefficients;
-use model::refusal::ORDERS;
 use model::script::{self, STEP, STEPS, Step, encoded_script};
 
 const VARIABLES: usize = 32;
 const NARROW_VARIABLES: usize = 16;
 const RECORDS: usize = 4096;
-
-/// The refusal numbers that a case is damaged for; none in half of the cases.
-struct Faults(Vec<u64>);
-
-impl Faults {
-    fn draw(random: &mut Random, call: Call) -> Faults {
-        let numbers = ORDERS[call as usize].1;
-        let some = if random.one_in(2) {
-            0
-        } else if random.one_in(4) {
-            2
-        } else {
-            1
-        };
-        Faults((0..some).map(|_| random.pick(numbers)).collect())
-    }
-
-    fn has(&self, number: u64) -> bool {
-        self.0.contains(&number)
-    }
-
-    fn at_a_step(&self) -> Option<u64> {
-        self.0.iter().copied().find(|number| AT_A_STEP.contains(number))
-    }
-}
 
 pub fn case(random: &mut Random, call: Call) -> Case {
     let faults = &Faults::draw(random, call);
@@ -48,6 +25,7 @@ pub fn case(random: &mut Random, call: Call) -> Case {
         Call::Coefficients | Call::Vector | Call::WriteForm | Call::BestPolarity => bits_case(random, faults, call),
         Call::Run | Call::Settle => script_case(random, faults, call),
         Call::WriteScript => writer_case(random, faults),
+        Call::Compact => compact_case(random, faults),
         Call::WideFromNarrow | Call::NarrowFromWide => converter_case(random, faults, call),
     }
 }
@@ -138,6 +116,16 @@ pub fn unsplit_case(random: &mut Random, call: Call) -> Case {
     Case { script: encoded_script(&steps), ..case }
 }
 
+/// A list and a script that pass 1 to 9, with steps in it that do and undo; in a quarter of the cases a refusal is looked for.
+pub fn undoing_case(random: &mut Random, call: Call) -> Case {
+    let mistake = if random.one_in(4) { Some(random.pick(&AT_A_STEP)) } else { None };
+    let case = script_case(random, &Faults(mistake.into_iter().collect()), call);
+    let (n, capacity) = (case.n as usize, (case.work.len() / RECORD).min(RECORDS));
+    let steps: Vec<Step> = case.script.chunks(STEP).filter_map(|bytes| script::decoded(n, bytes)).collect();
+    let steps = with_undoings(random, n, &case.cubes(), capacity, &steps[..steps.len().min(STEPS)]);
+    Case { script: encoded_script(&steps), ..case }
+}
+
 fn writer_case(random: &mut Random, faults: &Faults) -> Case {
     let width = if random.one_in(2) { few_variables(random) } else { many_variables(random, VARIABLES) };
     let n = variables(random, faults, width, VARIABLES);
@@ -151,6 +139,22 @@ fn writer_case(random: &mut Random, faults: &Faults) -> Case {
     let script = lent(random, STEP * cubes.len().min(STEPS), script_too_short);
     let input = list_bytes(random, faults, width, RECORD, encoded_list(&cubes));
     Case { call: Call::WriteScript, n, input, number: 0, script, work, out: vec![] }
+}
+
+fn compact_case(random: &mut Random, faults: &Faults) -> Case {
+    let width = many_variables(random, VARIABLES);
+    let n = variables(random, faults, width, VARIABLES);
+    let count = idle_scripts::count(random);
+    let far = [4097, 4098, 8192, 65536, 65537, 1 << 32, 1 << 63, u64::MAX];
+    let number = if faults.has(3) { random.pick(&far) } else { count as u64 };
+    let length = match faults.has(8) {
+        true => STEPS + random.between(1, 3),
+        false => idle_scripts::length(random, usize::from(faults.has(5))),
+    };
+    let steps = encoded_script(&idle_scripts::script(random, width, count, length));
+    let script = damaged_script(random, faults, width, steps);
+    let out = lent(random, script.len(), faults.has(5));
+    Case { call: Call::Compact, n, input: vec![], number, script, work: vec![], out }
 }
 
 fn converter_case(random: &mut Random, faults: &Faults, call: Call) -> Case {
@@ -247,45 +251,6 @@ fn change(random: &mut Random, cube: &mut Cube, apart: usize) {
     }
 }
 
-/// The bytes of a list whose records have `record` bytes, damaged.
-fn list_bytes(random: &mut Random, faults: &Faults, width: usize, record: usize, good: Vec<u8>) -> Vec<u8> {
-    let mut bytes = good;
-    if faults.has(3) {
-        let records = RECORDS + random.between(1, 3);
-        bytes = random.bytes(record * records);
-    }
-    if faults.has(4) {
-        for _ in 0..random.between(1, 3) {
-            let place = random.below(bytes.len() / record);
-            spoil(random, width, &mut bytes[record * place..][..record]);
-        }
-    }
-    if faults.has(2) {
-        if bytes.is_empty() || random.one_in(2) {
-            let extra = random.between(1, record - 1);
-            bytes.extend(random.bytes(extra));
-        } else {
-            bytes.truncate(bytes.len() - random.between(1, record - 1));
-        }
-    }
-    bytes
-}
-
-/// Makes a record bad: a value bit outside seen, or a seen bit at or above the number of variables.
-fn spoil(random: &mut Random, width: usize, record: &mut [u8]) {
-    let bits = 4 * record.len();
-    let outside = width == bits || random.one_in(2);
-    let k = if outside { random.below(bits) } else { random.between(width, bits - 1) };
-    let (byte, bit) = (k / 8, 1 << (k % 8));
-    let (seen, value) = record.split_at_mut(record.len() / 2);
-    if outside {
-        seen[byte] &= !bit;
-        value[byte] |= bit;
-    } else {
-        seen[byte] |= bit;
-    }
-}
-
 fn script_bytes(random: &mut Random, faults: &Faults, width: usize, cubes: &[Cube], capacity: usize) -> Vec<u8> {
     let length = match random.below(100) {
         0 => STEPS - if random.one_in(2) { 0 } else { random.below(800) },
@@ -295,7 +260,7 @@ fn script_bytes(random: &mut Random, faults: &Faults, width: usize, cubes: &[Cub
     };
     // Room to fill the buffer up, where a split is to find it full.
     let length = if faults.has(13) { length.max((capacity - cubes.len()).min(40) + 1) } else { length };
-    let mut bytes = if faults.has(8) {
+    let bytes = if faults.has(8) {
         let steps = STEPS + random.between(1, 3);
         random.bytes(STEP * steps)
     } else {
@@ -304,34 +269,7 @@ fn script_bytes(random: &mut Random, faults: &Faults, width: usize, cubes: &[Cub
         let mistake = faults.at_a_step().or(before_9.filter(|_| random.one_in(2)));
         encoded_script(&scripts::script(random, width, cubes, capacity, length, mistake))
     };
-    if faults.has(9) {
-        let only_the_last = bytes.is_empty() || bytes.len() < STEP * STEPS && random.one_in(2);
-        if only_the_last {
-            bytes.extend([1, 0, 0, 0, 1, 0, 0, 0]);
-        }
-        let steps = bytes.len() / STEP;
-        for _ in 0..random.between(1, 2) {
-            let place = if only_the_last { steps - 1 } else { random.below(steps) };
-            spoil_step(random, width, &mut bytes[STEP * place..][..STEP]);
-        }
-    }
-    if faults.has(7) {
-        let extra = random.between(1, 7);
-        bytes.extend(random.bytes(extra));
-    }
-    bytes
-}
-
-/// Changes one byte of a step so that it breaks rule 9.
-fn spoil_step(random: &mut Random, width: usize, step: &mut [u8]) {
-    loop {
-        let mut spoiled = step.to_vec();
-        let any = random.next() as u8;
-        spoiled[random.below(STEP)] = random.pick(&[0, 1, 2, 6, width as u8, width as u8 + 1, 255, any]);
-        if script::decoded(width, &spoiled).is_none() {
-            return step.copy_from_slice(&spoiled);
-        }
-    }
+    damaged_script(random, faults, width, bytes)
 }
 
 /// Bits by chance, few ones, or the coefficients of a function of few variables.

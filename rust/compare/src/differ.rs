@@ -1,5 +1,6 @@
 //! One call of the library beside the same call of the model: answers, and every byte of every buffer.
 
+use crate::compacted::once_more;
 use crate::replays::replay;
 use druthmoy::{Fixed, Refusal, Run, Settled, Value, Written, words};
 use model::calls;
@@ -20,12 +21,13 @@ pub enum Call {
     Run,
     Settle,
     WriteScript,
+    Compact,
     WideFromNarrow,
     NarrowFromWide,
 }
 
 impl Call {
-    pub const ALL: [Call; 13] = [
+    pub const ALL: [Call; 14] = [
         Call::Check,
         Call::Value,
         Call::Reasons,
@@ -37,6 +39,7 @@ impl Call {
         Call::Run,
         Call::Settle,
         Call::WriteScript,
+        Call::Compact,
         Call::WideFromNarrow,
         Call::NarrowFromWide,
     ];
@@ -49,7 +52,7 @@ pub struct Case {
     pub n: u64,
     /// The list, old or not, the truth vector or the coefficients.
     pub input: Vec<u8>,
-    /// The assignment or the polarity.
+    /// The assignment, the polarity or the count.
     pub number: u64,
     /// The script, or the buffer for one.
     pub script: Vec<u8>,
@@ -74,8 +77,8 @@ pub struct After {
     pub out: Vec<u8>,
 }
 
-/// Compares one case three ways: the library's words, its named answers, the model; reasons with value; and a written
-/// script with its run. Answers the words.
+/// Compares one case three ways: the library's words, its named answers, the model; reasons with value; a written script with
+/// its run; and a compacted one with the given one and with itself compacted. Answers the words.
 pub fn compare(case: &Case) -> Result<[u64; 8], String> {
     compared(case).map(|after| after.answer)
 }
@@ -94,6 +97,7 @@ pub fn compared(case: &Case) -> Result<After, String> {
     match case.call {
         Call::Reasons => beside_value(case, &expected.answer)?,
         Call::WriteScript => replay(case, &expected)?,
+        Call::Compact => once_more(case, &expected)?,
         _ => {}
     }
     Ok(expected)
@@ -126,6 +130,7 @@ fn by_model(case: &Case) -> After {
         Call::Run => calls::run(n, input, &script, &mut work),
         Call::Settle => calls::settle(n, input, &script, &mut work, &mut out),
         Call::WriteScript => calls::write_script(n, input, &mut work, &mut script),
+        Call::Compact => calls::compact(n, number, &script, &mut out),
         Call::WideFromNarrow => calls::wide_from_narrow(n, input, &mut out),
         Call::NarrowFromWide => calls::narrow_from_wide(n, input, &mut out),
     };
@@ -152,6 +157,7 @@ pub fn by_words(case: &Case) -> Result<After, String> {
             Call::Run => words::run(n, input, script, work),
             Call::Settle => words::settle(n, input, script, work, out),
             Call::WriteScript => words::write_script(n, input, work, script),
+            Call::Compact => words::compact(n, number, script, out),
             Call::WideFromNarrow => words::wide_from_narrow(n, input, out),
             Call::NarrowFromWide => words::narrow_from_wide(n, input, out),
         }
@@ -193,6 +199,7 @@ fn by_names(case: &Case) -> After {
         ),
         Call::WriteScript => druthmoy::write_script(n, input, &mut work, &mut script)
             .map(|Written { steps, finished }| vec![steps, finished as u64]),
+        Call::Compact => druthmoy::compact(n, number, &script, &mut out).map(one),
         Call::WideFromNarrow => druthmoy::wide_from_narrow(n, input, &mut out).map(one),
         Call::NarrowFromWide => druthmoy::narrow_from_wide(n, input, &mut out).map(one),
     };
@@ -231,7 +238,7 @@ impl Lent {
 
 impl fmt::Display for Case {
     fn fmt(&self, f: &mut fmt::Formatter) -> fmt::Result {
-        writeln!(f, "call {:?}, n {}, assignment or polarity {}", self.call, self.n, self.number)?;
+        writeln!(f, "call {:?}, n {}, assignment, polarity or count {}", self.call, self.n, self.number)?;
         for (name, bytes) in
             [("input", &self.input), ("script", &self.script), ("work", &self.work), ("out", &self.out)]
         {

@@ -1,5 +1,6 @@
 //! Document 01's marked examples and limits, as document 02 amends them, with the answers that they give.
 
+use crate::compact_examples;
 use crate::differ::{Call, Case, compare};
 use crate::easy_examples;
 use model::cube::{RECORD, encoded_list, encoded_narrow_list, read};
@@ -16,6 +17,7 @@ pub fn all() -> Result<(), String> {
         settled(),
         costs(),
         easy_examples::all(),
+        compact_examples::all(),
         limits(),
         too_many_variables(),
         long_labels(),

@@ -203,7 +203,7 @@ fn steps() -> Vec<[u8; 8]> {
 }
 
 /// Unknown operations; each operation with each field at a value that it must not have; places past the first byte.
-fn damaged_steps() -> Vec<[u8; 8]> {
+pub fn damaged_steps() -> Vec<[u8; 8]> {
     vec![
         [0, 0, 0, 0, 0, 0, 0, 0],
         [6, 0, 0, 0, 1, 0, 0, 0],

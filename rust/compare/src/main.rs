@@ -6,17 +6,25 @@
 mod broken;
 mod cases;
 mod choices;
+mod compact_examples;
+mod compacted;
+mod compactions;
+mod compactor;
 mod converters;
 mod counts;
+mod damage;
 mod differ;
 mod easy_examples;
 mod easy_scripts;
 mod examples;
 mod exhaustive;
 mod figures;
+mod given_and_short;
+mod idle_scripts;
 mod labels;
 mod lengths;
 mod near_lists;
+mod pair_rules;
 mod paths;
 mod per_record;
 mod plain_steps;
@@ -28,6 +36,8 @@ mod refused_steps;
 mod replays;
 mod scripts;
 mod tally;
+mod together;
+mod undoings;
 mod writer;
 
 use std::process::ExitCode;
@@ -43,16 +53,18 @@ fn main() -> ExitCode {
     if cfg!(feature = "standin") {
         println!("STAND-IN: the calls are answered by the model itself; nothing below speaks of the library.\n");
     }
-    let parts: [Part; 12] = [
+    let parts: [Part; 14] = [
         ("the documents' examples and limits", &examples::all),
         ("the wrapper's records", &|| records::all(seed)),
         ("random calls", &|| random_calls::all(calls as usize, seed)),
         ("scripts with and without their L steps", &|| plain_steps::all(calls as usize, seed)),
+        ("scripts as given and compacted", &|| given_and_short::all(calls as usize, seed)),
         ("all functions of 4 variables", &exhaustive::functions_of_four),
         ("all short lists and scripts over 2 variables", &exhaustive::short_lists_and_scripts),
         ("all steps on two cubes over up to 3 variables, and over 3 of 32", &exhaustive::steps_on_two_cubes),
         ("reasons: faults together, short lists at every label", &reasons::all),
         ("write script: faults together, short lists in every buffer", &writer::all),
+        ("compact: faults together, short scripts", &compactor::all),
         ("the converters: faults together, short lists there and back", &converters::all),
         ("published average of 5-variable functions", &|| figures::average_of_five(seed)),
         ("published sizes of rd53, rd73, rd84", &figures::ones_counters),

@@ -34,7 +34,7 @@ impl RefusedSteps {
         let (call, [number, place, differing, ..]) = (case.call as usize, *answer);
         *self.differing.entry((call, number, differing)).or_default() += 1;
         let at_a_step = AT_A_STEP.contains(&number);
-        if !at_a_step && number != 9 {
+        if !at_a_step && number != 9 || !WITH_STEPS.contains(&case.call) {
             return;
         }
         let broken = broken_in(case, place as usize);

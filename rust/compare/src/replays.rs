@@ -40,6 +40,6 @@ fn left(given: usize, script: &[u8]) -> u64 {
     (given - removed) as u64
 }
 
-fn expect(holds: bool, otherwise: &str, case: &Case, after: &After) -> Result<(), String> {
+pub fn expect(holds: bool, otherwise: &str, case: &Case, after: &After) -> Result<(), String> {
     if holds { Ok(()) } else { Err(format!("{otherwise}\n{case}\n{after}")) }
 }

@@ -46,10 +46,7 @@ fn accepted(random: &mut Random, n: usize, list: &[Cube], capacity: usize) -> Op
             0 => partner(random, list, 0).map(|(i, j)| Step::Drop { i, j }),
             1 => partner(random, list, 1).map(|(i, j)| Step::Join { i, j }),
             2 => split(random, n, list, capacity),
-            3 | 4 => partner(random, list, 2).map(|(i, j)| {
-                let v = random.pick(&differing(&list[i], &list[j]));
-                Step::Turn { v, i, j }
-            }),
+            3 | 4 => turn(random, list),
             _ => (n > 0).then(|| Step::L { v: random.below(n), literal: random.below(2) as u8 }),
         };
         if step.is_some() {
@@ -59,9 +56,18 @@ fn accepted(random: &mut Random, n: usize, list: &[Cube], capacity: usize) -> Op
     None
 }
 
-fn split(random: &mut Random, n: usize, list: &[Cube], capacity: usize) -> Option<Step> {
+/// A split that the list allows.
+pub fn split(random: &mut Random, n: usize, list: &[Cube], capacity: usize) -> Option<Step> {
     let allowed = n > 0 && !list.is_empty() && list.len() < capacity;
     allowed.then(|| Step::Split { v: random.below(n), i: random.below(list.len()) })
+}
+
+/// A turn that the list allows.
+pub fn turn(random: &mut Random, list: &[Cube]) -> Option<Step> {
+    partner(random, list, 2).map(|(i, j)| {
+        let v = random.pick(&differing(&list[i], &list[j]));
+        Step::Turn { v, i, j }
+    })
 }
 
 /// Two places whose cubes differ in so many variables.

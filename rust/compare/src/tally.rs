@@ -1,10 +1,12 @@
 //! How often each call answered each refusal number, and what the accepted scripts did.
 
 use crate::choices::Choices;
+use crate::compactions::Compactions;
 use crate::differ::{Call, Case};
 use crate::easy_scripts::EasyScripts;
 use crate::labels::Labels;
 use crate::refused_steps::RefusedSteps;
+use crate::together::Together;
 use model::cube::RECORD;
 use model::refusal::ORDERS;
 use std::collections::BTreeSet;
@@ -20,6 +22,8 @@ pub struct Tally {
     choices: Choices,
     labels: Labels,
     easy_scripts: EasyScripts,
+    compactions: Compactions,
+    together: Together,
     /// Accepted lists of 32 variables with a literal at the last of them.
     with_the_last_variable: u64,
     longest_list: usize,
@@ -37,6 +41,10 @@ impl Tally {
         match case.call {
             Call::Reasons => self.labels.add(case, answer),
             Call::WriteScript => self.easy_scripts.add(case, answer),
+            Call::Compact => {
+                self.compactions.add(case, answer);
+                self.together.add(case, answer);
+            }
             _ => {}
         }
         let has_script = matches!(case.call, Call::Run | Call::Settle);
@@ -58,7 +66,7 @@ impl Tally {
     }
 
     /// The refusals that the documents give a call and that were not met, and those met that they do not give; and what
-    /// is amiss with refused steps, with choices, with labels and with easy scripts.
+    /// is amiss with refused steps, with choices, with labels, with easy scripts and with compacted ones.
     pub fn amiss(&self) -> Vec<String> {
         let mut amiss = Vec::new();
         for ((name, numbers), answers) in ORDERS.iter().zip(&self.answers) {
@@ -76,6 +84,8 @@ impl Tally {
         amiss.extend(self.choices.amiss());
         amiss.extend(self.labels.amiss());
         amiss.extend(self.easy_scripts.amiss());
+        amiss.extend(self.compactions.amiss());
+        amiss.extend(self.together.amiss());
         amiss
     }
 }
@@ -105,6 +115,8 @@ impl fmt::Display for Tally {
         write!(f, "{}", self.choices)?;
         write!(f, "{}", self.labels)?;
         write!(f, "{}", self.easy_scripts)?;
+        write!(f, "{}", self.compactions)?;
+        write!(f, "{}", self.together)?;
         writeln!(f, "accepted lists with a literal at variable 31: {}", self.with_the_last_variable)?;
         write!(
             f,

@@ -106,6 +106,13 @@ pub fn write_script(n: u64, list: &[u8], work: &mut [u8], script: &mut [u8]) -> 
     Ok(Written { steps, finished: finished == 1 })
 }
 
+/// Writes a script without its pairs to the front of `out`, which is as long as the script; answers the number of steps left.
+/// A pair is two equal L steps or two equal turns in a row, or a split followed at once by the join of its place with the
+/// place just appended, by the count along the script from the given one. The first pair is removed, again and again.
+pub fn compact(n: u64, count: u64, script: &[u8], out: &mut [u8]) -> Result<u64, Refusal> {
+    accepted(words::compact(n, count, script, out)).map(|[steps, ..]| steps)
+}
+
 /// Writes an old list's cubes, at the same places, as a list to the front of `out`; answers how many.
 pub fn wide_from_narrow(n: u64, list: &[u8], out: &mut [u8]) -> Result<u64, Refusal> {
     accepted(words::wide_from_narrow(n, list, out)).map(|[count, ..]| count)

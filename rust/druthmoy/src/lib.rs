@@ -31,6 +31,18 @@
 //! assert_eq!(Cube::from_record(out.as_chunks().0[0]).written(2), "--");
 //! ```
 //!
+//! A script that does and undoes is compacted for lists of a count, here 3:
+//!
+//! ```
+//! use druthmoy::{STEP, Step, compact};
+//!
+//! let (l, join) = (Step::L { v: 1, literal: 0 }, Step::Join { i: 1, j: 2 });
+//! let script = [l, Step::Split { v: 0, i: 1 }, Step::Join { i: 1, j: 3 }, l, join].map(Step::record).concat();
+//! let mut out = vec![0; script.len()];
+//! assert_eq!(compact(2, 3, &script, &mut out), Ok(1));
+//! assert_eq!(out[..STEP], join.record());
+//! ```
+//!
 //! The products that are true at a label, by their places, say why it has its bit:
 //!
 //! ```
@@ -73,8 +85,8 @@ mod refusal;
 pub mod words;
 
 pub use calls::{
-    Fixed, Run, Settled, Value, Written, best_polarity, check, coefficients, narrow_from_wide, reasons, run, settle,
-    truth_vector, value, vector, wide_from_narrow, write_form, write_script,
+    Fixed, Run, Settled, Value, Written, best_polarity, check, coefficients, compact, narrow_from_wide, reasons, run,
+    settle, truth_vector, value, vector, wide_from_narrow, write_form, write_script,
 };
 pub use records::{Cube, NARROW_RECORD, NotACube, PLACE, RECORD, STEP, Step};
 pub use refusal::{Fault, Refusal};

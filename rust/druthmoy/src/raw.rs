@@ -80,6 +80,15 @@ unsafe extern "C" {
         script_length: usize,
         answer: *mut u64,
     );
+    pub fn dm_compact(
+        n: u64,
+        count: u64,
+        script: *const u8,
+        script_length: usize,
+        out: *mut u8,
+        out_length: usize,
+        answer: *mut u64,
+    );
     pub fn dm_wide_from_narrow(
         n: u64,
         list: *const u8,

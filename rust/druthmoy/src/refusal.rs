@@ -10,7 +10,7 @@ pub enum Fault {
     TooManyVariables = 1,
     /// List length not a multiple of 8, or of 4 for an old list.
     ListLength = 2,
-    /// More than 4,096 records.
+    /// More than 4,096 records, or a count above 4,096.
     TooManyRecords = 3,
     /// A bad record; the place is the lowest such record.
     BadRecord = 4,

@@ -134,6 +134,15 @@ pub fn write_script(n: u64, list: &[u8], work: &mut [u8], script: &mut [u8]) -> 
 }
 
 #[inline]
+pub fn compact(n: u64, count: u64, script: &[u8], out: &mut [u8]) -> Words {
+    let mut answer = UNANSWERED;
+    unsafe {
+        raw::dm_compact(n, count, script.as_ptr(), script.len(), out.as_mut_ptr(), out.len(), answer.as_mut_ptr());
+    }
+    answer
+}
+
+#[inline]
 pub fn wide_from_narrow(n: u64, list: &[u8], out: &mut [u8]) -> Words {
     let mut answer = UNANSWERED;
     unsafe {

@@ -1,5 +1,6 @@
 //! The library's calls over bytes: what each refuses, in document 01's order, what it answers and what it writes.
 
+use crate::compactor;
 use crate::cube::{self, Cube, NARROW_RECORD, PLACE, RECORD, encoded_list, encoded_narrow_list, encoded_places};
 use crate::polarity;
 use crate::refusal::{Refusal, refuse_at_if, refuse_if};
@@ -125,6 +126,18 @@ pub fn write_script(n: u64, list: &[u8], work: &mut [u8], script: &mut [u8]) -> 
     write_front(work, &encoded_list(&written.list));
     write_front(script, &encoded_script(&written.steps));
     Ok(vec![written.steps.len() as u64, written.finished as u64])
+}
+
+/// Document 02, Eleven: "1, 3 for a count above 4,096, 7, 8, 9, then 5 for an output shorter than the script"; "it answers the
+/// steps left".
+pub fn compact(n: u64, count: u64, script: &[u8], out: &mut [u8]) -> Outcome {
+    refuse_if(n > MOST_VARIABLES, 1)?;
+    refuse_if(count > 4096, 3)?;
+    let steps = checked_script(n, script)?;
+    refuse_if(out.len() < script.len(), 5)?;
+    let left = compactor::compacted(count as usize, &steps);
+    write_front(out, &encoded_script(&left));
+    Ok(vec![left.len() as u64])
 }
 
 /// Document 02, Seven: "wide from narrow gives the same cubes at the same places".

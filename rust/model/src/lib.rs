@@ -7,6 +7,7 @@
 //! [`calls`] puts the definitions behind the bytes, the refusals and the buffers of the library's calls.
 
 pub mod calls;
+pub mod compactor;
 pub mod cost;
 pub mod cube;
 pub mod polarity;

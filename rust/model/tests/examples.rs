@@ -10,6 +10,8 @@ use model::refusal::Refusal;
 use model::script::Step::{self, Drop, Join, L, Split, Turn};
 use model::script::{self, encoded_script};
 
+#[path = "examples/compact.rs"]
+mod compact;
 #[path = "examples/write_script.rs"]
 mod write_script;
 
@@ -219,6 +221,7 @@ fn limits() {
     assert_eq!(calls::run(33, &[], &[], &mut work), refused(1, 0));
     assert_eq!(calls::settle(33, &[], &[], &mut work, &mut out), refused(1, 0));
     assert_eq!(calls::write_script(33, &[], &mut work, &mut out), refused(1, 0));
+    assert_eq!(calls::compact(33, 0, &[], &mut out), refused(1, 0));
     assert_eq!(calls::wide_from_narrow(33, &[], &mut out), refused(1, 0));
     assert_eq!(calls::narrow_from_wide(33, &[], &mut out), refused(1, 0));
 }

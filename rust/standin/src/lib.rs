@@ -162,6 +162,22 @@ pub unsafe extern "C" fn dm_write_script(
 }
 
 #[unsafe(no_mangle)]
+pub unsafe extern "C" fn dm_compact(
+    n: u64,
+    count: u64,
+    script: *const u8,
+    script_length: usize,
+    out: *mut u8,
+    out_length: usize,
+    answer: *mut u64,
+) {
+    unsafe {
+        let out = from_raw_parts_mut(out, out_length);
+        give(calls::compact(n, count, from_raw_parts(script, script_length), out), answer)
+    }
+}
+
+#[unsafe(no_mangle)]
 pub unsafe extern "C" fn dm_wide_from_narrow(
     n: u64,
     list: *const u8,

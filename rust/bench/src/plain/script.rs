@@ -190,7 +190,7 @@ impl State<'_> {
     }
 }
 
-fn place(step: &[u8; STEP], at: usize) -> usize {
+pub fn place(step: &[u8; STEP], at: usize) -> usize {
     u16::from_le_bytes([step[at], step[at + 1]]) as usize
 }
 
