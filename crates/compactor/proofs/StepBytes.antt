@@ -6,9 +6,9 @@ use mathlib.Core.List.{List, [], _∷_}
 use Prim.Native.Nat.{ℕ, zero, suc, _+_, _-_, _*_, _/_, _%_, _<_}
 use native.Mathlib.Nat.{add-zero}
 use native.Mathlib.Omega.{arith}
-use borrow.Author.Tests.{eqb-true, eq-eqb, ne-eqb, le-leb, lt-leb}
+use borrow.Author.Tests.{eqb-true, eq-eqb, ne-eqb, lt-ltb, le-ltb}
 use borrow.Rule.Slice.PartMut.{putMid}
-use lib.Dec.{eqb, ltb, leb}
+use lib.Dec.{eqb, ltb}
 use lib.ListN.{length, getD, take, drop}
 use lib.Seq.{sets}
 use Rattle.bits.proofs.Bools.{both-true, true-both}
@@ -22,7 +22,7 @@ use Rattle.steps.specs.Steps.{Step, meaning, meaningBy}
 use Rattle.script.specs.Scripts.{stepRecords, stepWidth, placeSize, recordOf}
 use Rattle.compactor.specs.declared.Halves.{Halves}
 use Rattle.compactor.specs.Compact.{equalRecords, stepPair}
-use Rattle.compactor.specs.Keeping.{halfRecords, recordAt, halvesAt, operationOf, undoing, halfPair}
+use Rattle.compactor.specs.Keeping.{halfRecords, recordAt, halvesAt, operationOf, equalHalves, joinOf, halfPair}
 use Rattle.compactor.proofs.Pairs.{equal-same}
 
 -- ---- read and stored
@@ -106,25 +106,22 @@ module _ (b : List ℕ) (k : ℕ) (inside : k < length b / stepWidth) where
 
 -- ---- compared
 
--- the test of the code, by the step that undoes
-pub pair-made : (count : ℕ) (x y u : Halves) → u ≡ undoing count x → (o : ℕ) → o ≡ operationOf x
-    → (leb 3 o && (eqb (u .low) (y .low) && eqb (u .high) (y .high))) ≡ halfPair count x y
-unfolding halfPair
-pair-made count x y u eu o eo = ap₂ (λ (k : ℕ) (z : Halves). leb 3 k && (eqb (z .low) (y .low) && eqb (z .high) (y .high))) eo eu
+-- a pair, by the operation of its first step
+module _ (count : ℕ) (x y : Halves) (o : ℕ) (is : o ≡ operationOf x) where
+  by-split : Bool → Bool
+  by-split t = cond t (equalHalves (joinOf count x) y) (ltb 3 (operationOf x) && equalHalves x y)
 
--- and that step, by the operation
-pub undoing-itself : (count : ℕ) (x : Halves) (o : ℕ) → o ≡ operationOf x → (o ≡ 3 → ⊥) → x ≡ undoing count x
-unfolding undoing
-undoing-itself count x o eo h =
-    sym (ap (λ (t : Bool). cond t (record { low = x .low / placeSize * placeSize + 2; high = count }) x) (ne-eqb (operationOf x) 3 (λ e. h (eo ∙ e))))
+  pub pair-split : o ≡ 3 → (j : Halves) → j ≡ joinOf count x → (r : Bool) → r ≡ equalHalves j y → r ≡ halfPair count x y
+  unfolding halfPair by-split
+  pair-split h j ej r er =
+      er ∙ ap (λ (z : Halves). equalHalves z y) ej ∙ sym (ap by-split (eq-eqb (operationOf x) 3 (sym is ∙ h)))
 
-pub undoing-join : (count : ℕ) (x : Halves) (o : ℕ) → o ≡ operationOf x → o ≡ 3 → record { low = x .low / placeSize * placeSize + 2; high = count } ≡ undoing count x
-unfolding undoing
-undoing-join count x o eo h =
-    sym (ap (λ (t : Bool). cond t (record { low = x .low / placeSize * placeSize + 2; high = count }) x) (eq-eqb (operationOf x) 3 (sym eo ∙ h)))
+  pub pair-other : (o ≡ 3 → ⊥) → (r : Bool) → r ≡ equalHalves x y → (ltb 3 o && r) ≡ halfPair count x y
+  unfolding halfPair by-split
+  pair-other h r er = ap₂ (λ (k : ℕ) (t : Bool). ltb 3 k && t) is er ∙ sym (ap by-split (ne-eqb (operationOf x) 3 (λ e. h (is ∙ e))))
 
 -- records are equal exactly where their halves are
-equal-halves : (r s : StepRecord) → Small r → Small s → (eqb (halvesOf r .low) (halvesOf s .low) && eqb (halvesOf r .high) (halvesOf s .high)) ≡ equalRecords r s
+equal-halves : (r s : StepRecord) → Small r → Small s → equalHalves (halvesOf r) (halvesOf s) ≡ equalRecords r s
 unfolding equalRecords
 equal-halves r s a c = same-bool _ _ (λ e. there (both-true _ _ e)) (λ e. back (equal-same r s e))
   where
@@ -143,7 +140,7 @@ equal-halves r s a c = same-bool _ _ (λ e. there (both-true _ _ e)) (λ e. back
         (true-both (eq-eqb (r .j) (s .j) (omega (arith, high, a, c)))
         (true-both (eq-eqb (r .literal) (s .literal) (omega (arith, high, a, c))) (eq-eqb (r .zero) (s .zero) (omega (arith, high, a, c)))))))
 
-    back : r ≡ s → (eqb (halvesOf r .low) (halvesOf s .low) && eqb (halvesOf r .high) (halvesOf s .high)) ≡ true
+    back : r ≡ s → equalHalves (halvesOf r) (halvesOf s) ≡ true
     back e = true-both (eq-eqb _ _ (ap (λ (x : StepRecord). halvesOf x .low) e)) (eq-eqb _ _ (ap (λ (x : StepRecord). halvesOf x .high) e))
 
 -- the operation of a record's halves is the record's
@@ -153,7 +150,7 @@ operation-is r a = omega (arith, a)
 -- a pair of steps, by the halves of their records
 pub half-pair : (count : ℕ) → count < placeSize → (r s : StepRecord) → Small r → Small s → recordOf (meaning r) ≡ r → recordOf (meaning s) ≡ s
     → halfPair count (halvesOf r) (halvesOf s) ≡ stepPair count (meaning r) (meaning s)
-unfolding halfPair undoing stepPair meaning recordOf
+unfolding stepPair meaning recordOf
 half-pair count h r s a c er es = by (r .op) refl
   where
     x : Halves
@@ -162,33 +159,24 @@ half-pair count h r s a c er es = by (r .op) refl
     y : Halves
     y = halvesOf s
 
-    same : Halves → Bool
-    same u = eqb (u .low) (y .low) && eqb (u .high) (y .high)
-
-    tests : Bool → Bool → Bool
-    tests p q = p && same (cond q (record { low = x .low / 65536 * 65536 + 2; high = count }) x)
-
     means : (op : ℕ) → r .op ≡ op → meaning r ≡ meaningBy op r
     means op e = ap (λ (k : ℕ). meaningBy k r) e
 
-    op-is : (op : ℕ) → r .op ≡ op → operationOf x ≡ op
-    op-is op e = operation-is r a ∙ e
+    op-is : (op : ℕ) → r .op ≡ op → op ≡ operationOf x
+    op-is op e = sym (operation-is r a ∙ e)
 
     none : (op : ℕ) → r .op ≡ op → op < 3 → stepPair count (meaningBy op r) (meaning s) ≡ false → halfPair count x y ≡ stepPair count (meaning r) (meaning s)
     none op e l f =
-        ap (λ (p : Bool). tests p (eqb (operationOf x) 3)) (ap (leb 3) (op-is op e) ∙ lt-leb 3 op l)
+        sym (pair-other count x y op (op-is op e) (λ z. omega arith) (equalHalves x y) refl) ∙ ap (λ (t : Bool). t && equalHalves x y) (le-ltb 3 op (omega arith))
         ∙ sym (ap (λ (z : Step). stepPair count z (meaning s)) (means op e) ∙ f)
 
-    itself : (op : ℕ) → r .op ≡ op → 3 < op → stepPair count (meaning r) (meaning s) ≡ equalRecords (recordOf (meaning r)) (recordOf (meaning s))
+    -- a turn and an L step are undone by themselves
+    itself : (op : ℕ) → r .op ≡ op → 3 < op → stepPair count (meaningBy op r) (meaning s) ≡ equalRecords (recordOf (meaningBy op r)) (recordOf (meaning s))
         → halfPair count x y ≡ stepPair count (meaning r) (meaning s)
     itself op e l f =
-        ap₂ tests (ap (leb 3) (op-is op e) ∙ le-leb 3 op (omega arith)) (ap (λ (k : ℕ). eqb k 3) (op-is op e) ∙ ne-eqb op 3 (λ z. omega arith))
-        ∙ equal-halves r s a c ∙ sym (f ∙ ap₂ equalRecords er es)
-
-    -- a turn and an L step are undone by themselves
-    alike : (op : ℕ) → r .op ≡ op → stepPair count (meaningBy op r) (meaning s) ≡ equalRecords (recordOf (meaningBy op r)) (recordOf (meaning s))
-        → stepPair count (meaning r) (meaning s) ≡ equalRecords (recordOf (meaning r)) (recordOf (meaning s))
-    alike op e = subst (λ (z : Step). stepPair count z (meaning s) ≡ equalRecords (recordOf z) (recordOf (meaning s))) (sym (means op e))
+        sym (pair-other count x y op (op-is op e) (λ z. omega arith) (equalHalves x y) refl) ∙ ap (λ (t : Bool). t && equalHalves x y) (lt-ltb 3 op l)
+        ∙ equal-halves r s a c
+        ∙ sym (subst (λ (z : Step). stepPair count z (meaning s) ≡ equalRecords (recordOf z) (recordOf (meaning s))) (sym (means op e)) f ∙ ap₂ equalRecords er es)
 
     -- a split by the join
     joined : StepRecord
@@ -202,7 +190,7 @@ half-pair count h r s a c er es = by (r .op) refl
 
     of-split : r .op ≡ 3 → halfPair count x y ≡ stepPair count (meaning r) (meaning s)
     of-split e =
-        ap₂ tests (ap (leb 3) (op-is 3 e)) (ap (λ (k : ℕ). eqb k 3) (op-is 3 e))
+        sym (pair-split count x y 3 (op-is 3 e) refl (joinOf count x) refl (equalHalves (joinOf count x) y) refl)
         ∙ ap₂ (λ (p q : ℕ). eqb p (y .low) && eqb q (y .high)) joined-low joined-high
         ∙ equal-halves joined s (record { op-lt = omega arith; v-lt = omega arith; i-lt = a .i-lt; j-lt = h; literal-lt = omega arith }) c
         ∙ ap (equalRecords joined) (sym es) ∙ sym (ap (λ (z : Step). stepPair count z (meaning s)) (means 3 e))
@@ -212,8 +200,8 @@ half-pair count h r s a c er es = by (r .op) refl
     by (suc zero) e = none 1 e (omega arith) refl
     by (suc (suc zero)) e = none 2 e (omega arith) refl
     by (suc (suc (suc zero))) e = of-split e
-    by (suc (suc (suc (suc zero)))) e = itself 4 e (omega arith) (alike 4 e refl)
-    by (suc (suc (suc (suc (suc op))))) e = itself (suc (suc (suc (suc (suc op))))) e (omega arith) (alike (suc (suc (suc (suc (suc op))))) e refl)
+    by (suc (suc (suc (suc zero)))) e = itself 4 e (omega arith) refl
+    by (suc (suc (suc (suc (suc op))))) e = itself (suc (suc (suc (suc (suc op))))) e (omega arith) refl
 
 -- ---- copied
 

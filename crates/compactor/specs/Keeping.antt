@@ -4,7 +4,7 @@ use mathlib.Core.Path.{_≡_}
 use mathlib.Core.Bool.{Bool, true, false, cond, _&&_}
 use mathlib.Core.List.{List, [], _∷_, map}
 use Prim.Native.Nat.{ℕ, _+_, _-_, _*_, _/_, _%_, _≤_, _<_}
-use lib.Dec.{eqb, leb}
+use lib.Dec.{eqb, ltb}
 use lib.ListN.{length, getD, set, take}
 use Rattle.bits.specs.Sums.{All}
 use Rattle.records.specs.Numbers.{byteSize}
@@ -36,13 +36,16 @@ halvesAt b k = getD (listOf halfRecords b) k (halfRecords .none)
 abbrev pub operationOf : Halves → ℕ
 operationOf x = x .low % byteSize
 
--- the step that undoes x, where one does: of a split (operation 3) the join (2) of its place with this one; else x itself
-unfoldable pub undoing : ℕ → Halves → Halves
-undoing count x = cond (eqb (operationOf x) 3) (record { low = x .low / placeSize * placeSize + 2; high = count }) x
+abbrev pub equalHalves : Halves → Halves → Bool
+equalHalves x y = eqb (x .low) (y .low) && eqb (x .high) (y .high)
 
--- a pair, by the halves of its steps
+-- the join (operation 2) of the place of a split with this one
+abbrev pub joinOf : ℕ → Halves → Halves
+joinOf count x = record { low = x .low / placeSize * placeSize + 2; high = count }
+
+-- a pair, by the halves of its steps: a split (3) and its join, or two equal turns (4) or L steps (5)
 unfoldable pub halfPair : ℕ → Halves → Halves → Bool
-halfPair count x y = leb 3 (operationOf x) && (eqb (undoing count x .low) (y .low) && eqb (undoing count x .high) (y .high))
+halfPair count x y = cond (eqb (operationOf x) 3) (equalHalves (joinOf count x) y) (ltb 3 (operationOf x) && equalHalves x y)
 
 -- the count after a step, by its operation
 unfoldable pub countBy : ℕ → ℕ → ℕ

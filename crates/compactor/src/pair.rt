@@ -2,7 +2,7 @@
 use crate::Halves;
 ghost use mathlib.Core.Path.{_≡_};
 ghost use Prim.Native.Nat.{_-_, _≤_};
-ghost use Rattle.compactor.specs.Keeping.{mostCount, operationOf, undoing, halfPair, countBy};
+ghost use Rattle.compactor.specs.Keeping.{mostCount, operationOf, equalHalves, joinOf, halfPair, countBy};
 
 // How many numbers one byte and two bytes hold.
 const BYTE: u32 = 256;
@@ -16,14 +16,19 @@ fn operation(x: Halves) -> u32
     x.low % BYTE
 }
 
-// The step that undoes x, before which there are so many records, where one does: of a split the join of its place with the place just appended, of others x itself.
-fn undoing(count: usize, x: Halves) -> Halves
-    requires { ⌜ count ≤ mostCount ⌝ }
-    ensures { λ r. ⌜ r ≡ undoing count x ⌝ }
+// Whether two steps are equal in every field.
+fn equal(x: Halves, y: Halves) -> bool
+    ensures { λ r. ⌜ r ≡ equalHalves x y ⌝ }
 {
-    if operation(x) != 3 {
-        return x;
-    }
+    let low = x.low == y.low;
+    low & (x.high == y.high)
+}
+
+// The join of the place of a split with the place that it appends, before which there are so many records.
+fn join_of(count: usize, x: Halves) -> Halves
+    requires { ⌜ count ≤ mostCount ⌝ }
+    ensures { λ r. ⌜ r ≡ joinOf count x ⌝ }
+{
     let place = x.low / TWO_BYTES;
     let appended = count as u32;
     Halves {
@@ -37,10 +42,11 @@ pub(crate) fn is_pair(count: usize, x: Halves, y: Halves) -> bool
     requires { ⌜ count ≤ mostCount ⌝ }
     ensures { λ r. ⌜ r ≡ halfPair count x y ⌝ }
 {
-    let u = undoing(count, x);
-    let low = u.low == y.low;
-    let high = u.high == y.high;
-    (3 <= operation(x)) & (low & high)
+    let op = operation(x);
+    if op == 3 {
+        return equal(join_of(count, x), y);
+    }
+    (3 < op) & equal(x, y)
 }
 
 // The count less some, and never below zero.
