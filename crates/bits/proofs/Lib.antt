@@ -5,5 +5,6 @@ pub mod First
 pub mod Front
 pub mod Weights
 pub mod Sums
+pub mod Subsequences
 pub mod Least
 pub mod Determined

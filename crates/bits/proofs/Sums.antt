@@ -110,6 +110,10 @@ module _ {A : Type 0} (P : A → Type 0) where
   all-append [] m a b = b
   all-append (x ∷ l) m a b = (a .0, all-append l m (a .1) b)
 
+  pub all-parts : (l m : List A) → All P (l ++ m) → All P l × All P m
+  all-parts [] m h = (tt, h)
+  all-parts (x ∷ l) m h = let t = all-parts l m (h .1) in ((h .0, t .0), t .1)
+
   pub all-snoc : (l : List A) (x : A) → All P l → P x → All P (l ++ (x ∷ []))
   all-snoc l x a p = all-append l (x ∷ []) a (p, tt)
 

@@ -12,6 +12,7 @@ use lib.ListN.{length, getD, take, length-map, length-take}
 use lib.Seq.{getD-take, take-suc}
 use borrow.Author.Tests.{le-leb, lt-leb, leb-true}
 use Rattle.bits.specs.Sums.{All}
+use Rattle.bits.proofs.Subsequences.{length-subsequence}
 use Rattle.bits.proofs.Sums.{all-get, all-each, map-each, map-map}
 use Rattle.records.specs.declared.Refusal.{Refusal}
 use Rattle.records.specs.Records.{listOf, stored, written}
@@ -22,13 +23,14 @@ use Rattle.cube.specs.Lists.{mostVariables, mostRecords}
 use Rattle.steps.specs.declared.StepRecord.{StepRecord}
 use Rattle.script.specs.Scripts.{stepRecords, stepWidth, mostSteps, recordOf, stepsOf}
 use Rattle.script.specs.Calls.{checkScript}
-use Rattle.script.proofs.Scripts.{AcceptedScript, script-accepts, record-meaning}
+use Rattle.script.proofs.Scripts.{AcceptedScript, script-accepts, record-meaning, length-script, meaning-at}
 use Rattle.compactor.specs.Compact.{compacted}
 use Rattle.compactor.specs.Calls.{compactOutcome, compactAfter}
 use Rattle.compactor.specs.declared.Halves.{Halves}
-use Rattle.compactor.specs.Keeping.{halfRecords, recordAt, halvesAt, Meant, stepAt, Kept, Compacting}
-use Rattle.compactor.proofs.Removing.{compacted-subsequence, length-subsequence}
-use Rattle.compactor.proofs.Stack.{length-script, meaning-at, meant-at}
+use Rattle.compactor.specs.StepBytes.{halfRecords, recordAt, halvesAt}
+use Rattle.compactor.specs.Keeping.{Faithful, stepAt, StepsKept, Compacting}
+use Rattle.compactor.proofs.Removing.{compacted-subsequence}
+use Rattle.compactor.proofs.Stack.{faithful-at}
 use Rattle.compactor.proofs.StepBytes.{halves-copied}
 
 -- ---- the loop over the steps that are kept
@@ -72,39 +74,41 @@ module _ (b kept : List ℕ) (top : ℕ) (out₀ : List ℕ) where
           ∙ ap (λ (l : List ℕ). written stepRecords 0 (map (recordAt b) l) out₀) (sym (ap (λ (i : ℕ). take i kept) (add-one t) ∙ take-suc kept t 0 (omega (arith, fits .0)))) in
           record { few = omega arith; long = ap length bytes ∙ length-written stepRecords 0 (map (recordAt b) (take (t + 1) kept)) out₀; bytes = bytes }
 
--- ---- a checked script
+-- ---- what a checked script is
 
 module _ (n : ℕ) (b : List ℕ) (ok : Accepts (checkScript n b)) where
   is : AcceptedScript n b
   is = script-accepts n b (ok .values) (ok .is)
 
-  pub checked-meant : Meant b
-  unfolding Meant
-  checked-meant = all-each _ _ (record-meaning n) (listOf stepRecords b) (is .each)
+  pub checked-faithful : Faithful b
+  unfolding Faithful
+  checked-faithful = all-each _ _ (record-meaning n) (listOf stepRecords b) (is .each)
 
   pub checked-few : length (stepsOf b) ≤ mostSteps
   checked-few = omega (arith, is .short, length-script b)
 
-  module _ (count : ℕ) (kept : List ℕ) (top : ℕ) (p : Kept count (stepsOf b) kept top) where
-    pub checked-inside : All (λ k. k < length b / stepWidth) (take top kept)
-    checked-inside = all-each (λ k. k < length (stepsOf b)) (λ k. k < length b / stepWidth) (λ k h. omega (arith, length-script b)) (take top kept) (p .inside)
+-- ---- the steps that are kept, written
 
-    many : top ≡ length (compacted count (stepsOf b))
-    many = sym (sym (ap length (p .left)) ∙ length-map (take top kept) (stepAt (stepsOf b)) ∙ omega (arith, length-take top kept, p .room))
+module _ (b : List ℕ) (faithful : Faithful b) (count : ℕ) (kept : List ℕ) (top : ℕ) (p : StepsKept count (stepsOf b) kept top) where
+  pub kept-inside : All (λ k. k < length b / stepWidth) (take top kept)
+  kept-inside = all-each (λ k. k < length (stepsOf b)) (λ k. k < length b / stepWidth) (λ k h. omega (arith, length-script b)) (take top kept) (p .inside)
 
-    pub checked-room : (out : List ℕ) → length b ≤ length out → top ≤ length out / stepWidth
-    checked-room out h = omega (arith, many, length-subsequence (compacted-subsequence count (stepsOf b)), length-script b)
+  many : top ≡ length (compacted count (stepsOf b))
+  many = sym (sym (ap length (p .left)) ∙ length-map (take top kept) (stepAt (stepsOf b)) ∙ omega (arith, length-take top kept, p .room))
 
-    pub checked-compacting : (out out′ : List ℕ) → out′ ≡ written stepRecords 0 (map (recordAt b) (take top kept)) out → Compacting count b out out′ top
-    checked-compacting out out′ e = record {
-      many = many;
-      bytes =
-          e
-          ∙ ap (λ (l : List StepRecord). written stepRecords 0 l out)
-          (map-each (λ k. k < length (stepsOf b)) (recordAt b) (λ k. recordOf (stepAt (stepsOf b) k))
-          (λ k h. sym (meant-at b k checked-meant h) ∙ ap recordOf (meaning-at b k)) (take top kept) (p .inside)
-          ∙ sym (map-map recordOf (stepAt (stepsOf b)) (take top kept)) ∙ ap (map recordOf) (p .left));
-    }
+  pub kept-room : (out : List ℕ) → length b ≤ length out → top ≤ length out / stepWidth
+  kept-room out h = omega (arith, many, length-subsequence (compacted-subsequence count (stepsOf b)), length-script b)
+
+  pub kept-written : (out out′ : List ℕ) → out′ ≡ written stepRecords 0 (map (recordAt b) (take top kept)) out → Compacting count b out out′ top
+  kept-written out out′ e = record {
+    many = many;
+    bytes =
+        e
+        ∙ ap (λ (l : List StepRecord). written stepRecords 0 l out)
+        (map-each (λ k. k < length (stepsOf b)) (recordAt b) (λ k. recordOf (stepAt (stepsOf b) k))
+        (λ k h. sym (faithful-at b k faithful h) ∙ ap recordOf (meaning-at b k)) (take top kept) (p .inside)
+        ∙ sym (map-map recordOf (stepAt (stepsOf b)) (take top kept)) ∙ ap (map recordOf) (p .left));
+  }
 
 -- ---- each return
 

@@ -9,8 +9,8 @@ use Rattle.bits.proofs.Bools.{both-true, true-both}
 use Rattle.steps.specs.declared.StepRecord.{StepRecord}
 use Rattle.steps.specs.Steps.{Step, drop, join, split, turn, L, meaning, meaningBy}
 use Rattle.script.specs.Scripts.{stepRecords, recordOf}
-use Rattle.script.proofs.Scripts.{meaning-record}
-use Rattle.compactor.specs.Compact.{equalRecords, equalSteps, stepPair, countAfter}
+use Rattle.script.proofs.Scripts.{meaning-record, same-record}
+use Rattle.compactor.specs.Compact.{Pair, two-L, two-turns, split-and-join, equalRecords, equalSteps, stepPair, countAfter}
 use Rattle.compactor.specs.Keeping.{countBy}
 
 -- ---- equal in every field
@@ -23,14 +23,7 @@ equal-same r s e =
     let c = both-true _ _ (b .1) in
     let d = both-true _ _ (c .1) in
     let f = both-true _ _ (d .1) in
-    λ k. record {
-      op = eqb-true (r .op) (s .op) (a .0) k;
-      v = eqb-true (r .v) (s .v) (b .0) k;
-      i = eqb-true (r .i) (s .i) (c .0) k;
-      j = eqb-true (r .j) (s .j) (d .0) k;
-      literal = eqb-true (r .literal) (s .literal) (f .0) k;
-      zero = eqb-true (r .zero) (s .zero) (f .1) k;
-    }
+    same-record r s (eqb-true _ _ (a .0)) (eqb-true _ _ (b .0)) (eqb-true _ _ (c .0)) (eqb-true _ _ (d .0)) (eqb-true _ _ (f .0)) (eqb-true _ _ (f .1))
 
 pub equal-self : (r : StepRecord) → equalRecords r r ≡ true
 unfolding equalRecords
@@ -44,11 +37,6 @@ same-step : (x y : Step) → equalSteps x y ≡ true → x ≡ y
 same-step x y e = sym (meaning-record x) ∙ ap meaning (equal-same (recordOf x) (recordOf y) e) ∙ meaning-record y
 
 -- ---- the three kinds
-
-pub data Pair (count : ℕ) : Step → Step → Type 0 where
-  two-L : {v b : ℕ} → Pair count (L v b) (L v b)
-  two-turns : {v i j : ℕ} → Pair count (turn v i j) (turn v i j)
-  split-and-join : {v i : ℕ} → Pair count (split v i) (join i count)
 
 pub pair-kind : (count : ℕ) (x y : Step) → stepPair count x y ≡ true → Pair count x y
 unfolding stepPair

@@ -5,14 +5,9 @@ use mathlib.Core.Bool.{Bool, true, false, cond}
 use mathlib.Core.List.{List, [], _∷_, _++_, append-assoc, append-nil}
 use Prim.Native.Nat.{ℕ}
 use Rattle.steps.specs.Steps.{Step}
-use Rattle.compactor.specs.Compact.{stepPair, countAfter, withoutFirst, NoPair, compacted}
+use Rattle.compactor.specs.Compact.{stepPair, countAfter, countAlong, withoutFirst, NoPair, compacted}
 use Rattle.compactor.proofs.Pairs.{pair-count}
 use Rattle.compactor.proofs.Removing.{compacted-none, compacted-first}
-
--- the count after all of them
-unfoldable pub countAlong : ℕ → List Step → ℕ
-countAlong count [] = count
-countAlong count (x ∷ xs) = countAlong (countAfter count x) xs
 
 pub along-snoc : (count : ℕ) (xs : List Step) (x : Step) → countAlong count (xs ++ x ∷ []) ≡ countAfter (countAlong count xs) x
 unfolding countAlong
@@ -21,7 +16,7 @@ along-snoc count (y ∷ xs) x = along-snoc (countAfter count y) xs x
 
 module _ (t x : Step) where
   -- where the steps up to t have no pair, and x undoes t, those two are the first pair
-  first-is : (rest : List Step) (count : ℕ) (xs : List Step) → NoPair count (xs ++ t ∷ []) → stepPair (countAlong count xs) t x ≡ true
+  pub first-is : (rest : List Step) (count : ℕ) (xs : List Step) → NoPair count (xs ++ t ∷ []) → stepPair (countAlong count xs) t x ≡ true
       → withoutFirst count (xs ++ t ∷ x ∷ rest) ≡ xs ++ rest
   unfolding withoutFirst NoPair countAlong
   first-is rest count [] p e = ap (λ (b : Bool). cond b rest (t ∷ withoutFirst (countAfter count t) (x ∷ rest))) e

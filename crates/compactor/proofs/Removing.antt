@@ -3,12 +3,11 @@
 use mathlib.Core.Path.{_≡_, refl, sym, ap, _∙_, subst}
 use mathlib.Core.Logic.{_⊎_, inl, inr}
 use mathlib.Core.Bool.{Bool, true, false, cond}
-use mathlib.Core.List.{List, [], _∷_, map, Sublistᴰ, Sublistᴰ·slnil, Sublistᴰ·cons, Sublistᴰ·cons-cons, Sublistᴰ·refl, Sublistᴰ·trans}
+use mathlib.Core.List.{List, [], _∷_, Sublistᴰ, Sublistᴰ·slnil, Sublistᴰ·cons, Sublistᴰ·cons-cons, Sublistᴰ·refl, Sublistᴰ·trans}
 use Prim.Native.Nat.{ℕ, zero, suc, _+_, _≤_}
 use native.Mathlib.Nat.{not-suc-le-zero}
 use native.Mathlib.Omega.{arith}
 use lib.ListN.{length}
-use Rattle.bits.specs.Sums.{All}
 use Rattle.steps.specs.Steps.{Step}
 use Rattle.compactor.specs.Compact.{stepPair, countAfter, withoutFirst, NoPair, again, compacted}
 
@@ -120,22 +119,3 @@ module _ (count : ℕ) (xs : List Step) where
 -- "Compacting twice is the same as once"
 pub compacted-twice : (count : ℕ) (xs : List Step) → compacted count (compacted count xs) ≡ compacted count xs
 compacted-twice count xs = compacted-none count (compacted count xs) (none-left count xs)
-
--- ---- subsequences
-
-module _ {A : Type 0} where
-  -- what holds of all holds of a subsequence
-  pub all-subsequence : (P : A → Type 0) {ys xs : List A} → Sublistᴰ ys xs → All P xs → All P ys
-  all-subsequence P Sublistᴰ·slnil h = h
-  all-subsequence P (Sublistᴰ·cons s) h = all-subsequence P s (h .1)
-  all-subsequence P (Sublistᴰ·cons-cons e s) h = (subst P (sym e) (h .0), all-subsequence P s (h .1))
-
-  pub length-subsequence : {ys xs : List A} → Sublistᴰ ys xs → length ys ≤ length xs
-  length-subsequence Sublistᴰ·slnil = omega arith
-  length-subsequence (Sublistᴰ·cons s) = omega (arith, length-subsequence s)
-  length-subsequence (Sublistᴰ·cons-cons e s) = omega (arith, length-subsequence s)
-
-  pub map-subsequence : {B : Type 0} (f : A → B) {ys xs : List A} → Sublistᴰ ys xs → Sublistᴰ (map f ys) (map f xs)
-  map-subsequence f Sublistᴰ·slnil = Sublistᴰ·slnil
-  map-subsequence f (Sublistᴰ·cons s) = Sublistᴰ·cons (map-subsequence f s)
-  map-subsequence f (Sublistᴰ·cons-cons e s) = Sublistᴰ·cons-cons (ap f e) (map-subsequence f s)

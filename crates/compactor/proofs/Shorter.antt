@@ -7,7 +7,7 @@ use Prim.Native.Nat.{ℕ, zero, suc, _+_, _≤_, max}
 use native.Mathlib.Omega.{arith}
 use lib.ListN.{length}
 use Rattle.bits.specs.Sums.{All}
-use Rattle.bits.proofs.Sums.{all-map}
+use Rattle.bits.proofs.Subsequences.{all-subsequence}
 use Rattle.cube.specs.declared.Cube.{Cube}
 use Rattle.cube.specs.Cubes.{Good}
 use Rattle.steps.specs.Moves.{next}
@@ -16,12 +16,12 @@ use Rattle.steps.proofs.Kept.{takenBack, step-count, step-kept}
 use Rattle.steps.proofs.Linear.{Linear, exchanged-list-twice}
 use Rattle.script.specs.Run.{Ran, stopped, ended, onward, stepsFrom, unstep, undoBy, undo, finish, run}
 use Rattle.script.proofs.Counts.{shifted, steps-shift}
-use Rattle.script.proofs.Pending.{undone, undo-map, undone-good}
+use Rattle.script.proofs.Pending.{undo-good}
 use Rattle.script.proofs.Runs.{ended-list, ended-peak, not-ended, OnwardBy, onward-by, steps-end-by}
 use Rattle.script.proofs.Value.{run-finished, steps-keeping}
-use Rattle.compactor.specs.Compact.{stepPair, countAfter, withoutFirst, again, compacted}
-use Rattle.compactor.proofs.Pairs.{Pair, two-L, two-turns, split-and-join, pair-kind}
-use Rattle.compactor.proofs.Removing.{first-subsequence, all-subsequence}
+use Rattle.compactor.specs.Compact.{Pair, two-L, two-turns, split-and-join, stepPair, countAfter, withoutFirst, again, compacted}
+use Rattle.compactor.proofs.Pairs.{pair-kind}
+use Rattle.compactor.proofs.Removing.{first-subsequence}
 use Rattle.compactor.proofs.Undone.{pair-back}
 
 -- a run, or the steps of one, ends in the list m, with a peak no higher than p
@@ -84,7 +84,7 @@ module _ (n cap : ℕ) where
         no-higher = z .no-higher;
       }
 
-  -- the L steps that are left undo the same
+  -- to undo a pair does nothing
   pair-undone : (count : ℕ) (x y : Step) → Pair count x y → Allowed n x → (l : List Cube) → All (Good n) l → unstep x (unstep y l) ≡ l
   pair-undone count x y p = go p
     where
@@ -93,9 +93,7 @@ module _ (n cap : ℕ) where
       go two-turns h l a = refl
       go split-and-join h l a = refl
 
-  undo-good : (xs : List Step) → All (Allowed n) xs → (l : List Cube) → All (Good n) l → All (Good n) (undo xs l)
-  undo-good xs h l a = subst (All (Good n)) (sym (undo-map xs l)) (all-map (Good n) (Good n) (undone xs) (undone-good n xs h) l a)
-
+  -- so the L steps that are left undo the same
   first-undone : (count : ℕ) (xs : List Step) → All (Allowed n) xs → (l : List Cube) → All (Good n) l → undo (withoutFirst count xs) l ≡ undo xs l
   unfolding withoutFirst undoBy
   first-undone count [] h l a = refl
@@ -104,7 +102,7 @@ module _ (n cap : ℕ) where
     where
       choose : (b : Bool) → stepPair count x y ≡ b → undo (withoutFirst (countAfter count x) (y ∷ xs)) l ≡ undo (y ∷ xs) l
           → undo (cond b xs (x ∷ withoutFirst (countAfter count x) (y ∷ xs))) l ≡ unstep x (unstep y (undo xs l))
-      choose true u z = sym (pair-undone count x y (pair-kind count x y u) (h .0) (undo xs l) (undo-good xs (h .1 .1) l a))
+      choose true u z = sym (pair-undone count x y (pair-kind count x y u) (h .0) (undo xs l) (undo-good n xs (h .1 .1) l a))
       choose false u z = ap (unstep x) z
 
   first-run : (xs : List Step) (l m : List Cube) (p : ℕ) → All (Allowed n) xs → All (Good n) l → run n cap xs l ≡ ended m p

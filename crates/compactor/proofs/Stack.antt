@@ -6,37 +6,29 @@ use mathlib.Core.List.{List, [], _∷_, _++_, map, map-append, append-assoc}
 use Prim.Native.Nat.{ℕ, zero, suc, _+_, _-_, _/_, _≤_, _<_, zero-le}
 use native.Mathlib.Numerals.{add-one}
 use native.Mathlib.Omega.{arith}
-use lib.ListN.{length, getD, set, take, drop, length-map, length-take, length-set, drop-of-length-le, List·getD-map}
+use lib.ListN.{length, getD, set, take, drop, length-map, length-take, length-set, drop-of-length-le}
 use lib.Seq.{getD-take, take-suc, take-suc-set, drop-cons}
 use borrow.Author.Tests.{eq-eqb, ne-eqb}
 use Rattle.bits.specs.Sums.{All}
-use Rattle.bits.proofs.Sums.{all-get, all-snoc, all-each}
+use Rattle.bits.proofs.Sums.{all-get, all-parts, all-snoc, all-each}
 use Rattle.records.specs.Records.{listOf}
-use Rattle.records.proofs.Records.{length-list}
 use Rattle.cube.specs.Lists.{mostRecords}
 use Rattle.steps.specs.Steps.{Step, drop as dropping, join, split, turn, L, meaning}
 use Rattle.script.specs.Scripts.{stepRecords, stepWidth, mostSteps, recordOf, stepsOf}
-use Rattle.compactor.specs.Compact.{stepPair, countAfter}
+use Rattle.compactor.specs.Compact.{stepPair, countAfter, countAlong}
 use Rattle.compactor.specs.declared.Halves.{Halves}
-use Rattle.compactor.specs.Keeping.{mostCount, recordAt, halvesAt, operationOf, halfPair, countBy, Meant, takenOff, topAfter, keptAfter, stepAt, Kept}
+use Rattle.compactor.specs.StepBytes.{recordAt, halvesAt, operationOf, halfPair}
+use Rattle.compactor.specs.Keeping.{mostCount, countBy, Faithful, takenOff, topAfter, keptAfter, stepAt, StepsKept}
+use Rattle.script.proofs.Scripts.{length-script, meaning-at}
 use Rattle.compactor.proofs.Pairs.{count-of, count-most}
 use Rattle.compactor.proofs.StepBytes.{at-halves, at-small, half-pair, operation-is}
-use Rattle.compactor.proofs.Passing.{countAlong, along-snoc, Passing, passing-start, passing-first, passing-off, passing-on, passing-end}
+use Rattle.compactor.proofs.Passing.{along-snoc, Passing, passing-start, passing-first, passing-off, passing-on, passing-end}
 
--- ---- a script's records and its steps
-
-pub length-script : (b : List ℕ) → length (stepsOf b) ≡ length b / stepWidth
-unfolding stepsOf
-length-script b = length-map (listOf stepRecords b) meaning ∙ length-list stepRecords b
-
-module _ (b : List ℕ) (k : ℕ) where
-  pub meaning-at : meaning (recordAt b k) ≡ stepAt (stepsOf b) k
-  unfolding stepsOf meaning
-  meaning-at = sym (List·getD-map meaning (listOf stepRecords b) k (stepRecords .none))
-
-  pub meant-at : Meant b → k < length (stepsOf b) → recordOf (meaning (recordAt b k)) ≡ recordAt b k
-  unfolding Meant stepsOf
-  meant-at m h = all-get (λ r. recordOf (meaning r) ≡ r) (listOf stepRecords b) k (stepRecords .none) m (omega (arith, length-map (listOf stepRecords b) meaning))
+-- a step of a script whose records are those of their steps
+pub faithful-at : (b : List ℕ) (k : ℕ) → Faithful b → k < length (stepsOf b) → recordOf (meaning (recordAt b k)) ≡ recordAt b k
+unfolding Faithful stepsOf
+faithful-at b k m h =
+    all-get (λ r. recordOf (meaning r) ≡ r) (listOf stepRecords b) k (stepRecords .none) m (omega (arith, length-map (listOf stepRecords b) meaning))
 
 -- ---- whether a step takes the last one off, by whether there is one
 
@@ -61,15 +53,10 @@ pair-now c along (split v i) x e = let z : along - 1 ≡ c = omega arith in ap (
 pair-now c along (turn v i j) x e = refl
 pair-now c along (L v b) x e = refl
 
--- what holds of all holds of both parts
-all-parts : (P : ℕ → Type 0) (l m : List ℕ) → All P (l ++ m) → All P l × All P m
-all-parts P [] m h = (tt, h)
-all-parts P (x ∷ l) m h = let t = all-parts P l m (h .1) in ((h .0, t .0), t .1)
-
 -- ---- the loop
 
 -- k steps are looked at
-pub record Keeping (size : ℕ) (b : List ℕ) (first : ℕ) (kept : List ℕ) (top count k : ℕ) : Type 0 where
+pub record Stacked (size : ℕ) (b : List ℕ) (first : ℕ) (kept : List ℕ) (top count k : ℕ) : Type 0 where
   pub long : length kept ≡ size
   pub below : k ≤ length (stepsOf b)
   pub few : top ≤ k
@@ -81,17 +68,17 @@ module _ (b : List ℕ) (first size : ℕ) (room : (length (stepsOf b) ≤ mostS
   abbrev xs : List Step
   xs = stepsOf b
 
-  pub keeping-start : (kept : List ℕ) → length kept ≡ size → Keeping size b first kept 0 first 0
+  pub keeping-start : (kept : List ℕ) → length kept ≡ size → Stacked size b first kept 0 first 0
   keeping-start kept e = record { long = e; below = zero-le; few = zero-le; inside = tt; passing = passing-start first xs; small = omega arith }
 
-  module _ (kept : List ℕ) (top count k : ℕ) (g : Keeping size b first kept top count k) where
+  module _ (kept : List ℕ) (top count k : ℕ) (g : Stacked size b first kept top count k) where
     pub keeping-room : top ≤ length kept
     keeping-room = omega (arith, g .few, g .below, g .long, room .1)
 
     pub keeping-count : count ≤ mostCount
     keeping-count = omega (arith, g .small, g .below, room .0, room .2)
 
-    pub keeping-end : length b / stepWidth ≤ k → Kept first (stepsOf b) kept top
+    pub keeping-end : length b / stepWidth ≤ k → StepsKept first (stepsOf b) kept top
     keeping-end h = record {
       inside = all-each (λ t. t < k) (λ t. t < length xs) (λ t l. omega (arith, g .below)) (take top kept) (g .inside);
       room = keeping-room;
@@ -105,7 +92,7 @@ module _ (b : List ℕ) (first size : ℕ) (room : (length (stepsOf b) ≤ mostS
         let taken : length (take top kept) ≡ top = omega (arith, length-take top kept, keeping-room) in
         omega (arith, all-get (λ t. t < k) (take top kept) (top - 1) 0 (g .inside) (omega arith), getD-take top kept (top - 1) 0 (omega arith))
 
-    module _ (m : Meant b) (h : k < length b / stepWidth) where
+    module _ (m : Faithful b) (h : k < length b / stepWidth) where
       k-lt : k < length (stepsOf b)
       k-lt = omega (arith, length-script b)
 
@@ -118,7 +105,7 @@ module _ (b : List ℕ) (first size : ℕ) (room : (length (stepsOf b) ≤ mostS
       -- the state after step k, whatever is kept
       next : (kept′ : List ℕ) (top′ : ℕ) → length kept′ ≡ length kept → top′ ≤ top + 1 → All (λ t. t < k + 1) (take top′ kept′)
           → Passing first xs (map (stepAt xs) (take top′ kept′)) (drop (suc k) xs) (countAfter count (stepAt xs k))
-          → Keeping size b first kept′ top′ (countAfter count (stepAt xs k)) (k + 1)
+          → Stacked size b first kept′ top′ (countAfter count (stepAt xs k)) (k + 1)
       next kept′ top′ el et a p = record {
         long = el ∙ g .long;
         below = omega (arith, k-lt);
@@ -130,7 +117,7 @@ module _ (b : List ℕ) (first size : ℕ) (room : (length (stepsOf b) ≤ mostS
 
       -- step k put on
       on : (ys : List Step) → ys ≡ map (stepAt xs) (take top kept) ++ stepAt xs k ∷ [] → Passing first xs ys (drop (suc k) xs) (countAfter count (stepAt xs k))
-          → Keeping size b first (set kept top k) (top + 1) (countAfter count (stepAt xs k)) (k + 1)
+          → Stacked size b first (set kept top k) (top + 1) (countAfter count (stepAt xs k)) (k + 1)
       on ys ey p =
           let put : take (top + 1) (set kept top k) ≡ take top kept ++ k ∷ []
           = ap (λ (j : ℕ). take j (set kept top k)) (add-one top) ∙ take-suc-set kept top k keeping-more-room in
@@ -145,7 +132,7 @@ module _ (b : List ℕ) (first size : ℕ) (room : (length (stepsOf b) ≤ mostS
           none-kept : map (stepAt xs) (take top kept) ≡ []
           none-kept = ap (λ (j : ℕ). map (stepAt xs) (take j kept)) e
 
-          put-first : Keeping size b first (set kept top k) (top + 1) (countAfter count (stepAt xs k)) (k + 1)
+          put-first : Stacked size b first (set kept top k) (top + 1) (countAfter count (stepAt xs k)) (k + 1)
           put-first =
               on (stepAt xs k ∷ []) (ap (λ (l : List Step). l ++ stepAt xs k ∷ []) (sym none-kept))
               (passing-first first xs (stepAt xs k) (drop (suc k) xs) count
@@ -184,30 +171,30 @@ module _ (b : List ℕ) (first size : ℕ) (room : (length (stepsOf b) ≤ mostS
               sym (off-last b kept top count x (λ q. omega arith) number (ap (λ (i : ℕ). getD kept i 0) z) (count - 1) refl (halvesAt b number) refl _ refl)
               ∙ ap₂ (halfPair (count - 1)) (at-halves b number inside) (ex ∙ at-halves b k h)
               ∙ half-pair (count - 1) (omega (arith, keeping-count)) (recordAt b number) (recordAt b k) (at-small b number inside bytes) (at-small b k h bytes)
-              (meant-at b number m (omega (arith, parts .1 .0, k-lt))) (meant-at b k m k-lt)
+              (faithful-at b number m (omega (arith, parts .1 .0, k-lt))) (faithful-at b k m k-lt)
               ∙ ap₂ (stepPair (count - 1)) (meaning-at b number) (meaning-at b k)
               ∙ pair-now (countAlong first before) count t (stepAt xs k) (passed .counts ∙ along-snoc first before t)
 
           take-last : stepPair (countAlong first before) t (stepAt xs k) ≡ true
-              → Keeping size b first kept (top - 1) (countAfter count (stepAt xs k)) (k + 1)
+              → Stacked size b first kept (top - 1) (countAfter count (stepAt xs k)) (k + 1)
           take-last f =
               let z : j ≡ top - 1 = omega arith in
-              subst (λ (i : ℕ). Keeping size b first kept i (countAfter count (stepAt xs k)) (k + 1)) z
+              subst (λ (i : ℕ). Stacked size b first kept i (countAfter count (stepAt xs k)) (k + 1)) z
               (next kept j refl (omega arith) (all-each (λ i. i < k) (λ i. i < k + 1) (λ i l. omega arith) (take j kept) (parts .0))
               (passing-off first xs before t (stepAt xs k) (drop (suc k) xs) count passed f))
 
           put-next : stepPair (countAlong first before) t (stepAt xs k) ≡ false
-              → Keeping size b first (set kept top k) (top + 1) (countAfter count (stepAt xs k)) (k + 1)
+              → Stacked size b first (set kept top k) (top + 1) (countAfter count (stepAt xs k)) (k + 1)
           put-next f =
               on (before ++ t ∷ stepAt xs k ∷ []) (sym (append-assoc before (t ∷ []) (stepAt xs k ∷ [])) ∙ ap (λ (l : List Step). l ++ stepAt xs k ∷ []) (sym split-last))
               (passing-on first xs before t (stepAt xs k) (drop (suc k) xs) count passed f)
 
         by-off : (off : Bool) → off ≡ takenOff b kept top count x
-            → Keeping size b first (keptAfter off kept top k) (topAfter off top) (countAfter count (stepAt xs k)) (k + 1)
+            → Stacked size b first (keptAfter off kept top k) (topAfter off top) (countAfter count (stepAt xs k)) (k + 1)
         by-off off eo = go top refl off eo
           where
             go : (i : ℕ) → top ≡ i → (off : Bool) → off ≡ takenOff b kept top count x
-                → Keeping size b first (keptAfter off kept top k) (topAfter off top) (countAfter count (stepAt xs k)) (k + 1)
+                → Stacked size b first (keptAfter off kept top k) (topAfter off top) (countAfter count (stepAt xs k)) (k + 1)
             go zero e true f = absurd (false≢true (off-none b kept top count x e ∙ sym f))
             go zero e false f = put-first e
             go (suc j) e true f = take-last j e (sym (f ∙ last-off j e))
@@ -223,12 +210,12 @@ module _ (b : List ℕ) (first size : ℕ) (room : (length (stepsOf b) ≤ mostS
               go (suc j) z = omega arith
 
           pub keeping-more : (top′ : ℕ) → top′ ≡ topAfter off top → (kept′ : List ℕ) → kept′ ≡ keptAfter off kept top k → (c : ℕ) → c ≡ countBy count (operationOf x)
-              → Keeping size b first kept′ top′ c (k + 1)
+              → Stacked size b first kept′ top′ c (k + 1)
           keeping-more top′ et kept′ ek c ec =
               let op-is : operationOf x ≡ recordAt b k .op = ap operationOf (ex ∙ at-halves b k h) ∙ operation-is (recordAt b k) (at-small b k h bytes) in
               let step-is : countBy count (operationOf x) ≡ countAfter count (stepAt xs k) =
               ap (countBy count) op-is ∙ count-of count (recordAt b k) ∙ ap (countAfter count) (meaning-at b k) in
-              subst (λ (i : ℕ). Keeping size b first kept′ i c (k + 1)) (sym et)
-              (subst (λ (l : List ℕ). Keeping size b first l (topAfter off top) c (k + 1)) (sym ek)
-              (subst (λ (i : ℕ). Keeping size b first (keptAfter off kept top k) (topAfter off top) i (k + 1))
+              subst (λ (i : ℕ). Stacked size b first kept′ i c (k + 1)) (sym et)
+              (subst (λ (l : List ℕ). Stacked size b first l (topAfter off top) c (k + 1)) (sym ek)
+              (subst (λ (i : ℕ). Stacked size b first (keptAfter off kept top k) (topAfter off top) i (k + 1))
               (sym (ec ∙ step-is)) (by-off off eo)))

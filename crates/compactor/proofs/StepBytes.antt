@@ -3,7 +3,7 @@
 use mathlib.Core.Path.{_≡_, refl, sym, ap, ap₂, _∙_, subst}
 use mathlib.Core.Bool.{Bool, true, false, cond, _&&_}
 use mathlib.Core.List.{List, [], _∷_}
-use Prim.Native.Nat.{ℕ, zero, suc, _+_, _-_, _*_, _/_, _%_, _<_}
+use Prim.Native.Nat.{ℕ, zero, suc, _+_, _-_, _*_, _/_, _<_}
 use native.Mathlib.Nat.{add-zero}
 use native.Mathlib.Omega.{arith}
 use borrow.Author.Tests.{eqb-true, eq-eqb, ne-eqb, lt-ltb, le-ltb}
@@ -11,18 +11,19 @@ use borrow.Rule.Slice.PartMut.{putMid}
 use lib.Dec.{eqb, ltb}
 use lib.ListN.{length, getD, take, drop}
 use lib.Seq.{sets}
-use Rattle.bits.proofs.Bools.{both-true, true-both}
+use Rattle.bits.proofs.Bools.{both-true, true-both, same-bool}
 use Rattle.records.specs.Numbers.{bytesOf, numberAt}
 use Rattle.records.specs.Records.{stored}
-use Rattle.records.proofs.Fields.{Fields, fields-lawful, fields-in, stored-both}
+use Rattle.records.proofs.Fields.{Fields, fields-lawful, fields-part, fields-in, stored-both}
 use Rattle.records.proofs.Records.{Lawful, list-at, stored-part}
 use Rattle.records.proofs.Widths.{number-lt, number-parts}
 use Rattle.steps.specs.declared.StepRecord.{StepRecord}
 use Rattle.steps.specs.Steps.{Step, meaning, meaningBy}
 use Rattle.script.specs.Scripts.{stepRecords, stepWidth, placeSize, recordOf}
+use Rattle.script.proofs.Scripts.{step-fields}
 use Rattle.compactor.specs.declared.Halves.{Halves}
 use Rattle.compactor.specs.Compact.{equalRecords, stepPair}
-use Rattle.compactor.specs.Keeping.{halfRecords, recordAt, halvesAt, operationOf, equalHalves, joinOf, halfPair}
+use Rattle.compactor.specs.StepBytes.{halfRecords, recordAt, halvesAt, operationOf, equalHalves, joinOf, halfPair}
 use Rattle.compactor.proofs.Pairs.{equal-same}
 
 -- ---- read and stored
@@ -52,7 +53,7 @@ module _ (b : List ℕ) (k : ℕ) (inside : k < length b / stepWidth) where
 abbrev pub halvesOf : StepRecord → Halves
 halvesOf r = record { low = r .op + 256 * r .v + 65536 * r .i; high = r .j + 65536 * r .literal + 16777216 * r .zero }
 
--- what a record that was read is: its fields are numbers of a byte, and its places of two
+-- what a record that was read is: its places are numbers of two bytes, its other fields but the last one, which stands highest, of one
 pub record Small (r : StepRecord) : Type 0 where
   pub op-lt : r .op < 256
   pub v-lt : r .v < 256
@@ -125,11 +126,6 @@ equal-halves : (r s : StepRecord) → Small r → Small s → equalHalves (halve
 unfolding equalRecords
 equal-halves r s a c = same-bool _ _ (λ e. there (both-true _ _ e)) (λ e. back (equal-same r s e))
   where
-    same-bool : (x y : Bool) → (x ≡ true → y ≡ true) → (y ≡ true → x ≡ true) → x ≡ y
-    same-bool true y f g = sym (f refl)
-    same-bool false true f g = g refl
-    same-bool false false f g = refl
-
     there : (eqb (halvesOf r .low) (halvesOf s .low) ≡ true) × (eqb (halvesOf r .high) (halvesOf s .high) ≡ true) → equalRecords r s ≡ true
     there e =
         let low : halvesOf r .low ≡ halvesOf s .low = eqb-true _ _ (e .0) in
@@ -205,48 +201,11 @@ half-pair count h r s a c er es = by (r .op) refl
 
 -- ---- copied
 
--- a number by its low byte, and what is over it
-low-byte : (x w : ℕ) → (x + 256 * w) % 256 ≡ x % 256
-low-byte x w = omega arith
-
-high-bytes : (x w : ℕ) → (x + 256 * w) / 256 ≡ x / 256 + w
-high-bytes x w = omega arith
-
-byte-of : (x w : ℕ) → x < 256 → (x + 256 * w) % 256 ≡ x
-byte-of x w h = omega arith
-
-rest-of : (x w : ℕ) → x < 256 → (x + 256 * w) / 256 ≡ w
-rest-of x w h = omega arith
-
-byte-lt : (x : ℕ) → x < 65536 → x / 256 < 256
-byte-lt x h = omega arith
-
--- the bytes of a record's halves are the record's
-same-bytes : (r : StepRecord) → Small r → halfRecords .enc (halvesOf r) ≡ stepRecords .enc r
-unfolding bytesOf
-same-bytes r a =
-    let low : ℕ = r .op + 256 * r .v + 65536 * r .i in
-    let first : low ≡ r .op + 256 * (r .v + 256 * r .i) = omega arith in
-    let after : low / 256 ≡ r .v + 256 * r .i = ap (λ (k : ℕ). k / 256) first ∙ rest-of (r .op) (r .v + 256 * r .i) (a .op-lt) in
-    let place : low / 256 / 256 ≡ r .i = ap (λ (k : ℕ). k / 256) after ∙ rest-of (r .v) (r .i) (a .v-lt) in
-    let b₀ : low % 256 ≡ r .op = ap (λ (k : ℕ). k % 256) first ∙ byte-of (r .op) (r .v + 256 * r .i) (a .op-lt) in
-    let b₁ : low / 256 % 256 ≡ r .v = ap (λ (k : ℕ). k % 256) after ∙ byte-of (r .v) (r .i) (a .v-lt) in
-    let high : ℕ = r .j + 65536 * r .literal + 16777216 * r .zero in
-    let last : ℕ = r .literal + 256 * r .zero in
-    let over : high ≡ r .j + 256 * (256 * last) = omega arith in
-    let second : high / 256 ≡ r .j / 256 + 256 * last = ap (λ (k : ℕ). k / 256) over ∙ high-bytes (r .j) (256 * last) in
-    let byte : r .j / 256 < 256 = byte-lt (r .j) (a .j-lt) in
-    let third : high / 256 / 256 ≡ last = ap (λ (k : ℕ). k / 256) second ∙ rest-of (r .j / 256) last byte in
-    let b₄ : high % 256 ≡ r .j % 256 = ap (λ (k : ℕ). k % 256) over ∙ low-byte (r .j) (256 * last) in
-    let b₅ : high / 256 % 256 ≡ r .j / 256 = ap (λ (k : ℕ). k % 256) second ∙ byte-of (r .j / 256) last byte in
-    let b₆ : high / 256 / 256 % 256 ≡ r .literal = ap (λ (k : ℕ). k % 256) third ∙ byte-of (r .literal) (r .zero) (a .literal-lt) in
-    let b₇ : high / 256 / 256 / 256 ≡ r .zero = ap (λ (k : ℕ). k / 256) third ∙ rest-of (r .literal) (r .zero) (a .literal-lt) in
-    λ t. b₀ t ∷ b₁ t ∷ place t % 256 ∷ place t / 256 ∷ b₄ t ∷ b₅ t ∷ b₆ t ∷ b₇ t ∷ []
-
--- so a step's halves stored are its record stored
+-- a step's halves stored are its record stored: the bytes of both are those of its part of the script
 pub halves-copied : (b : List ℕ) (k : ℕ) → k < length b / stepWidth → ((i : ℕ) → getD b i 0 < 256) → (out : List ℕ) (t : ℕ)
     → stored halfRecords out t (halvesAt b k) ≡ stored stepRecords out t (recordAt b k)
 unfolding stored
 halves-copied b k inside small out t =
     ap (λ (bytes : List ℕ). cond (ltb t (length out / 8)) (sets out (8 * t) bytes) out)
-    (ap (halfRecords .enc) (at-halves b k inside) ∙ same-bytes (recordAt b k) (at-small b k inside small))
+    (ap (halfRecords .enc) (list-at halfRecords b k (halfRecords .none) inside) ∙ fields-part _ _ _ half-fields b small k inside
+    ∙ sym (ap (stepRecords .enc) (record-is b k inside) ∙ fields-part _ _ _ step-fields b small k inside))

@@ -1,13 +1,13 @@
 -- Two equal L steps, two equal turns, and a split with the join of its halves, each give the list back, where both steps are done.
 -- Assumes nothing.
-use mathlib.Core.Path.{_≡_, refl, sym, ap, ap₂, _∙_}
+use mathlib.Core.Path.{_≡_, sym, ap, ap₂, _∙_}
 use mathlib.Core.Logic.{_≢_}
 use mathlib.Core.List.{List, [], _∷_, _++_, map}
 use Prim.Native.Nat.{ℕ, _-_, _<_}
 use native.Mathlib.Decide.{ℕ-discrete}
 use native.Mathlib.Omega.{arith}
-use lib.ListN.{length, getD, set, take, length-set, length-append, List·getD-append}
-use lib.Seq.{getD-set-same, getD-set-other, set-set, set-comm, set-getD, set-at, set-append-left, take-at, getD-at}
+use lib.ListN.{length, set, length-set, List·getD-append}
+use lib.Seq.{getD-set-same, getD-set-other, set-set, set-comm, set-getD, set-append-left, getD-at}
 use Rattle.bits.specs.Sums.{All}
 use Rattle.records.specs.Places.{removeAt}
 use Rattle.cube.specs.declared.Cube.{Cube}
@@ -23,25 +23,16 @@ use Rattle.steps.specs.Effects.{JoinDone, SplitDone, TurnDone}
 use Rattle.steps.proofs.Balanced.{next-same}
 use Rattle.steps.proofs.Inversion.{join-accepted, split-accepted, turn-accepted, turn-two}
 use Rattle.steps.proofs.Linear.{exchanged-list-twice}
-use Rattle.compactor.proofs.Pairs.{Pair, two-L, two-turns, split-and-join}
+use Rattle.steps.proofs.Places.{remove-last}
+use Rattle.compactor.specs.Compact.{Pair, two-L, two-turns, split-and-join}
 
--- the third of two cubes, and then the third of that and a cube with the second's code
+-- the third of two cubes, and then the third of that and a cube with the second's code, is the first cube
 third-at-back : (n : ℕ) (c d y : Cube) (v : ℕ) → Good n c → v < n → code d v ≢ code c v → code y v ≡ code d v → thirdAt (thirdAt c d v) y v ≡ c
 third-at-back n c d y v g h f e =
     let z : ℕ = third (code c v) (code d v) in
     put-put c v z (third (code (put c v z) v) (code y v))
     ∙ ap (put c v) (ap₂ third (code-same c v z (third-lt (code c v) (code d v))) e ∙ third-back (code c v) (code d v) (code-lt c v) (code-lt d v) f)
     ∙ put-self n c v g h
-
--- the last place removed
-remove-last : {A : Type 0} (d : A) (l : List A) (y : A) → removeAt d (l ++ y ∷ []) (length l) ≡ l
-unfolding removeAt
-remove-last {A} d l y =
-    let s : List A = l ++ y ∷ [] in
-    let e : length s - 1 ≡ length l = omega (arith, length-append l (y ∷ [])) in
-    ap (λ (k : ℕ). take k (set s (length l) (getD s k d))) e
-    ∙ ap (take (length l)) (set-at l y [] (getD s (length l) d) (length l) refl)
-    ∙ take-at l (getD s (length l) d ∷ []) (length l) refl
 
 module _ (n cap : ℕ) (l m r : List Cube) (a : All (Good n) l) where
   L-twice : (v b : ℕ) → v < n → b < 2 → step n cap (L v b) l ≡ next m → step n cap (L v b) m ≡ next r → r ≡ l

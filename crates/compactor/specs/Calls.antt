@@ -20,7 +20,7 @@ compactOutcome n count script room =
     (unless (leb (length script) room) 5 0
     (accepted (length (compacted count (stepsOf script)) ∷ [])))))
 
--- the output after it: the steps left at its front, and no other byte
+-- the output after it: the steps left at its front; "Other calls write the bytes they name and no more" (document 01)
 unfoldable pub compactAfter : ℕ → ℕ → List ℕ → List ℕ → List ℕ
 compactAfter n count script out =
     afterCall (compactOutcome n count script (length out)) (written stepRecords 0 (map recordOf (compacted count (stepsOf script))) out) out

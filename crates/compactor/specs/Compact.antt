@@ -29,9 +29,20 @@ stepPair count (split v i) y = equalSteps (join i count) y
 stepPair count (turn v i j) y = equalSteps (turn v i j) y
 stepPair count (L v b) y = equalSteps (L v b) y
 
--- "counts along, never below zero": a split adds one, a join takes one, a drop two
+-- so these are the pairs, and no others (`pair-is`, `is-pair`)
+pub data Pair (count : ℕ) : Step → Step → Type 0 where
+  two-L : {v b : ℕ} → Pair count (L v b) (L v b)
+  two-turns : {v i j : ℕ} → Pair count (turn v i j) (turn v i j)
+  split-and-join : {v i : ℕ} → Pair count (split v i) (join i count)
+
+-- "counts along, never below zero": a split adds one, a join takes one, a drop two; `_-_` stops at zero
 unfoldable pub countAfter : ℕ → Step → ℕ
 countAfter count x = count + isSplit x - isJoin x - 2 * isDrop x
+
+-- along all steps of a list
+unfoldable pub countAlong : ℕ → List Step → ℕ
+countAlong count [] = count
+countAlong count (x ∷ xs) = countAlong (countAfter count x) xs
 
 -- "it removes the first pair from the front"; unchanged where there is none
 unfoldable pub withoutFirst : ℕ → List Step → List Step

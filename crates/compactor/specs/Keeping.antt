@@ -1,59 +1,31 @@
--- Inside: what the functions within the call promise one another. None of it is needed to read the call.
+-- Inside: what the functions of the pass, and of what is written, promise one another. None of it is needed to read the call.
 -- Assumes nothing.
 use mathlib.Core.Path.{_≡_}
-use mathlib.Core.Bool.{Bool, true, false, cond, _&&_}
-use mathlib.Core.List.{List, [], _∷_, map}
-use Prim.Native.Nat.{ℕ, _+_, _-_, _*_, _/_, _%_, _≤_, _<_}
-use lib.Dec.{eqb, ltb}
+use mathlib.Core.Bool.{Bool, true, false, cond}
+use mathlib.Core.List.{List, map}
+use Prim.Native.Nat.{ℕ, _+_, _-_, _≤_, _<_}
+use lib.Dec.{eqb}
 use lib.ListN.{length, getD, set, take}
 use Rattle.bits.specs.Sums.{All}
-use Rattle.records.specs.Numbers.{byteSize}
-use Rattle.records.specs.Fields.{byFields}
-use Rattle.records.specs.Records.{Codec, listOf, written}
+use Rattle.records.specs.Records.{listOf, written}
 use Rattle.cube.specs.Lists.{mostRecords}
-use Rattle.steps.specs.declared.StepRecord.{StepRecord}
 use Rattle.steps.specs.Steps.{Step, drop, meaning, meaningBy}
-use Rattle.script.specs.Scripts.{stepRecords, mostSteps, placeSize, recordOf, stepsOf}
+use Rattle.script.specs.Scripts.{stepRecords, mostSteps, recordOf, stepsOf}
 use Rattle.compactor.specs.declared.Halves.{Halves}
 use Rattle.compactor.specs.Compact.{countAfter, compacted}
+use Rattle.compactor.specs.StepBytes.{halvesAt, halfPair}
 
 -- the most that a count along can be
 abbrev pub mostCount : ℕ
 mostCount = mostRecords + mostSteps
-
--- the bytes of a step, as two numbers of four bytes
-abbrev pub halfRecords : Codec Halves
-halfRecords = byFields (4 ∷ 4 ∷ []) (λ h. h .low ∷ h .high ∷ []) (λ xs. record { low = getD xs 0 0; high = getD xs 1 0 })
-
--- the record of a step of a script, and its halves
-abbrev pub recordAt : List ℕ → ℕ → StepRecord
-recordAt b k = getD (listOf stepRecords b) k (stepRecords .none)
-
-abbrev pub halvesAt : List ℕ → ℕ → Halves
-halvesAt b k = getD (listOf halfRecords b) k (halfRecords .none)
-
--- the operation is the lowest byte
-abbrev pub operationOf : Halves → ℕ
-operationOf x = x .low % byteSize
-
-abbrev pub equalHalves : Halves → Halves → Bool
-equalHalves x y = eqb (x .low) (y .low) && eqb (x .high) (y .high)
-
--- the join (operation 2) of the place of a split with this one
-abbrev pub joinOf : ℕ → Halves → Halves
-joinOf count x = record { low = x .low / placeSize * placeSize + 2; high = count }
-
--- a pair, by the halves of its steps: a split (3) and its join, or two equal turns (4) or L steps (5)
-unfoldable pub halfPair : ℕ → Halves → Halves → Bool
-halfPair count x y = cond (eqb (operationOf x) 3) (equalHalves (joinOf count x) y) (ltb 3 (operationOf x) && equalHalves x y)
 
 -- the count after a step, by its operation
 unfoldable pub countBy : ℕ → ℕ → ℕ
 countBy count op = countAfter count (meaningBy op (stepRecords .none))
 
 -- each record of a script is that of its step: it has nothing in fields that its operation does not use
-unfoldable pub Meant : List ℕ → Type 0
-Meant b = All (λ r. recordOf (meaning r) ≡ r) (listOf stepRecords b)
+unfoldable pub Faithful : List ℕ → Type 0
+Faithful b = All (λ r. recordOf (meaning r) ≡ r) (listOf stepRecords b)
 
 -- ---- the stack: the numbers of the steps that are kept are the first `top` of `kept`
 
@@ -74,7 +46,7 @@ abbrev pub stepAt : List Step → ℕ → Step
 stepAt xs k = getD xs k (drop 0 0)
 
 -- the steps that are kept in the end are those that are left
-pub record Kept (count : ℕ) (xs : List Step) (kept : List ℕ) (top : ℕ) : Type 0 where
+pub record StepsKept (count : ℕ) (xs : List Step) (kept : List ℕ) (top : ℕ) : Type 0 where
   pub inside : All (λ k. k < length xs) (take top kept)
   pub room : top ≤ length kept
   pub left : map (stepAt xs) (take top kept) ≡ compacted count xs

@@ -1,3 +1,4 @@
 pub mod Compact
 pub mod Calls
+pub mod StepBytes
 pub mod Keeping

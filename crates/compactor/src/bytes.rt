@@ -1,14 +1,14 @@
-// A step's eight bytes, read and stored as two numbers of four.
+// A step's eight bytes, read and stored as two numbers of four, which the compiler reads and stores as one of eight. The fields of a record, one by one, it does not.
 use crate::Halves;
 use records::numbers;
 use script::record::STEP_WIDTH;
 ghost use mathlib.Core.Path.{_≡_};
 ghost use Prim.Native.Nat.{_/_, _<_};
-ghost use lib.ListN.{length, getD};
+ghost use lib.ListN.{length};
 ghost use lib.Seq.{sets};
-ghost use Rattle.records.specs.Records.{listOf, stored};
+ghost use Rattle.records.specs.Records.{stored};
 ghost use Rattle.script.specs.Scripts.{stepWidth};
-ghost use Rattle.compactor.specs.Keeping.{halfRecords};
+ghost use Rattle.compactor.specs.StepBytes.{halfRecords, halvesAt};
 
 // Bytes of a half.
 const HALF_WIDTH: usize = 4;
@@ -34,7 +34,7 @@ fn put_in(part: &mut [u8], h: Halves)
 // The halves of a step that the script has.
 pub(crate) fn halves_at(script: &[u8], k: usize) -> Halves
     requires { ⌜ k < length (now script) / stepWidth ⌝ }
-    ensures { λ r. ⌜ r ≡ getD (listOf halfRecords (now (script .entry))) k (halfRecords .none) ⌝ }
+    ensures { λ r. ⌜ r ≡ halvesAt (now (script .entry)) k ⌝ }
 {
     let at = STEP_WIDTH * k;
     let end = at + STEP_WIDTH;

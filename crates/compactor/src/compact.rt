@@ -11,12 +11,12 @@ ghost use Prim.Native.Nat.{_/_, _<_, _≤_};
 ghost use lib.ListN.{length, take};
 ghost use Rattle.bits.specs.Sums.{All};
 ghost use Rattle.records.specs.Records.{written};
-ghost use Rattle.records.specs.Answers.{Accepts, counted};
+ghost use Rattle.records.specs.Answers.{counted};
 ghost use Rattle.cube.specs.Lists.{mostRecords};
-ghost use Rattle.script.specs.Scripts.{stepRecords, stepWidth};
-ghost use Rattle.script.specs.Calls.{checkScript};
+ghost use Rattle.script.specs.Scripts.{stepRecords, stepWidth, mostSteps, stepsOf};
 ghost use Rattle.compactor.specs.Calls.{compactOutcome, compactAfter};
-ghost use Rattle.compactor.specs.Keeping.{recordAt, Compacting};
+ghost use Rattle.compactor.specs.StepBytes.{recordAt};
+ghost use Rattle.compactor.specs.Keeping.{Faithful, Compacting};
 
 // The records of the top steps that are kept, at the front of an output that has room for them.
 fn put_kept(script: &[u8], kept: &[u16], top: usize, out: &mut [u8])
@@ -33,9 +33,9 @@ fn put_kept(script: &[u8], kept: &[u16], top: usize, out: &mut [u8])
 }
 
 // The compacted script at the front of an output that has room for the given one: the number of its steps.
-fn compact_checked(n: usize, count: usize, script: &[u8], out: &mut [u8]) -> usize
-    requires { ⌜ Accepts (checkScript n (now script)) ⌝ }
-    requires { ⌜ (count ≤ mostRecords) × (length (now script) ≤ length (now out)) ⌝ }
+fn compact_checked(count: usize, script: &[u8], out: &mut [u8]) -> usize
+    requires { ⌜ Faithful (now script) ⌝ }
+    requires { ⌜ (length (stepsOf (now script)) ≤ mostSteps) × (count ≤ mostRecords) × (length (now script) ≤ length (now out)) ⌝ }
     ensures { λ r. ⌜ Compacting count (now (script .entry)) (now (out .entry)) (now (out .exit)) r ⌝ }
 {
     let mut kept = [0u16; check::MOST_STEPS];
@@ -61,7 +61,7 @@ pub fn compact(n: usize, count: usize, script: &[u8], out: &mut [u8]) -> Counted
             if out.len() < script.len() {
                 return Counted::Refused(Refusal::new(5, 0));
             }
-            Counted::Count(compact_checked(n, count, script, out))
+            Counted::Count(compact_checked(count, script, out))
         }
     }
 }

@@ -10,7 +10,7 @@ ghost use Prim.Native.Nat.{_/_, _-_, _<_, _≤_};
 ghost use lib.ListN.{length, getD};
 ghost use Rattle.cube.specs.Lists.{mostRecords};
 ghost use Rattle.script.specs.Scripts.{stepWidth, mostSteps, stepsOf};
-ghost use Rattle.compactor.specs.Keeping.{mostCount, takenOff, topAfter, keptAfter, Meant, Kept};
+ghost use Rattle.compactor.specs.Keeping.{mostCount, takenOff, topAfter, keptAfter, Faithful, StepsKept};
 
 // Whether x undoes the last of the top steps that are kept, after which there are so many records.
 fn takes_off(script: &[u8], kept: &[u16], top: usize, count: usize, x: Halves) -> bool
@@ -40,9 +40,9 @@ fn keep(kept: &mut [u16], top: usize, k: usize, off: bool) -> usize
 
 // The numbers of the steps that are left, at the front of kept: how many.
 pub(crate) fn keep_steps(script: &[u8], first: usize, kept: &mut [u16]) -> usize
-    requires { ⌜ Meant (now script) ⌝ }
+    requires { ⌜ Faithful (now script) ⌝ }
     requires { ⌜ (length (stepsOf (now script)) ≤ mostSteps) × (length (stepsOf (now script)) ≤ length (now kept)) × (first ≤ mostRecords) ⌝ }
-    ensures { λ r. ⌜ Kept first (stepsOf (now (script .entry))) (now (kept .exit)) r ⌝ }
+    ensures { λ r. ⌜ StepsKept first (stepsOf (now (script .entry))) (now (kept .exit)) r ⌝ }
 {
     let steps = script.len() / STEP_WIDTH;
     let mut top = 0;

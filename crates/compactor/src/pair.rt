@@ -2,7 +2,8 @@
 use crate::Halves;
 ghost use mathlib.Core.Path.{_≡_};
 ghost use Prim.Native.Nat.{_-_, _≤_};
-ghost use Rattle.compactor.specs.Keeping.{mostCount, operationOf, equalHalves, joinOf, halfPair, countBy};
+ghost use Rattle.compactor.specs.StepBytes.{operationOf, equalHalves, joinOf, halfPair};
+ghost use Rattle.compactor.specs.Keeping.{mostCount, countBy};
 
 // How many numbers one byte and two bytes hold.
 const BYTE: u32 = 256;

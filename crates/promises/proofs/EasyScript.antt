@@ -39,7 +39,8 @@ use Rattle.settling.specs.declared.Settlement.{Settlement}
 use Rattle.settling.specs.Calls.{settled, ranSettled, settleOutcome, checkSettle}
 use Rattle.promises.specs.Calls.{run, writeScript, settle, answers, leaves, Called}
 use Rattle.promises.specs.Burned.{burnedIn}
-use Rattle.promises.specs.EasyScript.{writtenIn, endList, FinishedExactly}
+use Rattle.promises.specs.EasyScript.{endList, FinishedExactly}
+use Rattle.promises.specs.OtherScript.{writtenIn}
 use Rattle.promises.proofs.Calling.{only, work-of, out-of, accepted-settled}
 use Rattle.promises.proofs.DemandThree as three
 

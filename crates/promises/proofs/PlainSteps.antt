@@ -36,7 +36,7 @@ use Rattle.promises.specs.OtherScript.{of-run}
 use Rattle.promises.specs.PlainSteps.{NoSplit, TakenOut, atCorresponding, noLiteral, complementedLiteral, plainLiteral, splitScript, splitAndDrop}
 use Rattle.promises.proofs.Chains.{not-none}
 use Rattle.promises.proofs.OtherScript.{fine-script, fine-other}
-use Rattle.promises.proofs.TakingOut.{passes, shorter, outcomeAt, goes-same, refused-at}
+use Rattle.promises.proofs.TakingOut.{passes, without-fine, outcomeAt, goes-same, refused-at}
 use Rattle.promises.proofs.DemandOne.{refused-call, accepted-not-wrong, not-wrong-goes-on}
 
 -- ---- the script without its L steps
@@ -57,7 +57,7 @@ module _ (script : List ℕ) where
   shorter-passes n fine = passes n script fine
 
   pub shorter-fine : (n : ℕ) → NoneWrong (scriptFaults n script) → NoneWrong (scriptFaults n (withoutL script))
-  shorter-fine n fine = shorter n script fine
+  shorter-fine n fine = without-fine n script fine
 
   -- Each step that is not an L step is there at the step that corresponds; ..
   pub same-step : (s : ℕ) → s < length (stepsOf script) → isL (getD (stepsOf script) s (drop 0 0)) ≡ 0

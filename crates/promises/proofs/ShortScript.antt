@@ -13,6 +13,7 @@ use lib.ListN.{length, getD, drop, replicate, length-take}
 use Rattle.bits.specs.Bits.{withBit}
 use Rattle.bits.specs.Below.{those, listBelow}
 use Rattle.bits.specs.Sums.{All, firstBad}
+use Rattle.bits.proofs.Subsequences.{all-subsequence, length-subsequence, map-subsequence}
 use Rattle.bits.proofs.Sums.{map-back}
 use Rattle.records.specs.Numbers.{bytesOf, numberAt}
 use Rattle.records.specs.Places.{removeAt}
@@ -30,37 +31,42 @@ use Rattle.script.specs.Run.{ended, stepsFrom, undoBy}
 use Rattle.script.specs.Run as running
 use Rattle.script.specs.Scripts.{stepRecords, stepWidth, fits, recordOf, stepsOf}
 use Rattle.script.specs.Calls.{checkScript, checkRun, runOf, runOutcome, runAfter}
-use Rattle.script.proofs.Scripts.{scriptBytes, script-read, script-fits, script-written, AcceptedScript, script-accepts, record-meaning, records-of-bytes, steps-pass, steps-front, steps-rest}
-use Rattle.compactor.specs.Compact.{equalRecords, stepPair, withoutFirst, NoPair, again, compacted}
+use Rattle.script.proofs.Scripts.{scriptBytes, script-read, script-fits, script-written, AcceptedScript, script-accepts, record-meaning, records-of-bytes, length-script, steps-pass, steps-front, steps-rest}
+use Rattle.compactor.specs.Compact.{Pair, equalRecords, stepPair, countAlong, withoutFirst, NoPair, again, compacted}
 use Rattle.compactor.specs.Calls.{compactOutcome, compactAfter}
-use Rattle.compactor.proofs.Pairs.{Pair}
 use Rattle.compactor.proofs.Pairs as pairs
-use Rattle.compactor.proofs.Removing.{none-left, compacted-none, compacted-subsequence, compacted-twice, all-subsequence, length-subsequence, map-subsequence}
+use Rattle.compactor.proofs.Passing.{first-is}
+use Rattle.compactor.proofs.Removing.{none-left, compacted-none, compacted-subsequence, compacted-twice}
 use Rattle.compactor.proofs.Shorter.{EndsLower, compacted-run}
-use Rattle.compactor.proofs.Stack.{length-script}
 use Rattle.compactor.proofs.Calls.{AcceptedCompact, compact-accepts}
 use Rattle.promises.specs.Calls.{Call, run, compact, answers, leaves, Called}
 use Rattle.promises.specs.Refusals.{NoneWrong, scriptFaults, faults}
 use Rattle.promises.specs.Accepted.{goesOn, goesOnLeaving}
-use Rattle.promises.specs.EasyScript.{writtenIn}
-use Rattle.promises.specs.OtherScript.{OtherScript}
+use Rattle.promises.specs.OtherScript.{writtenIn, OtherScript, of-run}
 use Rattle.promises.specs.PlainSteps.{noLiteral, plainLiteral}
 use Rattle.promises.specs.ShortScript.{SameButPeak, twoTurns, splitAndJoin}
 use Rattle.promises.proofs.Calling.{only}
 use Rattle.promises.proofs.Chains.{judged-none}
 use Rattle.promises.proofs.DemandOne.{accepted-not-wrong, not-wrong-goes-on}
 use Rattle.promises.proofs.Judging.{by-script}
-use Rattle.promises.proofs.NotWrong.{good-list}
-use Rattle.promises.proofs.OtherScript.{fine-list, fine-other}
+use Rattle.promises.proofs.NotWrong.{good-list, fit-script}
+use Rattle.promises.proofs.OtherScript.{fine-list, fine-script, fine-other}
 use Rattle.promises.proofs.Shortening.{goes-lower}
 
--- ---- the meaning: the pairs are these three kinds, and no others
+-- ---- the meaning
 
-pub pair-is : (count : ℕ) (x y : Step) → stepPair count x y ≡ true → Pair count x y
-pair-is = pairs.pair-kind
+module _ (count : ℕ) where
+  -- The pairs are of the three kinds, and no others are.
+  pub pair-is : (x y : Step) → stepPair count x y ≡ true → Pair count x y
+  pair-is = pairs.pair-kind count
 
-pub is-pair : (count : ℕ) (x y : Step) → Pair count x y → stepPair count x y ≡ true
-is-pair count x y = pairs.kind-pair count
+  pub is-pair : (x y : Step) → Pair count x y → stepPair count x y ≡ true
+  is-pair x y = pairs.kind-pair count
+
+  -- What is removed is the first from the front: a pair before which there is none, up to its first step.
+  pub first-removed : (xs : List Step) (x y : Step) (rest : List Step) → NoPair count (xs ++ (x ∷ [])) → Pair (countAlong count xs) x y
+      → withoutFirst count (xs ++ (x ∷ y ∷ rest)) ≡ xs ++ rest
+  first-removed xs x y rest none p = first-is x y rest count xs none (pairs.kind-pair (countAlong count xs) p)
 
 -- ---- a call that was accepted
 
@@ -103,15 +109,16 @@ module _ (n count : ℕ) (script out : List ℕ) (left : ℕ) (out′ : List ℕ
   pub no-pair-left : NoPair count (stepsOf (writtenIn left out′))
   no-pair-left = subst (NoPair count) (sym short-steps) (none-left count (stepsOf script))
 
-  -- The short script passes 7, 8 and 9, ..
-  pub short-passes : checkScript n (writtenIn left out′) ≡ accepted (left ∷ [])
-  short-passes =
-      ap (checkScript n) bytes
-      ∙ steps-pass short n (omega (arith, fewer, length-script script, is .short)) (all-subsequence (Allowed n) (compacted-subsequence count (stepsOf script)) (script-fits n script (is .each)))
+  -- over any number of variables over which the given script passes
+  passes : (m : ℕ) → All (Allowed m) (stepsOf script) → checkScript m (writtenIn left out′) ≡ accepted (left ∷ [])
+  passes m fit =
+      ap (checkScript m) bytes
+      ∙ steps-pass short m (omega (arith, fewer, length-script script, is .short)) (all-subsequence (Allowed m) (compacted-subsequence count (stepsOf script)) fit)
       ∙ ap (λ (k : ℕ). accepted (k ∷ [])) (sym all)
 
-  short-fine : NoneWrong (scriptFaults n (writtenIn left out′))
-  short-fine = judged-none (scriptFaults n (writtenIn left out′)) _ _ _ (by-script n (writtenIn left out′)) short-passes
+  -- The short script passes 7, 8 and 9, ..
+  pub short-passes : checkScript n (writtenIn left out′) ≡ accepted (left ∷ [])
+  short-passes = passes n (script-fits n script (is .each))
 
   -- .. is no longer, in steps and in bytes, ..
   pub no-longer : (left ≤ length (stepsOf script)) × (length (writtenIn left out′) ≤ length script)
@@ -154,25 +161,29 @@ module _ (n count : ℕ) (script out : List ℕ) (left : ℕ) (out′ : List ℕ
         ∙ ap (λ (k : ℕ). writtenIn k (written stepRecords 0 (map recordOf short) second)) all
         ∙ steps-front short second (omega (arith, all)) ∙ sym bytes
 
-  -- For every list of that count: a call of run or settle with the given script, and the same call with the short one, in a work buffer as long.
-  module _ (list : List ℕ) (many : length (cubesOf list) ≡ count) (c c′ : Call) (shorter : OtherScript n list script (writtenIn left out′) c c′)
+  -- For every list of that count, over any number of variables: a call of run or settle with the given script, and the same call with the short one, in a work buffer
+  -- as long.
+  module _ (m : ℕ) (list : List ℕ) (many : length (cubesOf list) ≡ count) (c c′ : Call) (shorter : OtherScript m list script (writtenIn left out′) c c′)
       (o o′ : Outcome) (buffers buffers′ : List (List ℕ)) (given : Called c o buffers) (replaced : Called c′ o′ buffers′)
       (v : List ℕ) (accepts : o ≡ accepted v) where
     fine : NoneWrong (faults c)
     fine = accepted-not-wrong c o buffers given v accepts
 
-    ends : (room : ℕ) (m : List Cube) (p : ℕ) → runOf n list script room ≡ ended m p → EndsLower (runOf n list (writtenIn left out′) room) m p
+    fit : All (Allowed m) (stepsOf script)
+    fit = fit-script m script (fine-script shorter fine)
+
+    ends : (room : ℕ) (l : List Cube) (p : ℕ) → runOf m list script room ≡ ended l p → EndsLower (runOf m list (writtenIn left out′) room) l p
     unfolding runOf
-    ends room m p e =
-        subst (λ (xs : List Step). EndsLower (running.run n (cubeCapacity room) xs (cubesOf list)) m p)
+    ends room l p e =
+        subst (λ (xs : List Step). EndsLower (running.run m (cubeCapacity room) xs (cubesOf list)) l p)
         (ap (λ (k : ℕ). compacted k (stepsOf script)) many ∙ sym short-steps)
-        (compacted-run n (cubeCapacity room) (stepsOf script) (cubesOf list) m p (script-fits n script (is .each)) (good-list mostVariables n list (fine-list shorter fine)) e)
+        (compacted-run m (cubeCapacity room) (stepsOf script) (cubesOf list) l p fit (good-list mostVariables m list (fine-list shorter fine)) e)
 
     goes : SameButPeak v (goesOn c′) × (goesOnLeaving c′ ≡ goesOnLeaving c)
     goes = goes-lower ends shorter v (sym (not-wrong-goes-on c o buffers given fine .0) ∙ accepts)
 
     fine′ : NoneWrong (faults c′)
-    fine′ = fine-other shorter fine short-fine
+    fine′ = fine-other shorter fine (judged-none (scriptFaults m (writtenIn left out′)) _ _ _ (by-script m (writtenIn left out′)) (passes m fit))
 
     -- Where the given script is not refused, the short one is not refused either: the answer is the same, but for a peak that is no higher, ..
     pub not-refused : SameButPeak v o′
@@ -200,3 +211,14 @@ pub other-count-not-claimed :
     × Called (run 1 (noLiteral ++ noLiteral) (writtenIn 0 (replicate 16 7)) (replicate 24 7)) (accepted (2 ∷ 2 ∷ [])) ((noLiteral ++ noLiteral ++ zeros 8) ∷ [])
 unfolding answers leaves compactOutcome compactAfter written compacted again withoutFirst stepPair equalRecords recordOf runOutcome runAfter checkRun checkListOf checkScript firstBad listOf records good fits stepsOf meaning runOf withBit those listBelow bytesOf numberAt removeAt code put apart joinAt splitAt applied joinMove splitMove third step stepsFrom undoBy running.run capacityOf image filled
 other-count-not-claimed = (record { answer = refl; left = refl }, record { answer = refl; left = refl }, record { answer = refl; left = refl })
+
+-- So the count is needed: without it the bytes are not always the same, where neither script is refused.
+pub bytes-need-the-count :
+    ((n count : ℕ) (script out : List ℕ) (left : ℕ) (out′ : List ℕ) → Called (compact n count script out) (accepted (left ∷ [])) (out′ ∷ [])
+    → (list : List ℕ) (c c′ : Call) → OtherScript n list script (writtenIn left out′) c c′ → (v : List ℕ) → answers c ≡ accepted v → leaves c′ ≡ leaves c)
+    → ⊥
+bytes-need-the-count claim =
+    let p = other-count-not-claimed in
+    let same = claim 1 1 splitAndJoin _ 0 _ (p .0) (noLiteral ++ noLiteral) _ _ (of-run (replicate 24 7) (replicate 24 7) refl) _ (sym (p .1 .answer)) in
+    let z : _≡_ {A = ℕ} 0 1 = ap (λ (b : List (List ℕ)). getD (getD b 0 []) 0 0) (p .2 .left ∙ same ∙ sym (p .1 .left)) in
+    omega arith

@@ -33,8 +33,8 @@ use Rattle.promises.proofs.OtherScript.{fine-list, fine-script}
 pub passes : (n : ℕ) (script : List ℕ) → NoneWrong (scriptFaults n script) → checkScript n (withoutL script) ≡ accepted (length (plainSteps (stepsOf script)) ∷ [])
 passes n script fine = plain-passes n script _ (judged-right (scriptFaults n script) (checkScript n script) _ (by-script n script) fine)
 
-pub shorter : (n : ℕ) (script : List ℕ) → NoneWrong (scriptFaults n script) → NoneWrong (scriptFaults n (withoutL script))
-shorter n script fine = judged-none (scriptFaults n (withoutL script)) _ _ _ (by-script n (withoutL script)) (passes n script fine)
+pub without-fine : (n : ℕ) (script : List ℕ) → NoneWrong (scriptFaults n script) → NoneWrong (scriptFaults n (withoutL script))
+without-fine n script fine = judged-none (scriptFaults n (withoutL script)) _ _ _ (by-script n (withoutL script)) (passes n script fine)
 
 -- ---- the steps
 

@@ -1,18 +1,13 @@
--- The script that a call of the writer wrote, and the list that it ends in. Document 02, Three.
+-- The list that the easy script ends in, and that it has finished. Document 02, Three.
 -- Assumes nothing.
 use mathlib.Core.Path.{_≡_}
 use mathlib.Core.List.{List}
-use Prim.Native.Nat.{ℕ, _*_}
-use lib.ListN.{take}
+use Prim.Native.Nat.{ℕ}
 use Rattle.cube.specs.declared.Cube.{Cube}
 use Rattle.cube.specs.Lists.{cubesOf}
-use Rattle.script.specs.Scripts.{stepWidth, mostSteps}
+use Rattle.script.specs.Scripts.{mostSteps}
 use Rattle.writer.specs.Pairs.{IsPair}
 use Rattle.writer.specs.Easy.{easyEnd}
-
--- the written script: the front of the script buffer, 8 bytes for each step that is answered
-abbrev pub writtenIn : ℕ → List ℕ → List ℕ
-writtenIn steps script′ = take (stepWidth * steps) script′
 
 -- "the end list"
 abbrev pub endList : ℕ → List ℕ → List Cube

@@ -4,8 +4,8 @@ pub mod Refusals
 pub mod Accepted
 pub mod Burned
 pub mod Reasons
-pub mod EasyScript
 pub mod OtherScript
+pub mod EasyScript
 pub mod ShortScript
 pub mod PlainSteps
 pub mod Faced

@@ -1,5 +1,5 @@
--- The short script that a call of the compactor wrote, in place of the given one. Document 02, Eleven: "Where the given script is not refused, the short one is
--- not refused either, and ends with the same list, with a peak no higher."
+-- What it means that a call with the short script answers the same but for the peak; and two scripts for which nothing is claimed. Document 02, Eleven: "Where the
+-- given script is not refused, the short one is not refused either, and ends with the same list, with a peak no higher."
 -- Assumes nothing.
 use mathlib.Core.Path.{_≡_}
 use mathlib.Core.List.{List, [], _∷_}

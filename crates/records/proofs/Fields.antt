@@ -4,12 +4,13 @@ use mathlib.Core.Path.{_≡_, refl, sym, ap, ap₂, _∙_}
 use mathlib.Core.Bool.{Bool, true, _&&_}
 use mathlib.Core.List.{List, [], _∷_, _++_, append-assoc, append-nil}
 use Prim.Native.Nat.{ℕ, suc, _+_, _-_, _*_, _/_, _<_, _≤_}
-use native.Mathlib.Nat.{add-zero, add-assoc}
+use native.Mathlib.Nat.{add-zero, add-assoc, mul-zero}
 use native.Mathlib.Omega.{arith}
 use lib.Dec.{ltb}
-use lib.ListN.{length, getD, replicate, take, drop, length-append, length-drop, replicate-append-replicate, List·getD-append}
-use lib.Seq.{sets, split-at, length-take-le, getD-append-add, take-append-le, drop-append-le}
+use lib.ListN.{length, getD, replicate, take, drop, length-append, length-take, length-drop, replicate-append-replicate, List·getD-append}
+use lib.Seq.{sets, split-at, length-take-le, getD-take, getD-drop, getD-append-add, take-append-le, drop-append-le}
 use borrow.Author.Tests.{ltb-true}
+use Rattle.bits.specs.Below.{listBelow}
 use Rattle.bits.proofs.Bools.{both-true, below-or}
 use mathlib.Core.Logic.{⊎-elim}
 use Rattle.records.specs.Numbers.{bytesOf, numberAt}
@@ -137,6 +138,25 @@ module _ {A : Type 0} (ws : List ℕ) (fields : A → List ℕ) (of : List ℕ �
       flat-listBelow (λ a. fieldBytes ws (fields a)) (total ws) long k (λ i. of (numbersAt ws s (total ws * i) 0)) s e (λ i r hi hr.
       ap (λ (xs : List ℕ). getD (fieldBytes ws xs) r 0) (F .there s (total ws * i))
       ∙ fields-back s small ws (total ws * i) 0 r hr ∙ ap (λ (n : ℕ). getD s (n + r) 0) (add-zero (total ws * i)))
+
+  -- the bytes of one of them are those of its part of the buffer
+  pub fields-part : (b : List ℕ) → ((i : ℕ) → getD b i 0 < 256) → (i : ℕ) → i < length b / total ws
+      → fieldBytes ws (fields (of (numbersAt ws b (total ws * i) 0))) ≡ take (total ws) (drop (total ws * i) b)
+  unfolding listBelow
+  fields-part b small i h =
+      let p : ℕ = total ws * i in
+      let w : ℕ = total ws in
+      let room : p + w ≤ length b = place-room w (length b) i (F .some) h in
+      let one : length (take w (drop p b)) ≡ w * 1 = omega (arith, length-take w (drop p b), length-drop p b) in
+      sym (append-nil (fieldBytes ws (fields (of (numbersAt ws b p 0)))))
+      ∙ flat-listBelow (λ a. fieldBytes ws (fields a)) w long 1 (λ k. of (numbersAt ws b p 0)) (take w (drop p b)) one (λ k r hk hr.
+      let z : w * k + r ≡ r = omega (arith, ap (λ (t : ℕ). w * t) (only k hk), mul-zero w) in
+      ap (λ (xs : List ℕ). getD (fieldBytes ws xs) r 0) (F .there b p)
+      ∙ fields-back b small ws p 0 r hr ∙ ap (λ (n : ℕ). getD b (n + r) 0) (add-zero p)
+      ∙ sym (ap (λ (n : ℕ). getD (take w (drop p b)) n 0) z ∙ getD-take w (drop p b) r 0 hr ∙ getD-drop p b r 0))
+    where
+      only : (k : ℕ) → k < 1 → k ≡ 0
+      only k h = omega arith
 
   -- a record read from its part of the buffer
   pub fields-in : (b : List ℕ) (i : ℕ) (d : A) → i < length b / total ws

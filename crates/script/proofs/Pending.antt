@@ -10,7 +10,7 @@ use native.Mathlib.Omega.{arith}
 use lib.ListN.{length, getD, set, replicate, length-set}
 use lib.Seq.{getD-set-same, getD-set-other}
 use Rattle.bits.specs.Sums.{All}
-use Rattle.bits.proofs.Sums.{all-set, all-get-or, map-same, map-map, map-each}
+use Rattle.bits.proofs.Sums.{all-map, all-set, all-get-or, map-same, map-map, map-each}
 use Rattle.records.proofs.Filling.{zeros-at}
 use Rattle.cube.specs.declared.Cube.{Cube}
 use Rattle.cube.specs.Cubes.{code, Good}
@@ -44,6 +44,9 @@ undo-map xs l = undo-by-map unstep takenBack unstep-map xs l
 
 pub undone-good : (n : ℕ) (xs : List Step) → All (Allowed n) xs → (c : Cube) → Good n c → Good n (undone xs c)
 undone-good n xs h c g = undone-by-good takenBack (Good n) (Allowed n) (taken-back-good n) xs h c g
+
+pub undo-good : (n : ℕ) (xs : List Step) → All (Allowed n) xs → (l : List Cube) → All (Good n) l → All (Good n) (undo xs l)
+undo-good n xs h l a = subst (All (Good n)) (sym (undo-map xs l)) (all-map (Good n) (Good n) (undone xs) (undone-good n xs h) l a)
 
 -- ---- the pending orders are orders, as many as before
 

@@ -6,7 +6,7 @@ use mathlib.Core.List.{List, [], _∷_, map}
 use Prim.Native.Nat.{ℕ, zero, suc, _*_, _/_, _%_, _≤_, _<_}
 use native.Mathlib.Omega.{arith}
 use lib.Dec.{eqb, ltb, leb}
-use lib.ListN.{length, getD, take, drop as dropped, length-map}
+use lib.ListN.{length, getD, take, drop as dropped, length-map, List·getD-map}
 use lib.Seq.{take-at}
 use borrow.Author.Tests.{eqb-true, eq-eqb, ltb-true, leb-true, lt-ltb, le-leb}
 use Rattle.bits.specs.Sums.{All}
@@ -17,7 +17,7 @@ use Rattle.records.specs.Answers.{accepted}
 use Rattle.records.proofs.Checks.{checked, AcceptedRecords, records-accepted, accepted-records}
 use Rattle.records.proofs.Fields.{Fields, fields-lawful, fields-bytes}
 use Rattle.records.proofs.Images.{length-flat}
-use Rattle.records.proofs.Records.{Lawful, list-flat, written-front, written-rest}
+use Rattle.records.proofs.Records.{Lawful, length-list, list-flat, written-front, written-rest}
 use Rattle.steps.specs.declared.StepRecord.{StepRecord}
 use Rattle.steps.specs.Steps.{Step, drop, join, split, turn, L, Allowed, meaning}
 use Rattle.script.specs.Scripts.{stepWidth, mostSteps, stepRecords, known, usesV, usesI, usesJ, usesLiteral, field, fits, recordOf, stepsOf}
@@ -60,7 +60,7 @@ module _ (n : ℕ) (r : StepRecord) where
       true-both (p .op-known) (true-both (p .v-fits) (true-both (p .i-fits) (true-both (p .j-fits) (true-both (p .literal-fits) (eq-eqb (r .zero) 0 (p .zero-fits))))))
 
 -- equal field by field
-same-record : (r s : StepRecord) → r .op ≡ s .op → r .v ≡ s .v → r .i ≡ s .i → r .j ≡ s .j → r .literal ≡ s .literal → r .zero ≡ s .zero → r ≡ s
+pub same-record : (r s : StepRecord) → r .op ≡ s .op → r .v ≡ s .v → r .i ≡ s .i → r .j ≡ s .j → r .literal ≡ s .literal → r .zero ≡ s .zero → r ≡ s
 same-record r s a b c d e f = λ k. record { op = a k; v = b k; i = c k; j = d k; literal = e k; zero = f k }
 
 -- a record that is not refused is the record of its step, and its step fits
@@ -105,7 +105,7 @@ module _ (n : ℕ) (r : StepRecord) (e : fits n r ≡ true) where
   meaning-fits = parted .fit
 
 -- the record of a step that fits is not refused
-pub fits-record : (n : ℕ) (s : Step) → Allowed n s → fits n (recordOf s) ≡ true
+fits-record : (n : ℕ) (s : Step) → Allowed n s → fits n (recordOf s) ≡ true
 unfolding recordOf fits
 fits-record n (drop i j) h = refl
 fits-record n (join i j) h = refl
@@ -115,7 +115,7 @@ fits-record n (L v b) h = simp (lt-ltb v n (h .0), le-leb b 1 (omega (arith, h .
 
 -- ---- records and their bytes
 
-step-fields : Fields (1 ∷ 1 ∷ 2 ∷ 2 ∷ 1 ∷ 1 ∷ []) (λ (r : StepRecord). r .op ∷ r .v ∷ r .i ∷ r .j ∷ r .literal ∷ r .zero ∷ [])
+pub step-fields : Fields (1 ∷ 1 ∷ 2 ∷ 2 ∷ 1 ∷ 1 ∷ []) (λ (r : StepRecord). r .op ∷ r .v ∷ r .i ∷ r .j ∷ r .literal ∷ r .zero ∷ [])
     (λ xs. record { op = getD xs 0 0; v = getD xs 1 0; i = getD xs 2 0; j = getD xs 3 0; literal = getD xs 4 0; zero = getD xs 5 0 })
 step-fields = record { wide = refl; some = omega arith; many = λ r. refl; back = λ r. refl; there = λ b base. refl; none = refl }
 
@@ -132,6 +132,17 @@ bytes-of-records b bytes e =
 -- the records of the bytes of records are those records
 pub records-of-bytes : (l : List StepRecord) → listOf stepRecords (flat (stepRecords .enc) l) ≡ l
 records-of-bytes = list-flat stepRecords steps-lawful
+
+-- ---- a script's records and its steps
+
+pub length-script : (b : List ℕ) → length (stepsOf b) ≡ length b / stepWidth
+unfolding stepsOf
+length-script b = length-map (listOf stepRecords b) meaning ∙ length-list stepRecords b
+
+-- past the end too: a record that is all zero means drop 0 0
+pub meaning-at : (b : List ℕ) (k : ℕ) → meaning (getD (listOf stepRecords b) k (stepRecords .none)) ≡ getD (stepsOf b) k (drop 0 0)
+unfolding stepsOf meaning
+meaning-at b k = sym (List·getD-map meaning (listOf stepRecords b) k (stepRecords .none))
 
 -- ---- scripts and their bytes
 
@@ -174,7 +185,7 @@ script-accepts n b v e = records-accepted stepRecords (fits n) 7 8 9 mostSteps b
 pub accepts-script : (n : ℕ) (b : List ℕ) → AcceptedScript n b → checkScript n b ≡ accepted (length b / stepWidth ∷ [])
 accepts-script n b a = sym (script-records n b) ∙ accepted-records stepRecords (fits n) 7 8 9 mostSteps b a
 
-pub length-steps : (l : List StepRecord) → length (flat (stepRecords .enc) l) ≡ stepWidth * length l
+length-steps : (l : List StepRecord) → length (flat (stepRecords .enc) l) ≡ stepWidth * length l
 length-steps l = length-flat (stepRecords .enc) stepWidth (steps-lawful .len) l
 
 -- the bytes of records that fit, and are not too many, pass 7, 8 and 9

@@ -11,7 +11,7 @@ use native.Mathlib.Decide.{ℕ-discrete, decLe}
 use native.Mathlib.Omega.{arith}
 use lib.Dec.{eqb, ltb}
 use lib.ListN.{length, getD, set, take, length-set, length-append, length-map}
-use lib.Seq.{getD-set-same, getD-set-other, getD-take, take-suc, take-all}
+use lib.Seq.{set-at, take-at, getD-set-same, getD-set-other, getD-take, take-suc, take-all}
 use borrow.Author.Tests.{ltb-true, ltb-false, eqb-true, eqb-false}
 use Rattle.bits.specs.Sums.{_⊕_, sum, All}
 use Rattle.bits.proofs.Bools.{xor-assoc, xor-cancel, xor-swap}
@@ -145,6 +145,17 @@ module _ {A B : Type 0} (f : A → B) where
   pub turn-map : (l : List A) (i j : ℕ) (x y : A) → turnAt (map f l) i j (f x) (f y) ≡ map f (turnAt l i j x y)
   unfolding turnAt
   turn-map l i j x y = ap (λ (r : List B). set r j (f y)) (set-map l i x) ∙ set-map (set l i x) j y
+
+-- ---- the last record removed
+
+pub remove-last : {A : Type 0} (d : A) (l : List A) (y : A) → removeAt d (l ++ y ∷ []) (length l) ≡ l
+unfolding removeAt
+remove-last {A} d l y =
+    let s : List A = l ++ y ∷ [] in
+    let e : length s - 1 ≡ length l = omega (arith, length-append l (y ∷ [])) in
+    ap (λ (k : ℕ). take k (set s (length l) (getD s k d))) e
+    ∙ ap (take (length l)) (set-at l y [] (getD s (length l) d) (length l) refl)
+    ∙ take-at l (getD s (length l) d ∷ []) (length l) refl
 
 -- ---- sums modulo 2 of any weight
 

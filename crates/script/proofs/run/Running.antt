@@ -29,7 +29,7 @@ use Rattle.script.specs.Pending.{nonePending, pendStep, pend}
 use Rattle.script.specs.Scripts.{stepRecords, stepWidth, fits, stepsOf}
 use Rattle.script.specs.Calls.{ranWork}
 use Rattle.script.specs.Progress.{standing, halted, at, advanced, workAdvanced, progressOf, Stepping}
-use Rattle.script.proofs.Scripts.{fits-parts, meaning-fits}
+use Rattle.script.proofs.Scripts.{fits-parts, meaning-fits, length-script}
 use Rattle.script.proofs.Pending.{pend-step-length}
 use Rattle.script.proofs.run.Advancing.{went, halts}
 
@@ -57,10 +57,6 @@ module _ (n : ℕ) (script : List ℕ) (k : ℕ) (x : StepRecord) (is : x ≡ ge
       ∙ ap₂ (λ (y : Step) (j : ℕ). y ∷ drop j (map meaning l))
       (get-map meaning l k (stepRecords .none) (meaning x) place ∙ ap meaning (sym is)) (sym (add-one k))
 
-pub steps-long : (script : List ℕ) → length (stepsOf script) ≡ length script / stepWidth
-unfolding stepsOf
-steps-long script = length-map (listOf stepRecords script) meaning ∙ length-list stepRecords script
-
 -- ---- the loop
 
 -- k steps are done: the whole run is the rest of it, from where p stands, with the orders os pending and the work buffer b
@@ -81,7 +77,7 @@ module _ (n cap first : ℕ) (script work : List ℕ) where
     pub running-end : length script / stepWidth ≤ k → Stepping n cap first (stepsOf script) work b (standing (p .count) (p .peak) os)
     unfolding stepsFrom pend Held Holds
     running-end h =
-        let none : drop k (stepsOf script) ≡ [] = drop-of-length-le (stepsOf script) {i = k} (omega (arith, steps-long script)) in
+        let none : drop k (stepsOf script) ≡ [] = drop-of-length-le (stepsOf script) {i = k} (omega (arith, length-script script)) in
         let l : List Cube = records cubes (p .count) b in
         let whole : stepsFrom (step n cap) 0 first (stepsOf script) (records cubes first work) ≡ ended l (p .peak) =
         r .so-far ∙ ap (λ (xs : List Step). stepsFrom (step n cap) k (p .peak) xs l) none in

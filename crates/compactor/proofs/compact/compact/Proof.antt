@@ -4,7 +4,7 @@ use mathlib.Core.Path.{sym, ap, _∙_}
 use Rattle.records.specs.Answers.{Accepts, counted}
 use Rattle.script.specs.Calls.{checkScript}
 use Rattle.script.proofs.Outcomes.{passed}
-use Rattle.compactor.proofs.Calls.{many-variables, many-products, script-refused, output-short, all-compacted}
+use Rattle.compactor.proofs.Calls.{checked-faithful, checked-few, many-variables, many-products, script-refused, output-short, all-compacted}
 use borrow.Author.Needs.{needs}
 use Rattle.compactor.proofs.compact.compact.Statement.{statement}
 use Rattle.compactor.proofs.compact.compact.Tie as tie
@@ -46,7 +46,9 @@ returns-3 c =
     output-short _ _ _ _ (tests t .before .if1 .left) (tests t .if2 .left) (told t) (c .before .if3 .taken) _ (c .new3 .ensures)
 
 compact-checked-requires : tie.Need-compact-checked-requires
-compact-checked-requires c κs = let t = c .before .before in (told t, (tests t .if2 .left, c .before .if3 .left))
+compact-checked-requires c κs =
+    let t = c .before .before in
+    (checked-faithful _ _ (told t), (checked-few _ _ (told t), tests t .if2 .left, c .before .if3 .left))
 
 returns-4 : tie.Need-returns-4
 returns-4 c =

@@ -1,7 +1,7 @@
 -- `compact::compact_checked` meets its contract: the steps that are kept are those that are left.
 -- Assumes nothing.
 use native.Mathlib.Omega.{arith}
-use Rattle.compactor.proofs.Calls.{checked-meant, checked-few, checked-inside, checked-room, checked-compacting}
+use Rattle.compactor.proofs.Calls.{kept-inside, kept-room, kept-written}
 use borrow.Author.Needs.{needs}
 use Rattle.compactor.proofs.compact.compact_checked.Statement.{statement}
 use Rattle.compactor.proofs.compact.compact_checked.Tie as tie
@@ -10,10 +10,7 @@ slice-aggregate-keep-steps : tie.Need-slice-aggregate-keep-steps
 slice-aggregate-keep-steps c = search needs
 
 keep-steps-requires : tie.Need-keep-steps-requires
-keep-steps-requires c κs =
-    let s = c .before .before .before in
-    let few = checked-few _ _ (s .pre .0) in
-    (checked-meant _ _ (s .pre .0), (few, few, omega (arith, s .pre .1 .0)))
+keep-steps-requires c κs = let s = c .before .before .before in (s .pre .0, (s .pre .1 .0, s .pre .1 .0, omega (arith, s .pre .1 .1)))
 
 slice-aggregate-put-kept : tie.Need-slice-aggregate-put-kept
 slice-aggregate-put-kept c = search needs
@@ -23,7 +20,7 @@ put-kept-requires c κs =
     let k = c .before .before .before in
     let s = k .before .before .before .before in
     let p = k .keep-steps .ensures in
-    ((p .room, checked-room _ _ (s .pre .0) _ _ _ p (s .args .out .now) (s .pre .1 .1)), checked-inside _ _ (s .pre .0) _ _ _ p)
+    ((p .room, kept-room _ (s .pre .0) _ _ _ p (s .args .out .now) (s .pre .1 .2)), kept-inside _ (s .pre .0) _ _ _ p)
 
 same-length : tie.Need-same-length
 same-length c = search needs
@@ -32,8 +29,7 @@ returns : tie.Need-returns
 returns c =
     let p = c .before .before in
     let k = p .before .before .before .before in
-    let s = k .before .before .before .before in
-    checked-compacting _ _ (s .pre .0) _ _ _ (k .keep-steps .ensures) _ _ (p .put-kept .ensures)
+    kept-written _ (k .before .before .before .before .pre .0) _ _ _ (k .keep-steps .ensures) _ _ (p .put-kept .ensures)
 
 pub compact-checked-spec : {M : Type 1} → statement M
 compact-checked-spec =

@@ -1,17 +1,18 @@
--- `keep::keep_steps` meets its contract: the loop keeps `Keeping`.
+-- `keep::keep_steps` meets its contract: the loop keeps `Stacked`.
 -- Assumes nothing.
 use mathlib.Core.Path.{refl}
 use Prim.Native.Nat.{_-_, _/_}
 use native.Mathlib.Omega.{arith}
 use lib.ListN.{length}
 use Rattle.script.specs.Scripts.{stepWidth}
-use Rattle.compactor.proofs.Stack.{length-script, Keeping, keeping-start, keeping-room, keeping-count, keeping-last, keeping-end, keeping-more-room, keeping-some, keeping-more}
+use Rattle.script.proofs.Scripts.{length-script}
+use Rattle.compactor.proofs.Stack.{Stacked, keeping-start, keeping-room, keeping-count, keeping-last, keeping-end, keeping-more-room, keeping-some, keeping-more}
 use borrow.Author.Needs.{needs}
 use Rattle.compactor.proofs.keep.keep_steps.Statement.{statement}
 use Rattle.compactor.proofs.keep.keep_steps.Tie as tie
 
 abbrev Inv-loop : tie.InvT-loop
-Inv-loop script first kept₀ steps top₀ count₀ k₀ kept top count k = Keeping (length kept₀) script first kept top count k
+Inv-loop script first kept₀ steps top₀ count₀ k₀ kept top count k = Stacked (length kept₀) script first kept top count k
 
 abbrev μ-loop : tie.MeasureT-loop
 μ-loop script first kept₀ steps top₀ count₀ k₀ kept top count k = length script / stepWidth - k
