@@ -215,8 +215,9 @@ void dm_write_script(uint64_t n,
  * zero. The first pair from the front is removed; then again from the front, until there is none. answer[2]: the number of
  * steps left.
  * Writes the steps left, the first 8 * number bytes of out, and no other byte; a refusal writes none.
- * Where dm_run does not refuse the given script on a list of that count, it does not refuse the steps left in the same work
- * buffer, and leaves the same bytes there, with a peak no higher; dm_settle likewise leaves the same bytes in out.
+ * Where dm_run does not refuse the given script on a list of that count, it does not refuse the steps left, in a work buffer
+ * as long, and leaves the same bytes there, with a peak no higher; dm_settle likewise leaves the same bytes in out. Where it
+ * refuses the given script, nothing is said of the steps left.
  * Refuses, in this order: 1, 3 (count above 4,096), 7, 8, 9, 5 (out_length below script_length). */
 void dm_compact(uint64_t n,
                 uint64_t count,
