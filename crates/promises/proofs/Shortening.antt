@@ -2,13 +2,14 @@
 -- Assumes nothing.
 use mathlib.Core.Path.{_≡_, refl, sym, ap, ap₂, _∙_, subst}
 use mathlib.Core.List.{List, [], _∷_}
-use Prim.Native.Nat.{ℕ}
+use Prim.Native.Nat.{ℕ, _≤_}
 use lib.ListN.{length}
 use Rattle.records.specs.Records.{zeros}
-use Rattle.records.specs.Answers.{accepted}
+use Rattle.records.specs.Answers.{Outcome, accepted}
 use Rattle.records.proofs.Answers.{not-both, accepted-values}
 use Rattle.cube.specs.declared.Cube.{Cube}
 use Rattle.cube.specs.Lists.{cubesOf}
+use Rattle.steps.specs.declared.StepRefusal.{StepRefusal}
 use Rattle.script.specs.Run.{Ran, stopped, ended}
 use Rattle.script.specs.Calls.{runOf, ranOutcome, ranWork}
 use Rattle.compactor.proofs.Shorter.{EndsLower}
@@ -18,38 +19,46 @@ use Rattle.promises.specs.Accepted.{goesOn, goesOnLeaving}
 use Rattle.promises.specs.OtherScript.{OtherScript, of-run, of-settle}
 use Rattle.promises.specs.ShortScript.{SameButPeak}
 
+-- what a call answers and leaves by its run: the peak is the second value, and what is left does not go by it
+record ByRun (answer : Ran Cube → Outcome) (leave : ℕ → Ran Cube → List (List ℕ)) : Type 0 where
+  stops : (why : StepRefusal) (s : ℕ) (v : List ℕ) → answer (stopped why s) ≡ accepted v → ⊥
+  peaks : (m : List Cube) (p q : ℕ) (v : List ℕ) → q ≤ p → answer (ended m p) ≡ accepted v → SameButPeak v (answer (ended m q))
+  leaves : (room : ℕ) (m : List Cube) (p q : ℕ) → leave room (ended m q) ≡ leave room (ended m p)
+
+by-run : ByRun ranOutcome (λ room r. ranWork room r ∷ [])
+by-run = record {
+  stops = λ why s v g. not-both (sym g);
+  peaks = λ m p q v h g. subst (λ (w : List ℕ). SameButPeak w (ranOutcome (ended m q))) (accepted-values g) (record { peak = q; is = refl; no-higher = h });
+  leaves = λ room m p q. refl;
+}
+
+by-settle : (n : ℕ) (given : List Cube) (out : List ℕ) → ByRun (ranSettled n given) (λ room r. zeros room ∷ ranBurned n given r out ∷ [])
+by-settle n given out = record {
+  stops = λ why s v g. not-both (sym g);
+  peaks = λ m p q v h g. subst (λ (w : List ℕ). SameButPeak w (ranSettled n given (ended m q))) (accepted-values g) (record { peak = q; is = refl; no-higher = h });
+  leaves = λ room m p q. refl;
+}
+
+-- of two runs in any room, of which the other one ends where the given one does, with a peak no higher
+module _ (given other : ℕ → Ran Cube) (ends : (room : ℕ) (m : List Cube) (p : ℕ) → given room ≡ ended m p → EndsLower (other room) m p)
+    {answer : Ran Cube → Outcome} {leave : ℕ → Ran Cube → List (List ℕ)} (by : ByRun answer leave) (room again : ℕ) (e : again ≡ room) (v : List ℕ) where
+  lower : answer (given room) ≡ accepted v → SameButPeak v (answer (other again)) × (leave again (other again) ≡ leave room (given room))
+  lower is = go (given room) refl
+    where
+      go : (r : Ran Cube) → given room ≡ r → SameButPeak v (answer (other again)) × (leave again (other again) ≡ leave room (given room))
+      go (stopped why s) f = absurd (by .stops why s v (ap answer (sym f) ∙ is))
+      go (ended m p) f =
+          let z = ends room m p f in
+          let same = ap other e ∙ z .is in (
+            subst (λ (r : Ran Cube). SameButPeak v (answer r)) (sym same) (by .peaks m p (z .peak) v (z .no-higher) (ap answer (sym f) ∙ is)),
+            ap₂ leave e same ∙ by .leaves room m p (z .peak) ∙ ap (leave room) (sym f),
+          )
+
 module _ {n : ℕ} {list script other : List ℕ}
     (ends : (room : ℕ) (m : List Cube) (p : ℕ) → runOf n list script room ≡ ended m p → EndsLower (runOf n list other room) m p) where
   pub goes-lower : {c c′ : Call} → OtherScript n list script other c c′ → (v : List ℕ) → goesOn c ≡ accepted v
       → SameButPeak v (goesOn c′) × (goesOnLeaving c′ ≡ goesOnLeaving c)
   unfolding goesOn goesOnLeaving
-  goes-lower (of-run work again e) v is = go (runOf n list script (length work)) refl is
-    where
-      go : (r : Ran Cube) → runOf n list script (length work) ≡ r → ranOutcome r ≡ accepted v
-          → SameButPeak v (ranOutcome (runOf n list other (length again)))
-          × (ranWork (length again) (runOf n list other (length again)) ∷ [] ≡ ranWork (length work) (runOf n list script (length work)) ∷ [])
-      go (stopped why s) f g = absurd (not-both (sym g))
-      go (ended m p) f g =
-          let z = ends (length work) m p f in
-          let same = ap (runOf n list other) e ∙ z .is in
-          let values = accepted-values g in (
-            subst (λ (w : List ℕ). SameButPeak w (ranOutcome (runOf n list other (length again)))) values
-            (record { peak = z .peak; is = ap ranOutcome same; no-higher = z .no-higher }),
-            ap₂ (λ (k : ℕ) (q : Ran Cube). ranWork k q ∷ []) e same ∙ sym (ap (λ (q : Ran Cube). ranWork (length work) q ∷ []) f),
-          )
-  goes-lower (of-settle work again out e) v is = go (runOf n list script (length work)) refl is
-    where
-      go : (r : Ran Cube) → runOf n list script (length work) ≡ r → ranSettled n (cubesOf list) r ≡ accepted v
-          → SameButPeak v (ranSettled n (cubesOf list) (runOf n list other (length again)))
-          × (zeros (length again) ∷ ranBurned n (cubesOf list) (runOf n list other (length again)) out ∷ []
-          ≡ zeros (length work) ∷ ranBurned n (cubesOf list) (runOf n list script (length work)) out ∷ [])
-      go (stopped why s) f g = absurd (not-both (sym g))
-      go (ended m p) f g =
-          let z = ends (length work) m p f in
-          let same = ap (runOf n list other) e ∙ z .is in
-          let values = accepted-values g in (
-            subst (λ (w : List ℕ). SameButPeak w (ranSettled n (cubesOf list) (runOf n list other (length again)))) values
-            (record { peak = z .peak; is = ap (ranSettled n (cubesOf list)) same; no-higher = z .no-higher }),
-            ap₂ (λ (k : ℕ) (q : Ran Cube). zeros k ∷ ranBurned n (cubesOf list) q out ∷ []) e same
-                ∙ sym (ap (λ (q : Ran Cube). zeros (length work) ∷ ranBurned n (cubesOf list) q out ∷ []) f),
-          )
+  goes-lower (of-run work again e) v is = lower (runOf n list script) (runOf n list other) ends by-run (length work) (length again) e v is
+  goes-lower (of-settle work again out e) v is =
+      lower (runOf n list script) (runOf n list other) ends (by-settle n (cubesOf list) out) (length work) (length again) e v is
