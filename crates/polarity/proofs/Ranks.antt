@@ -70,6 +70,15 @@ module _ (l : List Cube) where
       go true = omega arith
       go false = omega arith
 
+  -- one is free where a list costs less than its products
+  pub free-is : someBare l ≡ not (eqb (cost l) (length l))
+  unfolding cost
+  free-is = go (someBare l) free-one
+    where
+      go : (b : Bool) → oneIf b ≤ length l → b ≡ not (eqb (length l - oneIf b) (length l))
+      go true h = rw (ne-eqb (length l - 1) (length l) (λ e. omega arith))
+      go false h = rw (eq-eqb (length l - 0) (length l) (omega arith))
+
   -- half of the rank are the products
   pub half-rank : rank l / 2 ≡ length l
   unfolding countsOf

@@ -1,0 +1,2 @@
+-- What the proofs of `least` use.
+pub mod Costing

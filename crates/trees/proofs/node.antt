@@ -1,0 +1,2 @@
+-- What the proofs of `node` use.
+pub mod Firsts

@@ -1,0 +1,3 @@
+-- What the proofs of `tree` use.
+pub mod Putting
+pub mod Calling

@@ -1,0 +1,4 @@
+pub mod Trees
+pub mod Least
+pub mod Calls
+pub mod Words

@@ -1,0 +1,102 @@
+// The list of a function's cheapest tree, by recursion on the number of variables that are left, over the halves of its vector.
+use crate::TreeList;
+use crate::least;
+use crate::node;
+use bits::packed::Packed;
+use cube::Cube;
+use cube::list;
+use polarity::Counts;
+use polarity::vector;
+use records::Counted;
+use records::Refusal;
+ghost use mathlib.Core.Path.{_≡_};
+ghost use mathlib.Core.Bool.{Bool};
+ghost use Prim.Native.Nat.{ℕ, _+_, _^_, _≤_, _<_};
+ghost use lib.ListN.{length};
+ghost use Rattle.polarity.specs.Ranks.{countsOf};
+ghost use Rattle.polarity.specs.Vectors.{byteAt, Vector};
+ghost use Rattle.trees.specs.Least.{treeList};
+ghost use Rattle.trees.specs.Calls.{treeOutcome, treeAfter, listed};
+ghost use Rattle.trees.specs.Words.{PutIs};
+
+// With no variable left: the product c where the function is 1.
+fn put_leaf(w: Packed, c: Cube, out: &mut [u8], at: usize) -> usize
+    requires { ⌜ at < 256 ⌝ }
+    ensures { λ r. ⌜ ((k : ℕ) (free : Bool) → PutIs k 0 free w c at (now (out .entry)) (now (out .exit)) r) ⌝ }
+{
+    if w.a % 2 == 0 {
+        return at;
+    }
+    list::put_cube(out, at, c);
+    at + 1
+}
+
+// Writes the products of the tree to which the product c leads, from place `at` on, depth first, and answers the next place.
+fn put_tree(
+    k: usize,
+    left: usize,
+    free: bool,
+    w: Packed,
+    c: Cube,
+    out: &mut [u8],
+    at: usize,
+) -> usize
+    requires { ⌜ (k + left ≤ 8) × (at + 2 ^ left ≤ 256) ⌝ }
+    ensures { λ r. ⌜ PutIs k left free w c at (now (out .entry)) (now (out .exit)) r ⌝ }
+{
+    if left == 0 {
+        return put_leaf(w, c, out, at);
+    }
+    let j = k + 1;
+    let m = left - 1;
+    let by = least::choose(k, m, free, w);
+    let next = put_tree(
+        j,
+        m,
+        node::stays_free(free, by),
+        node::first_half(by, k, w),
+        node::first_cube(by, k, c),
+        out,
+        at,
+    );
+    put_tree(
+        j,
+        m,
+        false,
+        node::second_half(by, k, w),
+        node::second_cube(by, k, c),
+        out,
+        next,
+    )
+}
+
+// How many products the tree's list of a vector has, and whether one of them has no literal: it is free.
+pub fn count_tree(n: usize, vector: &[u8]) -> Counts
+    requires { ⌜ Vector n (now vector) ⌝ }
+    ensures { λ r. ⌜ r ≡ countsOf (treeList n (byteAt (now (vector .entry)))) ⌝ }
+{
+    let costs = least::least_costs(0, n, Packed::of(vector));
+    Counts {
+        products: costs.products as u32,
+        constant: costs.cost != costs.products,
+    }
+}
+
+// The tree's list of a truth vector: refusals 1, 14 and 5, or its products and its cost.
+pub fn write_tree(n: usize, vector: &[u8], out: &mut [u8]) -> TreeList
+    ensures { λ r. ⌜ listed r ≡ treeOutcome n (now (vector .entry)) (length (now (out .entry))) ⌝ }
+    ensures { λ _. ⌜ now (out .exit) ≡ treeAfter n (now (vector .entry)) (now (out .entry)) ⌝ }
+{
+    match vector::check_vector(n, vector) {
+        Counted::Refused(r) => TreeList::Refused(r),
+        Counted::Count(_) => {
+            let w = Packed::of(vector);
+            let costs = least::least_costs(0, n, w);
+            if list::capacity(out.len()) < costs.products {
+                return TreeList::Refused(Refusal::new(5, 0));
+            }
+            put_tree(0, n, true, w, Cube::ONE, out, 0);
+            TreeList::Written(costs.products, costs.cost)
+        }
+    }
+}
