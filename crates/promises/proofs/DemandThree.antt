@@ -1,7 +1,7 @@
 -- Demand 3. For every accepted list of up to 4,096 products over up to 32 variables and every script of up to 1,024 steps that is not refused, the list
 -- we burn has the same value as the given one at every assignment, and costs no more than the given one or than the list the script ends in, as it stands
--- after the undoing; for at most 8 variables no polarity's form costs less. Nor has it more products than the given one or than the list the script ends
--- in. Stated of the bytes that `settle` leaves in the output buffer.
+-- after the undoing; for at most 8 variables no polarity's form costs less, nor the list of any expansion tree (document 02, Six). Nor has it more products
+-- than the given one or than the list the script ends in. Stated of the bytes that `settle` leaves in the output buffer.
 -- Assumes nothing.
 use mathlib.Core.Path.{_≡_, sym, ap, ap₂, _∙_, subst}
 use mathlib.Core.Logic.{_≢_}
@@ -24,6 +24,7 @@ use Rattle.script.specs.Run.{ended, run}
 use Rattle.script.specs.Scripts.{stepsOf, stepWidth, mostSteps}
 use Rattle.script.specs.Calls.{runOf}
 use Rattle.script.proofs.Runs.{ended-list}
+use Rattle.trees.specs.Trees.{Tree, listOf}
 use Rattle.settling.specs.declared.Settled.the-variants as settled-is
 use Rattle.settling.specs.declared.Settlement.{Settlement}
 use Rattle.settling.specs.Candidates.{burnedList}
@@ -139,6 +140,11 @@ module _ (n : ℕ) (list script work out : List ℕ) (s : Settlement) (work′ o
     pub no-form-has-fewer : length (burnedIn s out′) ≤ length l
     no-form-has-fewer =
         le-trans (of-burned (λ m. length m ≤ length form) (by .no-form-has-fewer few p h)) (form-shortest n p h l good missing (listValue n (cubesOf list)) same)
+
+  -- Nor does the list of any tree of the given list's function: whatever expansion is chosen at each node, by variable 0, then 1 and so on. "Demand 3 now also
+  -- names these forms" (document 02, Six).
+  pub no-tree-costs-less : n ≤ vectorVariables → (t : Tree n) → cost (burnedIn s out′) ≤ cost (listOf t (listValue n (cubesOf list)))
+  no-tree-costs-less few t = of-burned (λ m. cost m ≤ cost (listOf t (listValue n (cubesOf list)))) (by .no-tree-costs-less few t)
 
   -- After the list, which fits, every byte of the output buffer is zero; and every byte of the work buffer is.
   pub zeros-after : drop (recordWidth * s .burned) out′ ≡ zeros (length out - recordWidth * s .burned)

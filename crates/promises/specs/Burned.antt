@@ -19,7 +19,8 @@ abbrev pub burnedIn : Settlement → List ℕ → List Cube
 burnedIn s out′ = records cubes (s .burned) out′
 
 -- "Settling compares cost, then products, then the old order of candidates" (document 02, Two): of the script's result, the given list and, for at most 8
--- variables, the form of the best polarity, the burned list is the one with the least cost, then the fewest products, then the lowest number in that order
+-- variables, the form of the best polarity and the list of the cheapest tree (document 02, Six), the burned list is the one with the least cost, then the
+-- fewest products, then the lowest number in that order
 pub record BurnedFirst (n : ℕ) (result given burned : List Cube) : Type 0 where
   pub number : ℕ
   pub is : burned ≡ candidateAt n result given number

@@ -1,11 +1,12 @@
--- The list to burn is one of the candidates, and none ranks lower; for few variables the form of the best polarity has the value, and no polarity's form
--- ranks lower. What ranks no higher costs no more and has no more products (`polarity/proofs/Ranks.antt`).
+-- The list to burn is one of the candidates, and none ranks lower; for few variables the form of the best polarity and the tree's list have the value, no
+-- polarity's form ranks lower, and no tree costs less. What ranks no higher costs no more and has no more products (`polarity/proofs/Ranks.antt`).
 -- Assumes nothing.
 use mathlib.Core.Path.{_≡_, refl, sym, ap, _∙_, subst}
 use mathlib.Core.Bool.{Bool, true, false, cond}
 use mathlib.Core.List.{List}
 use Prim.Native.Nat.{ℕ, suc, _^_, _≤_, _<_, zero-le}
 use native.Mathlib.Nat.{le-trans, le-refl, le-of-lt}
+use native.Mathlib.Omega.{arith}
 use borrow.Author.Tests.{leb-true, le-leb, ltb-true, ltb-false}
 use lib.Bits.{bitXor, xor-lt}
 use lib.Dec.{leb, ltb}
@@ -13,6 +14,7 @@ use lib.ListN.{length}
 use Rattle.bits.specs.Below.{firstBelow, LeastThen}
 use Rattle.bits.proofs.Below.{getD-listBelow}
 use Rattle.cube.specs.declared.Cube.{Cube}
+use Rattle.cube.specs.Cubes.{one}
 use Rattle.cube.specs.Lists.{vectorVariables, listValue, truthVector}
 use Rattle.polarity.specs.Cost.{cost, cheaper}
 use Rattle.polarity.specs.Forms.{coefficient, formList}
@@ -20,9 +22,12 @@ use Rattle.polarity.specs.Ranks.{rank}
 use Rattle.polarity.specs.Vectors.{byteAt}
 use Rattle.polarity.proofs.Forms.{form-cong}
 use Rattle.polarity.proofs.Parities.{parity-cong}
-use Rattle.polarity.proofs.Ranks.{rank-products, cheaper-rank, first-ranks, least-first}
+use Rattle.polarity.proofs.Ranks.{rank-cost, rank-products, cheaper-rank, first-ranks, least-first}
 use Rattle.polarity.proofs.Theorems.{form-has-the-value, best-has-least-rank}
-use Rattle.settling.specs.Candidates.{bestOf, bestForm, better, burnedList, candidateAt, candidateCount}
+use Rattle.trees.specs.Trees.{Tree, listOf}
+use Rattle.trees.proofs.Theorems.{tree-has-the-value, no-tree-costs-less}
+use Rattle.trees.proofs.Values.{products-cong}
+use Rattle.settling.specs.Candidates.{bestOf, bestForm, treeForm, better, burnedList, candidateAt, candidateCount}
 use Rattle.settling.proofs.Forming.{truth-vector-is}
 
 -- ---- the list to burn has the least rank
@@ -43,13 +48,17 @@ module _ (earlier later : List Cube) where
       go false e = ltb-false (rank later) (rank earlier) (sym e)
 
 module _ (n : ℕ) (result given : List Cube) where
+  -- the best of the first three
+  abbrev three : List Cube
+  three = better (better result given) (bestForm n given)
+
   -- no greater than the best of the first two has
   least-of-two : rank (burnedList n result given) ≤ rank (better result given)
   unfolding burnedList
   least-of-two = go (leb n vectorVariables)
     where
-      go : (b : Bool) → rank (cond b (better (better result given) (bestForm n given)) (better result given)) ≤ rank (better result given)
-      go true = better-least-earlier (better result given) (bestForm n given)
+      go : (b : Bool) → rank (cond b (better three (treeForm n given)) (better result given)) ≤ rank (better result given)
+      go true = le-trans (better-least-earlier three (treeForm n given)) (better-least-earlier (better result given) (bestForm n given))
       go false = le-refl (rank (better result given))
 
   -- It ranks no higher than the given list ..
@@ -60,30 +69,39 @@ module _ (n : ℕ) (result given : List Cube) where
   pub burned-result : rank (burnedList n result given) ≤ rank result
   burned-result = le-trans least-of-two (better-least-earlier result given)
 
-  -- .. nor, for few variables, than the form of the best polarity.
-  burned-best-form : n ≤ vectorVariables → rank (burnedList n result given) ≤ rank (bestForm n given)
+  -- .. nor, for few variables, than the form of the best polarity ..
+  burned-few : n ≤ vectorVariables → burnedList n result given ≡ better three (treeForm n given)
   unfolding burnedList
+  burned-few h = ap (λ (b : Bool). cond b (better three (treeForm n given)) (better result given)) (le-leb n vectorVariables h)
+
+  burned-best-form : n ≤ vectorVariables → rank (burnedList n result given) ≤ rank (bestForm n given)
   burned-best-form h =
-      subst (λ (b : Bool). rank (cond b (better (better result given) (bestForm n given)) (better result given)) ≤ rank (bestForm n given))
-      (sym (le-leb n vectorVariables h)) (better-least-later (better result given) (bestForm n given))
+      rw (burned-few h) (le-trans (better-least-earlier three (treeForm n given)) (better-least-later (better result given) (bestForm n given)))
+
+  -- .. nor than the tree's list.
+  burned-tree-form : n ≤ vectorVariables → rank (burnedList n result given) ≤ rank (treeForm n given)
+  burned-tree-form h = rw (burned-few h) (better-least-later three (treeForm n given))
 
   -- So it has no more products than the given list.
   pub burned-le-given : length (burnedList n result given) ≤ length given
   burned-le-given = rank-products _ _ burned-given
 
   -- it is one of them
-  pub burned-one : (P : List Cube → Type 0) → P result → P given → (n ≤ vectorVariables → P (bestForm n given)) → P (burnedList n result given)
+  pub burned-one : (P : List Cube → Type 0) → P result → P given → (n ≤ vectorVariables → P (bestForm n given)) → (n ≤ vectorVariables → P (treeForm n given))
+      → P (burnedList n result given)
   unfolding burnedList
-  burned-one P x y z = go (leb n vectorVariables) refl
+  burned-one P x y z t = go (leb n vectorVariables) refl
     where
       pick : (b : Bool) (earlier later : List Cube) → P earlier → P later → P (cond b later earlier)
       pick true earlier later p q = q
       pick false earlier later p q = p
 
-      go : (b : Bool) → leb n vectorVariables ≡ b → P (cond b (better (better result given) (bestForm n given)) (better result given))
+      go : (b : Bool) → leb n vectorVariables ≡ b → P (cond b (better three (treeForm n given)) (better result given))
       go true e =
-          pick (cheaper (bestForm n given) (better result given)) (better result given) (bestForm n given)
-          (pick (cheaper given result) result given x y) (z (leb-true n vectorVariables e))
+          pick (cheaper (treeForm n given) three) three (treeForm n given)
+          (pick (cheaper (bestForm n given) (better result given)) (better result given) (bestForm n given)
+          (pick (cheaper given result) result given x y) (z (leb-true n vectorVariables e)))
+          (t (leb-true n vectorVariables e))
       go false e = pick (cheaper given result) result given x y
 
 -- ---- the list to burn is the first of the candidates
@@ -115,16 +133,20 @@ module _ (n : ℕ) (result given : List Cube) where
   unfolding burnedList
   burned-at = go (leb n vectorVariables)
     where
-      go : (b : Bool) → cond b (better (better result given) (bestForm n given)) (better result given) ≡ at (first (cond b 3 2))
-      go true = sym (at-next 2 ∙ ap (λ (l : List Cube). better l (bestForm n given)) (at-next 1 ∙ ap (λ (l : List Cube). better l given) at-one))
-      go false = sym (at-next 1 ∙ ap (λ (l : List Cube). better l given) at-one)
+      two : at (first 2) ≡ better result given
+      two = at-next 1 ∙ ap (λ (l : List Cube). better l given) at-one
+
+      go : (b : Bool) → cond b (better (better (better result given) (bestForm n given)) (treeForm n given)) (better result given) ≡ at (first (cond b 4 2))
+      go true =
+          sym (at-next 3 ∙ ap (λ (l : List Cube). better l (treeForm n given)) (at-next 2 ∙ ap (λ (l : List Cube). better l (bestForm n given)) two))
+      go false = sym two
 
   pub burned-first : LeastThen (λ k. cost (at k)) (λ k. length (at k)) (candidateCount n) (first (candidateCount n))
   unfolding first
   burned-first = go (leb n vectorVariables)
     where
-      go : (b : Bool) → LeastThen (λ k. cost (at k)) (λ k. length (at k)) (cond b 3 2) (first (cond b 3 2))
-      go true = least-first at 3 (first 3) (first-ranks at 2)
+      go : (b : Bool) → LeastThen (λ k. cost (at k)) (λ k. length (at k)) (cond b 4 2) (first (cond b 4 2))
+      go true = least-first at 4 (first 4) (first-ranks at 3)
       go false = least-first at 2 (first 2) (first-ranks at 1)
 
 -- ---- the function of a list, by its truth vector
@@ -151,3 +173,18 @@ module _ (n : ℕ) (given : List Cube) (few : n ≤ vectorVariables) where
   burned-form result p h =
       le-trans (burned-best-form n result given few)
       (subst (λ (l : List Cube). rank (bestForm n given) ≤ rank l) (form-of p h) (best-has-least-rank n (byteAt (truthVector n given)) .least p zero-le h))
+
+  -- ---- trees
+
+  pub tree-form-value : (a : ℕ) → a < 2 ^ n → listValue n (treeForm n given) a ≡ listValue n given a
+  unfolding treeForm
+  tree-form-value a h =
+      tree-has-the-value n (byteAt (truthVector n given)) (omega (arith, few)) (truth-vector-is n given few .bits) a h ∙ vector-at a h
+
+  -- No tree costs less.
+  pub burned-tree : (result : List Cube) (t : Tree n) → cost (burnedList n result given) ≤ cost (listOf t (listValue n given))
+  unfolding treeForm
+  burned-tree result t =
+      le-trans (rank-cost _ _ (burned-tree-form n result given few))
+      (subst (λ (l : List Cube). cost (treeForm n given) ≤ cost l) (products-cong t 0 one _ _ vector-at)
+      (no-tree-costs-less n (byteAt (truthVector n given)) (omega (arith, few)) t))

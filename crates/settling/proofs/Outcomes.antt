@@ -7,6 +7,7 @@ use mathlib.Core.Bool.{true}
 use mathlib.Core.List.{List}
 use Prim.Native.Nat.{ℕ, _-_, _*_, _^_, _≤_, _<_}
 use native.Mathlib.Nat.{le-trans, mul-le-mul-left}
+use native.Mathlib.Omega.{arith}
 use borrow.Author.Tests.{leb-true}
 use lib.Dec.{leb}
 use lib.ListN.{length, drop, replicate}
@@ -29,6 +30,8 @@ use Rattle.polarity.specs.Forms.{formList}
 use Rattle.polarity.specs.Vectors.{byteAt}
 use Rattle.polarity.proofs.Ranks.{rank-cost, rank-products}
 use Rattle.polarity.proofs.Theorems.{form-is-good}
+use Rattle.trees.specs.Trees as trees
+use Rattle.trees.proofs.Theorems.{tree-is-good}
 use Rattle.steps.specs.Steps.{Allowed, meaning}
 use Rattle.script.specs.Run.{Ran, stopped, ended}
 use Rattle.script.specs.Scripts.{stepRecords, fits, stepsOf}
@@ -38,10 +41,10 @@ use Rattle.script.proofs.Scripts.{AcceptedScript, script-accepts}
 use Rattle.script.proofs.Value.{run-value, run-good}
 use Rattle.settling.specs.declared.Settled.the-variants as settled-is
 use Rattle.settling.specs.declared.Settlement.{Settlement}
-use Rattle.settling.specs.Candidates.{bestOf, bestForm, burnedList, fixedOf}
+use Rattle.settling.specs.Candidates.{bestOf, bestForm, treeForm, burnedList, fixedOf}
 use Rattle.settling.specs.Calls.{checkSettle, ranSettled, settleOutcome, settleWorkBy, settleWork, settleOutBy, settleOut, settled}
 use Rattle.settling.proofs.Determined.{settled-back, settled-known}
-use Rattle.settling.proofs.Cheapest.{burned-given, burned-result, burned-form, burned-le-given, burned-one, best-form-value}
+use Rattle.settling.proofs.Cheapest.{burned-given, burned-result, burned-form, burned-le-given, burned-one, best-form-value, tree-form-value, burned-tree}
 
 -- ---- what passed before the first step
 
@@ -121,6 +124,7 @@ pub record BurnedBy (n : ℕ) (list script : List ℕ) (work : ℕ) (out : List 
   pub costs-no-more-than-given : cost burned ≤ cost (cubesOf list)
   pub costs-no-more-than-script : cost burned ≤ cost result
   pub no-form-costs-less : n ≤ vectorVariables → (p : ℕ) → p < 2 ^ n → cost burned ≤ cost (formList n p (listValue n (cubesOf list)))
+  pub no-tree-costs-less : n ≤ vectorVariables → (t : trees.Tree n) → cost burned ≤ cost (trees.listOf t (listValue n (cubesOf list)))
   pub no-more-than-given : length burned ≤ length (cubesOf list)
   pub no-more-than-script : length burned ≤ length result
   pub no-form-has-fewer : n ≤ vectorVariables → (p : ℕ) → p < 2 ^ n → length burned ≤ length (formList n p (listValue n (cubesOf list)))
@@ -142,7 +146,7 @@ module _ (n : ℕ) (list script : List ℕ) (work : ℕ) (out : List ℕ) (e : E
       le-trans (mul-le-mul-left recordWidth (le-trans (burned-le-given n (e .result) (cubesOf list)) (passed .out-room))) (capacity-fits cubes mostRecords (length out))
 
   pub settle-burned : BurnedBy n list script work out (e .result) (burnedList n (e .result) (cubesOf list))
-  unfolding burned runOf image filled bestForm
+  unfolding burned runOf image filled bestForm treeForm
   settle-burned =
       let l : List Cube = burnedList n (e .result) (cubesOf list) in
       let long : length (flat (cubes .enc) l) ≡ recordWidth * length l = length-flat (cubes .enc) recordWidth (lawful .len) l in
@@ -160,15 +164,18 @@ module _ (n : ℕ) (list script : List ℕ) (work : ℕ) (out : List ℕ) (e : E
             burned-one n (e .result) (cubesOf list) (All (Good n))
             (run-good n (cubeCapacity work) (stepsOf script) (passed .fit) (cubesOf list) (passed .list-is .good) (e .result) (e .peak) (e .ran))
             (passed .list-is .good)
-            (λ few. form-is-good n (bestOf n (cubesOf list)) (byteAt (truthVector n (cubesOf list))));
+            (λ few. form-is-good n (bestOf n (cubesOf list)) (byteAt (truthVector n (cubesOf list))))
+            (λ few. tree-is-good n (byteAt (truthVector n (cubesOf list))) (omega (arith, few)));
         same-value = λ a h.
             burned-one n (e .result) (cubesOf list) (λ m. listValue n m a ≡ listValue n (cubesOf list) a)
             (run-value n (cubeCapacity work) (stepsOf script) (passed .fit) (cubesOf list) (passed .list-is .good) (e .result) (e .peak) (e .ran) a)
             refl
-            (λ few. best-form-value n (cubesOf list) few a h);
+            (λ few. best-form-value n (cubesOf list) few a h)
+            (λ few. tree-form-value n (cubesOf list) few a h);
         costs-no-more-than-given = rank-cost _ _ (burned-given n (e .result) (cubesOf list));
         costs-no-more-than-script = rank-cost _ _ (burned-result n (e .result) (cubesOf list));
         no-form-costs-less = λ few p h. rank-cost _ _ (burned-form n (cubesOf list) few (e .result) p h);
+        no-tree-costs-less = λ few t. burned-tree n (cubesOf list) few (e .result) t;
         no-more-than-given = rank-products _ _ (burned-given n (e .result) (cubesOf list));
         no-more-than-script = rank-products _ _ (burned-result n (e .result) (cubesOf list));
         no-form-has-fewer = λ few p h. rank-products _ _ (burned-form n (cubesOf list) few (e .result) p h);

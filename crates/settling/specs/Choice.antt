@@ -14,12 +14,14 @@ use Rattle.polarity.specs.declared.Counts.{Counts}
 use Rattle.polarity.specs.Forms.{formList}
 use Rattle.polarity.specs.Ranks.{countsOf, rankOf, rank}
 use Rattle.polarity.specs.Vectors.{byteAt, Vector}
+use Rattle.trees.specs.Least.{treeList}
 use Rattle.settling.specs.declared.BestForm.{BestForm}
 use Rattle.settling.specs.declared.Burning.{Burning}
 use Rattle.settling.specs.declared.Candidate.{Candidate}
+use Rattle.settling.specs.declared.Forms.{Forms}
 use Rattle.settling.specs.declared.Origin.{Origin}
 use Rattle.settling.specs.declared.Origin.the-variants as origin-is
-use Rattle.settling.specs.Candidates.{burnedList, fixedOf}
+use Rattle.settling.specs.Candidates.{treeForm, burnedList, fixedOf}
 use Rattle.records.specs.Answers.{Accepts}
 
 -- ---- the choice
@@ -36,12 +38,14 @@ abbrev pub listFrom : ℕ → List Cube → List Cube → Origin → List Cube
 listFrom n result given origin-is.Script = result
 listFrom n result given origin-is.Given = given
 listFrom n result given (origin-is.Form p) = formList n p (byteAt (truthVector n given))
+listFrom n result given origin-is.Tree = treeList n (byteAt (truthVector n given))
 
--- there is such a form
+-- there is such a list
 abbrev pub Named : ℕ → Origin → Type 0
 Named n origin-is.Script = Unit {0}
 Named n origin-is.Given = Unit {0}
 Named n (origin-is.Form p) = (n ≤ vectorVariables) × (p < 2 ^ n)
+Named n origin-is.Tree = n ≤ vectorVariables
 
 -- a candidate stands for a list: it has the list's rank, and its origin names the list
 pub record StandsFor (n : ℕ) (result given l : List Cube) (c : Candidate) : Type 0 where
@@ -54,9 +58,15 @@ abbrev pub FormCounts : List ℕ → ℕ → ℕ → Counts → Type 0
 FormCounts v p size r =
     (n : ℕ) → Vector n (take (2 ^ n) v) → p < 2 ^ n → size ≡ length (formList n p (byteAt (take (2 ^ n) v))) → r ≡ countsOf (formList n p (byteAt (take (2 ^ n) v)))
 
--- the best polarity of a list's function, with its truth vector
+-- the best polarity of a list's function, and what the tree's list counts
+pub record FormsAre (n : ℕ) (given : List Cube) (f : Forms) : Type 0 where
+  pub fixed : f .fixed ≡ fixedOf n given
+  pub tree : f .tree ≡ countsOf (treeForm n given)
+
+-- the same with its truth vector
 pub record FormIs (n : ℕ) (given : List Cube) (f : BestForm) : Type 0 where
   pub fixed : f .fixed ≡ fixedOf n given
+  pub tree : n ≤ vectorVariables → f .tree ≡ countsOf (treeForm n given)
   pub vector : n ≤ vectorVariables → take (2 ^ n) (f .vector) ≡ truthVector n given
 
 -- both lists are short, and the form is the given list's
@@ -72,11 +82,10 @@ pub record BurnedIs (l : List Cube) (out out′ : List ℕ) (r : ℕ) : Type 0 w
   pub answer : r ≡ length l
   pub buffer : out′ ≡ image cubes (length out) l
 
--- a form of the vector at the front of a buffer, for which an output of so many bytes has room
-pub record FormFits (n : ℕ) (v : List ℕ) (p out : ℕ) : Type 0 where
+-- a list that is made of a function, for which an output of so many bytes has room: here of the vector at the front of a buffer
+pub record ListFits (n : ℕ) (v : List ℕ) (made : (ℕ → ℕ) → List Cube) (out : ℕ) : Type 0 where
   pub vector : Vector n (take (2 ^ n) v)
-  pub polarity : p < 2 ^ n
-  pub room : length (formList n p (byteAt (take (2 ^ n) v))) ≤ cubeCapacity out
+  pub room : length (made (byteAt (take (2 ^ n) v))) ≤ cubeCapacity out
 
 -- both lists are whole, the vector is the given list's, and the list that the origin names has room
 pub record Burnable (n : ℕ) (list result : List ℕ) (best : BestForm) (origin : Origin) (out : ℕ) : Type 0 where

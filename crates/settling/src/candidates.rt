@@ -2,6 +2,7 @@
 use crate::BestForm;
 use crate::Candidate;
 use crate::Fixed;
+use crate::Forms;
 use crate::Origin;
 use polarity::Best;
 use polarity::Counts;
@@ -12,8 +13,8 @@ ghost use lib.ListN.{length};
 ghost use Rattle.cube.specs.Lists.{cubesOf, mostRecords, mostVariables, truthVector, vectorVariables};
 ghost use Rattle.cube.specs.Calls.{checkList};
 ghost use Rattle.polarity.specs.Ranks.{countsOf};
-ghost use Rattle.settling.specs.Candidates.{burnedList, fixedOf};
-ghost use Rattle.settling.specs.Choice.{candidateOf, betterOf, StandsFor, FormCounts, FormIs, Choosable};
+ghost use Rattle.settling.specs.Candidates.{burnedList};
+ghost use Rattle.settling.specs.Choice.{candidateOf, betterOf, StandsFor, FormCounts, FormsAre, FormIs, Choosable};
 ghost use Rattle.records.specs.Answers.{Accepts};
 
 // The better of two candidates: the later one where it ranks lower, else the earlier.
@@ -80,28 +81,36 @@ pub(crate) fn choose(n: usize, list: &[u8], result: &[u8], best: BestForm) -> Ca
     let vector = best.vector;
     match fixed {
         Fixed::Absent => two,
-        Fixed::Polarity(p, size) => better(
-            two,
-            candidate(count_form(vector, p, size), Origin::Form(p)),
-        ),
+        Fixed::Polarity(p, size) => {
+            let form = candidate(count_form(vector, p, size), Origin::Form(p));
+            let tree = candidate(best.tree, Origin::Tree);
+            better(better(two, form), tree)
+        }
     }
 }
 
-// The best polarity of the given list's function, whose truth vector is written.
-fn best_of(n: usize, list: &[u8], vector: &mut [u8]) -> Fixed
+// The best polarity of the given list's function, whose truth vector is written, and what the tree's list counts.
+fn best_of(n: usize, list: &[u8], vector: &mut [u8]) -> Forms
     requires { ⌜ Accepts (checkList vectorVariables n (now list)) ⌝ }
     requires { ⌜ length (now vector) ≡ 2 ^ n ⌝ }
-    ensures { λ r. ⌜ r ≡ fixedOf n (cubesOf (now (list .entry))) ⌝ }
+    ensures { λ r. ⌜ FormsAre n (cubesOf (now (list .entry))) r ⌝ }
     ensures { λ _. ⌜ now (vector .exit) ≡ truthVector n (cubesOf (now (list .entry))) ⌝ }
 {
     cube::value::truth_vector(n, list, vector);
+    let tree = trees::tree::count_tree(n, vector);
     match polarity::choose::best_polarity(n, vector) {
-        Best::Found(p, size) => Fixed::Polarity(p, size),
-        Best::Refused(_) => Fixed::Absent,
+        Best::Found(p, size) => Forms {
+            fixed: Fixed::Polarity(p, size),
+            tree,
+        },
+        Best::Refused(_) => Forms {
+            fixed: Fixed::Absent,
+            tree,
+        },
     }
 }
 
-// The best polarity of the given list's function, with the truth vector, where there are at most 8 variables.
+// The best polarity of the given list's function and what the tree's list counts, with the truth vector, where there are at most 8 variables.
 pub(crate) fn best_form(n: usize, list: &[u8]) -> BestForm
     requires { ⌜ Accepts (checkList mostVariables n (now list)) ⌝ }
     ensures { λ r. ⌜ FormIs n (cubesOf (now (list .entry))) r ⌝ }
@@ -110,10 +119,20 @@ pub(crate) fn best_form(n: usize, list: &[u8]) -> BestForm
     if cube::value::VECTOR_VARIABLES < n {
         return BestForm {
             fixed: Fixed::Absent,
+            tree: Counts {
+                products: 0,
+                constant: false,
+            },
             vector,
         };
     }
     let assignments: usize = 1 << n;
-    let fixed = best_of(n, list, &mut vector[..assignments]);
-    BestForm { fixed, vector }
+    let forms = best_of(n, list, &mut vector[..assignments]);
+    let fixed = forms.fixed;
+    let tree = forms.tree;
+    BestForm {
+        fixed,
+        tree,
+        vector,
+    }
 }

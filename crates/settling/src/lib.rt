@@ -3,6 +3,7 @@ pub mod burn;
 pub mod candidates;
 pub mod settle;
 
+use polarity::Counts;
 use records::Refusal;
 
 // The best polarity and its size, for at most 8 variables.
@@ -32,11 +33,12 @@ pub enum Settled {
     Refused(Refusal),
 }
 
-// Where a candidate's list comes from: the script, the caller, or the form of a polarity.
+// Where a candidate's list comes from: the script, the caller, the form of a polarity, or the cheapest tree.
 pub enum Origin {
     Script,
     Given,
     Form(usize),
+    Tree,
 }
 
 // A candidate: what the choice goes by, and where its list comes from.
@@ -45,8 +47,15 @@ pub struct Candidate {
     pub origin: Origin,
 }
 
-// The best polarity and its size, and for at most 8 variables the truth vector of which it is the best.
+// Of a function: the best polarity and its size, and what the tree's list counts.
+pub struct Forms {
+    pub fixed: Fixed,
+    pub tree: Counts,
+}
+
+// The best polarity and its size, and for at most 8 variables what the tree's list counts and the truth vector that both are of.
 pub struct BestForm {
     pub fixed: Fixed,
+    pub tree: Counts,
     pub vector: [u8; 256],
 }

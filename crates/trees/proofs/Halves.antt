@@ -1,6 +1,6 @@
 -- A function that stands at bits of four words, and its halves by the next variable: where they stand.
 -- Assumes nothing.
-use mathlib.Core.Path.{_≡_, refl, sym, ap, ap₂, _∙_}
+use mathlib.Core.Path.{_≡_, sym, ap, ap₂, _∙_}
 use mathlib.Core.Bool.{Bool, cond}
 use mathlib.Core.List.{List}
 use Prim.Native.Nat.{ℕ, suc, _+_, _-_, _*_, _%_, _^_, _≤_, _<_}
@@ -10,7 +10,7 @@ use borrow.Author.Tests.{lt-ltb}
 use lib.Bits.{bitXor, xor-self, xor-zero-l}
 use lib.Pow.{pow-mono, pow-pos, pow-add}
 use Rattle.bits.specs.Bits.{bit}
-use Rattle.bits.specs.Packed.{bitAt, packed, lowered, summed, plusUpper}
+use Rattle.bits.specs.Packed.{bitAt, packed, lowered}
 use Rattle.bits.specs.declared.packed.Packed.{Packed}
 use Rattle.bits.proofs.Bits.{bit-zero, bit-shl}
 use Rattle.bits.proofs.packed.Words.{bitAt-lt, summed-bit}

@@ -2,9 +2,9 @@
 -- Assumes nothing.
 use mathlib.Core.Path.{_≡_, refl, sym, ap, ap₂, _∙_}
 use mathlib.Core.Bool.{Bool, true, false, _&&_, cond}
-use mathlib.Core.List.{[], _∷_}
+use mathlib.Core.List.{[], _∷_, _++_}
 use Prim.Native.Nat.{ℕ, zero, suc, _+_, _*_, _/_, _%_, _^_, _≤_, _<_}
-use native.Mathlib.Nat.{add-zero, mul-zero, one-mul, add-mod, div-one, div-eq-of-lt}
+use native.Mathlib.Nat.{pow-suc, add-zero, mul-zero, one-mul, add-mod, div-one, div-eq-of-lt}
 use native.Mathlib.Numerals.{add-one}
 use native.Mathlib.Omega.{arith}
 use lib.Dec.{eqb}
@@ -93,6 +93,31 @@ tree-value (node e t u) n k c f a p few l bits =
 pub list-value : {n : ℕ} (t : Tree n) (f : ℕ → ℕ) → n ≤ 32 → ((x : ℕ) → f x < 2) → (a : ℕ) → a < 2 ^ n → listValue n (listOf t f) a ≡ f a
 unfolding listValue holds
 list-value {n} t f few bits a l = tree-value t n 0 one f a (omega arith) few l bits ∙ rw (div-one, one-mul)
+
+-- only the values at the assignments of its variables count
+pub products-cong : {j : ℕ} (t : Tree j) (k : ℕ) (c : Cube) (f g : ℕ → ℕ) → ((a : ℕ) → a < 2 ^ j → f a ≡ g a) → products t k c f ≡ products t k c g
+unfolding products
+products-cong leaf k c f g same = ap (λ (x : ℕ). cond (eqb x 0) [] (c ∷ [])) (same 0 (omega arith))
+products-cong (node {n} e t u) k c f g same =
+    ap₂ _++_
+    (products-cong t (suc k) (withCode c k (firstCode e)) (first e f) (first e g) (λ a h. first-same e a (even a h) (odd a h)))
+    (products-cong u (suc k) (withCode c k (secondCode e)) (second e f) (second e g) (λ a h. second-same e a (even a h) (odd a h)))
+  where
+    even : (a : ℕ) → a < 2 ^ n → f (2 * a) ≡ g (2 * a)
+    even a h = same (2 * a) (omega (arith, pow-suc 2 n))
+
+    odd : (a : ℕ) → a < 2 ^ n → f (2 * a + 1) ≡ g (2 * a + 1)
+    odd a h = same (2 * a + 1) (omega (arith, pow-suc 2 n))
+
+    first-same : (e : Expansion) (a : ℕ) → f (2 * a) ≡ g (2 * a) → f (2 * a + 1) ≡ g (2 * a + 1) → first e f a ≡ first e g a
+    first-same Shannon a p q = p
+    first-same Positive a p q = p
+    first-same Negative a p q = q
+
+    second-same : (e : Expansion) (a : ℕ) → f (2 * a) ≡ g (2 * a) → f (2 * a + 1) ≡ g (2 * a + 1) → second e f a ≡ second e g a
+    second-same Shannon a p q = q
+    second-same Positive a p q = ap₂ (λ (x y : ℕ). (x + y) % 2) p q
+    second-same Negative a p q = ap₂ (λ (x y : ℕ). (x + y) % 2) p q
 
 -- ---- its cubes
 

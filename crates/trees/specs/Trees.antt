@@ -1,7 +1,7 @@
 -- Expansion trees of a function, their lists and their costs. Document 02, Six; 002, section 2: equations 2.1 to 2.3, and the pseudo Kronecker expression.
 -- A function is its value at each assignment of the variables that are left; the next variable is the lowest bit of an assignment.
 -- Assumes nothing.
-use mathlib.Core.Bool.{Bool, true, false, _&&_, not, cond}
+use mathlib.Core.Bool.{Bool, false, _&&_, not, cond}
 use mathlib.Core.List.{List, [], _∷_, _++_}
 use Prim.Native.Nat.{ℕ, zero, suc, _+_, _*_, _/_, _%_}
 use lib.Dec.{eqb}

@@ -1,4 +1,4 @@
--- What is burned at the front of the output buffer, zeros after it: a whole list, and a form.
+-- What is burned at the front of the output buffer, zeros after it: a whole list, a form, and the tree's list.
 -- Assumes nothing.
 use mathlib.Core.List.{List, [], _∷_, _++_, append-nil}
 use mathlib.Core.Path.{_≡_, sym, ap, _∙_, subst, ap₂}
@@ -18,14 +18,19 @@ use Rattle.records.proofs.Answers.{not-both, and-then, unless-passes, after-acc
 use Rattle.records.proofs.Filling.{filled-by, drop-zeros}
 use Rattle.records.proofs.Records.{length-list, capacity-fits, written-front}
 use Rattle.records.proofs.Images.{length-flat}
-use Rattle.cube.specs.Lists.{cubes, cubesOf, cubeCapacity, recordWidth, mostRecords, truthVector}
+use Rattle.cube.specs.Lists.{cubes, cubesOf, cubeCapacity, recordWidth, mostRecords, vectorVariables, truthVector}
 use Rattle.cube.specs.declared.Cube.{Cube}
 use Rattle.cube.proofs.Lists.{cubes-bytes, lawful}
 use Rattle.polarity.specs.Calls.{coefficientsOutcome, coefficientsAfter, formOutcome, formAfter}
+use Rattle.polarity.specs.Cost.{cost}
 use Rattle.polarity.specs.Forms.{formList, parityWithin, coefficient, formFrom}
 use Rattle.polarity.specs.Vectors.{byteAt, Vector, coefficientVector}
 use Rattle.polarity.proofs.Forms.{form-cong}
-use Rattle.settling.specs.Choice.{listFrom, Named, FormFits, Burnable, BurnedIs}
+use Rattle.trees.specs.declared.TreeList.{TreeList}
+use Rattle.trees.specs.declared.TreeList.the-variants as list-is
+use Rattle.trees.specs.Calls.{treeOutcome, treeAfter, listed}
+use Rattle.trees.specs.Least.{treeList}
+use Rattle.settling.specs.Choice.{listFrom, Named, ListFits, Burnable, BurnedIs}
 use Rattle.settling.specs.declared.BestForm.{BestForm}
 use Rattle.settling.specs.declared.Origin.{Origin}
 use Rattle.settling.specs.declared.Origin.the-variants as origin-is
@@ -43,7 +48,7 @@ list-burned list out whole room small out′ e =
 
 -- ---- the vector at the front of a buffer
 
-module _ (n : ℕ) (v : List ℕ) (p out : ℕ) (fits : FormFits n v p out) where
+module _ (n : ℕ) (v : List ℕ) (made : (ℕ → ℕ) → List Cube) (out : ℕ) (fits : ListFits n v made out) where
   power-long : (1 * 2 ^ n) % 2 ^ 64 ≡ 2 ^ n
   power-long = power-is n (fits .vector .few)
 
@@ -53,12 +58,12 @@ module _ (n : ℕ) (v : List ℕ) (p out : ℕ) (fits : FormFits n v p out) wher
   pub front-vector : Vector n (take ((1 * 2 ^ n) % 2 ^ 64) v)
   front-vector = subst (λ (k : ℕ). Vector n (take k v)) (sym power-long) (fits .vector)
 
-  pub front-room : length (formList n p (byteAt (take ((1 * 2 ^ n) % 2 ^ 64) v))) ≤ cubeCapacity out
-  front-room = subst (λ (k : ℕ). length (formList n p (byteAt (take k v))) ≤ cubeCapacity out) (sym power-long) (fits .room)
+  pub front-room : length (made (byteAt (take ((1 * 2 ^ n) % 2 ^ 64) v))) ≤ cubeCapacity out
+  front-room = subst (λ (k : ℕ). length (made (byteAt (take k v))) ≤ cubeCapacity out) (sym power-long) (fits .room)
 
-  pub front-burned : (out₀ out′ : List ℕ) (r : ℕ) → BurnedIs (formList n p (byteAt (take ((1 * 2 ^ n) % 2 ^ 64) v))) out₀ out′ r
-      → BurnedIs (formList n p (byteAt (take (2 ^ n) v))) out₀ out′ r
-  front-burned out₀ out′ r d = subst (λ (k : ℕ). BurnedIs (formList n p (byteAt (take k v))) out₀ out′ r) power-long d
+  pub front-burned : (out₀ out′ : List ℕ) (r : ℕ) → BurnedIs (made (byteAt (take ((1 * 2 ^ n) % 2 ^ 64) v))) out₀ out′ r
+      → BurnedIs (made (byteAt (take (2 ^ n) v))) out₀ out′ r
+  front-burned out₀ out′ r d = subst (λ (k : ℕ). BurnedIs (made (byteAt (take k v))) out₀ out′ r) power-long d
 
 -- ---- the list that an origin names
 
@@ -77,24 +82,31 @@ module _ (n : ℕ) (list result : List ℕ) (best : BestForm) (o : Origin) (out 
   pub given-room : o ≡ origin-is.Given → length (cubesOf list) ≤ cubeCapacity out
   given-room e = room-of origin-is.Given e
 
-  module _ (p : ℕ) (e : o ≡ origin-is.Form p) where
-    named : Named n (origin-is.Form p)
-    named = subst (Named n) e (b .named)
+  pub form-named : (p : ℕ) → o ≡ origin-is.Form p → (n ≤ vectorVariables) × (p < 2 ^ n)
+  form-named p e = subst (Named n) e (b .named)
 
+  pub tree-named : o ≡ origin-is.Tree → n ≤ vectorVariables
+  tree-named e = subst (Named n) e (b .named)
+
+  -- where the origin names a list that is made of the function
+  module _ (q : Origin) (e : o ≡ q) (few : n ≤ vectorVariables) (made : (ℕ → ℕ) → List Cube)
+      (names : listFrom n (cubesOf result) (cubesOf list) q ≡ made (byteAt (truthVector n (cubesOf list)))) where
     vector-is : take (2 ^ n) (best .vector) ≡ truthVector n (cubesOf list)
-    vector-is = b .best-is .vector (named .0)
+    vector-is = b .best-is .vector few
 
-    pub form-fits : FormFits n (best .vector) p out
-    form-fits = record {
-      vector = subst (Vector n) (sym vector-is) (truth-vector-is n (cubesOf list) (named .0));
-      polarity = named .1;
-      room = subst (λ (v : List ℕ). length (formList n p (byteAt v)) ≤ cubeCapacity out) (sym vector-is) (room-of (origin-is.Form p) e);
+    same : made (byteAt (take (2 ^ n) (best .vector))) ≡ listFrom n (cubesOf result) (cubesOf list) q
+    same = ap (λ (v : List ℕ). made (byteAt v)) vector-is ∙ sym names
+
+    pub list-fits : ListFits n (best .vector) made out
+    list-fits = record {
+      vector = subst (Vector n) (sym vector-is) (truth-vector-is n (cubesOf list) few);
+      room = subst (λ (l : List Cube). length l ≤ cubeCapacity out) (sym same) (room-of q e);
     }
 
-    pub form-named : (out₀ out′ : List ℕ) (r : ℕ) → BurnedIs (formList n p (byteAt (take (2 ^ n) (best .vector)))) out₀ out′ r
+    pub made-burned : (out₀ out′ : List ℕ) (r : ℕ) → BurnedIs (made (byteAt (take (2 ^ n) (best .vector)))) out₀ out′ r
         → BurnedIs (listFrom n (cubesOf result) (cubesOf list) o) out₀ out′ r
-    form-named out₀ out′ r d =
-        origin-burned n (cubesOf list) (cubesOf result) o (origin-is.Form p) e out₀ out′ r (subst (λ (v : List ℕ). BurnedIs (formList n p (byteAt v)) out₀ out′ r) vector-is d)
+    made-burned out₀ out′ r d =
+        origin-burned n (cubesOf list) (cubesOf result) o q e out₀ out′ r (subst (λ (l : List Cube). BurnedIs l out₀ out′ r) same d)
 
 -- ---- a form written to a cleared buffer
 
@@ -105,6 +117,31 @@ written-zeros l n h =
     written-front cubes lawful (zeros n) l (omega (arith, length-replicate {A = ℕ} n 0))
     ∙ ap (λ (t : List ℕ). flat (cubes .enc) l ++ t)
     (drop-zeros (recordWidth * length l) n ∙ ap (λ (k : ℕ). replicate (n - k) 0) (sym (length-flat (cubes .enc) recordWidth (lawful .len) l)))
+
+-- ---- the tree's list, likewise
+
+module _ (n : ℕ) (v : List ℕ) (vector : Vector n v) (out : List ℕ) (room : length (treeList n (byteAt v)) ≤ cubeCapacity (length out)) where
+  tree-accepted : treeOutcome n v (length out) ≡ accepted (length (treeList n (byteAt v)) ∷ cost (treeList n (byteAt v)) ∷ [])
+  unfolding treeOutcome
+  tree-accepted = and-then _ _ _ (vector-accepted n v vector) ∙ unless-passes _ 5 0 _ (le-leb _ _ room)
+
+  module _ (r : TreeList) (out₁ : List ℕ) (e₁ : out₁ ≡ zeros (length out)) (ea : listed r ≡ treeOutcome n v (length out₁)) where
+    is-accepted : listed r ≡ accepted (length (treeList n (byteAt v)) ∷ cost (treeList n (byteAt v)) ∷ [])
+    is-accepted = ea ∙ ap (λ (b : List ℕ). treeOutcome n v (length b)) e₁ ∙ ap (treeOutcome n v) (length-replicate {A = ℕ} (length out) 0) ∙ tree-accepted
+
+    pub tree-burned : (count c : ℕ) → r ≡ list-is.Written count c → (out₂ : List ℕ) → out₂ ≡ treeAfter n v out₁ → BurnedIs (treeList n (byteAt v)) out out₂ count
+    unfolding treeAfter
+    tree-burned count c er out₂ e₂ =
+        let both : accepted (count ∷ c ∷ []) ≡ accepted (length (treeList n (byteAt v)) ∷ cost (treeList n (byteAt v)) ∷ []) = ap listed (sym er) ∙ is-accepted in
+        record {
+          answer = cc;
+          buffer =
+              e₂ ∙ after-accepted _ _ out₁ _ (sym ea ∙ is-accepted) ∙ ap (written cubes 0 (treeList n (byteAt v))) e₁
+              ∙ written-zeros (treeList n (byteAt v)) (length out) (omega (arith, capacity-fits cubes mostRecords (length out)));
+        }
+
+    pub tree-not-refused : (x : Refusal) → r ≡ list-is.Refused x → ⊥
+    tree-not-refused x er = not-both (sym is-accepted ∙ ap listed er)
 
 module _ (n q : ℕ) (v : List ℕ) (vector : Vector n v) (polarity : q < 2 ^ n) where
   pub coefficients-written : (c c′ : List ℕ) → length c ≡ 2 ^ n → c′ ≡ coefficientsAfter n v q c → c′ ≡ coefficientVector n q v

@@ -25,7 +25,7 @@ use Rattle.polarity.proofs.Forms.{form-counts, form-most}
 use Rattle.polarity.proofs.Parities.{parity-zero, parity-low, parity-lt}
 use Rattle.polarity.proofs.Ranks.{cheaper-rank}
 use Rattle.polarity.proofs.Theorems.{best-has-least-rank}
-use Rattle.settling.specs.Candidates.{bestOf, bestForm, better, burnedList, fixedOf}
+use Rattle.settling.specs.Candidates.{bestOf, bestForm, treeForm, better, burnedList, fixedOf}
 use Rattle.settling.specs.Choice.{FormCounts, candidateOf, betterOf, StandsFor, FormIs}
 use Rattle.settling.specs.declared.BestForm.{BestForm}
 use Rattle.settling.specs.declared.Candidate.{Candidate}
@@ -122,21 +122,32 @@ module _ (n : ℕ) (result given : List Cube) where
         subst (StandsFor n result given (better result given)) (sym (it ∙ ap₂ betterOf is il))
         (better-stands result given _ _ (record { rank-is = ap rankOf es; list-is = refl; named = tt }) (record { rank-is = ap rankOf eg; list-is = refl; named = tt }))
 
-    -- above 8 variables there is no form
+    -- above 8 variables there is no form and no tree
     pub chosen-two : best .fixed ≡ fixed-is.Absent → StandsFor n result given (burnedList n result given) two
     unfolding burnedList fixedOf
     chosen-two e = go (leb n vectorVariables) (sym (F .fixed) ∙ e)
       where
         go : (b : Bool) → cond b (fixed-is.Polarity (bestOf n given) (length (bestForm n given))) fixed-is.Absent ≡ fixed-is.Absent
-            → StandsFor n result given (cond b (better (better result given) (bestForm n given)) (better result given)) two
+            → StandsFor n result given (cond b (better (better (better result given) (bestForm n given)) (treeForm n given)) (better result given)) two
         go true z = let no : _≡_ {A = ℕ} 0 1 = cc in absurd (omega arith)
         go false z = two-stands
 
-    pub chosen-three : (p size : ℕ) → best .fixed ≡ fixed-is.Polarity p size → (cf : Counts) → FormCounts (best .vector) p size cf
-        → (form : Candidate) → form ≡ candidateOf cf (origin-is.Form p) → (r : Candidate) → r ≡ betterOf two form → StandsFor n result given (burnedList n result given) r
-    unfolding burnedList
-    chosen-three p size e cf counts form ef r er =
-        subst (λ (b : Bool). StandsFor n result given (cond b (better (better result given) (bestForm n given)) (better result given)) r)
-        (sym (found n given best F p size e .there))
-        (subst (StandsFor n result given (better (better result given) (bestForm n given))) (sym (er ∙ ap (betterOf two) ef))
-        (better-stands (better result given) (bestForm n given) two _ two-stands (form-stands n given best F p size e result cf counts)))
+    module _ (p size : ℕ) (e : best .fixed ≡ fixed-is.Polarity p size) (cf : Counts) (counts : FormCounts (best .vector) p size cf)
+        (form : Candidate) (ef : form ≡ candidateOf cf (origin-is.Form p)) (tree : Candidate) (et : tree ≡ candidateOf (best .tree) origin-is.Tree) where
+      tree-stands : StandsFor n result given (treeForm n given) tree
+      unfolding treeForm
+      tree-stands =
+          let few = found n given best F p size e .few in
+          subst (StandsFor n result given (treeForm n given)) (sym et) (record { rank-is = ap rankOf (F .tree few); list-is = refl; named = few })
+
+      three-stands : (three : Candidate) → three ≡ betterOf two form → StandsFor n result given (better (better result given) (bestForm n given)) three
+      three-stands three er =
+          subst (StandsFor n result given (better (better result given) (bestForm n given))) (sym (er ∙ ap (betterOf two) ef))
+          (better-stands (better result given) (bestForm n given) two _ two-stands (form-stands n given best F p size e result cf counts))
+
+      pub chosen-four : (three : Candidate) → three ≡ betterOf two form → (r : Candidate) → r ≡ betterOf three tree → StandsFor n result given (burnedList n result given) r
+      unfolding burnedList
+      chosen-four three e₃ r e₄ =
+          let list : List Cube = better (better (better result given) (bestForm n given)) (treeForm n given) in
+          subst (λ (b : Bool). StandsFor n result given (cond b list (better result given)) r) (sym (found n given best F p size e .there))
+          (subst (StandsFor n result given list) (sym e₄) (better-stands _ (treeForm n given) three tree (three-stands three e₃) tree-stands))

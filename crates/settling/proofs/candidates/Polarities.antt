@@ -1,4 +1,4 @@
--- The truth vector of a list, and its best polarity.
+-- The truth vector of a list, its best polarity, and what the tree's list counts.
 -- Assumes nothing.
 use mathlib.Core.Path.{_≡_, sym, ap, ap₂, _∙_, subst}
 use mathlib.Core.Bool.{Bool, cond}
@@ -19,13 +19,16 @@ use Rattle.cube.specs.Calls.{checkListOf, checkList, vectorOutcome, vectorAfter
 use Rattle.cube.proofs.Lists.{check-accepts}
 use Rattle.polarity.specs.declared.Best.{Best}
 use Rattle.polarity.specs.declared.Best.the-variants as best-is
+use Rattle.polarity.specs.declared.Counts.{Counts}
 use Rattle.polarity.specs.Forms.{bestPolarity, size}
+use Rattle.polarity.specs.Ranks.{countsOf}
 use Rattle.polarity.specs.Vectors.{byteAt, Vector}
 use Rattle.polarity.specs.Calls.{bestOutcome, found}
-use Rattle.settling.specs.declared.Fixed.{Fixed}
+use Rattle.trees.specs.Least.{treeList}
+use Rattle.settling.specs.declared.Forms.{Forms}
 use Rattle.settling.specs.declared.Fixed.the-variants as fixed-is
-use Rattle.settling.specs.Candidates.{bestOf, bestForm, fixedOf}
-use Rattle.settling.specs.Choice.{FormIs}
+use Rattle.settling.specs.Candidates.{bestOf, bestForm, treeForm, fixedOf}
+use Rattle.settling.specs.Choice.{FormsAre, FormIs}
 use Rattle.settling.proofs.Forming.{truth-vector-is, vector-accepted}
 
 module _ (n : ℕ) (list : List ℕ) (p : Accepts (checkList vectorVariables n list)) where
@@ -41,10 +44,13 @@ module _ (n : ℕ) (list : List ℕ) (p : Accepts (checkList vectorVariables n l
       ∙ ap (λ (t : List ℕ). truthVector n (cubesOf list) ++ t) (drop-of-length-le v {i = 2 ^ n} (omega arith)) ∙ append-nil (truthVector n (cubesOf list))
 
   module _ (v : List ℕ) (ev : v ≡ truthVector n (cubesOf list)) where
+    pub vector-is-vector : Vector n v
+    vector-is-vector = subst (Vector n) (sym ev) (truth-vector-is n (cubesOf list) few)
+
     best-is-found : bestOutcome n v ≡ accepted (bestOf n (cubesOf list) ∷ length (bestForm n (cubesOf list)) ∷ [])
     unfolding bestOutcome bestForm
     best-is-found =
-        and-then _ _ _ (vector-accepted n v (subst (Vector n) (sym ev) (truth-vector-is n (cubesOf list) few)))
+        and-then _ _ _ (vector-accepted n v vector-is-vector)
         ∙ ap (λ (t : List ℕ). accepted (bestPolarity n (byteAt t) ∷ size n (bestPolarity n (byteAt t)) (byteAt t) ∷ [])) ev
 
     pub best-polarity-found : (r : Best) (q s : ℕ) → r ≡ best-is.Found q s → found r ≡ bestOutcome n v → fixed-is.Polarity q s ≡ fixedOf n (cubesOf list)
@@ -69,15 +75,23 @@ passed-few n list p h =
     record { values = p .values; is = simp (le-leb _ _ h) (q .1) }
 
 module _ (n : ℕ) (given : List Cube) where
-  pub form-absent : vectorVariables < n → (v : List ℕ) → FormIs n given (record { fixed = fixed-is.Absent; vector = v })
+  pub form-absent : vectorVariables < n → (c : Counts) (v : List ℕ) → FormIs n given (record { fixed = fixed-is.Absent; tree = c; vector = v })
   unfolding fixedOf
-  form-absent h v = record {
+  form-absent h c v = record {
     fixed = sym (ap (λ (t : Bool). cond t (fixed-is.Polarity (bestOf n given) (length (bestForm n given))) fixed-is.Absent) (lt-leb n vectorVariables h));
+    tree = λ few. absurd (omega arith);
     vector = λ few. absurd (omega arith);
   }
 
-  pub form-found : (f : Fixed) → f ≡ fixedOf n given → (v rest : List ℕ) → v ≡ truthVector n given → FormIs n given (record { fixed = f; vector = v ++ rest })
-  form-found f ef v rest ev = record {
-    fixed = ef;
+  -- what the tree's list of the vector counts
+  pub tree-counted : (v : List ℕ) → v ≡ truthVector n given → (c : Counts) → c ≡ countsOf (treeList n (byteAt v)) → c ≡ countsOf (treeForm n given)
+  unfolding treeForm
+  tree-counted v ev c ec = ec ∙ ap (λ (t : List ℕ). countsOf (treeList n (byteAt t))) ev
+
+  pub form-found : (f : Forms) → FormsAre n given f → (v rest : List ℕ) → v ≡ truthVector n given
+      → FormIs n given (record { fixed = f .fixed; tree = f .tree; vector = v ++ rest })
+  form-found f F v rest ev = record {
+    fixed = F .fixed;
+    tree = λ few. F .tree;
     vector = λ few. take-at v rest (2 ^ n) (ap length ev ∙ length-listBelow (2 ^ n) (listValue n given)) ∙ ev;
   }

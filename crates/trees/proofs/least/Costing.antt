@@ -1,12 +1,11 @@
 -- The costs of a node from those of its three functions: below a literal, where no literal leads to it, and the expansion that is chosen.
 -- Assumes nothing.
 use mathlib.Core.Path.{_≡_, refl, sym, ap, ap₂, _∙_, subst}
-use mathlib.Core.Bool.{Bool, true, false, _&&_, not, cond}
-use Prim.Native.Nat.{ℕ, zero, suc, _+_, _*_, _%_, _^_, _≤_, _<_, min}
+use mathlib.Core.Bool.{Bool, true, false, not}
+use Prim.Native.Nat.{ℕ, zero, suc, _+_, _*_, _%_, _^_, _≤_, _<_}
 use native.Mathlib.Nat.{pow-suc}
 use native.Mathlib.Omega.{arith}
-use borrow.Author.Tests.{leb-true, leb-false}
-use lib.Dec.{leb, eqb}
+use lib.Dec.{eqb}
 use Rattle.bits.specs.Sums.{oneIf}
 use Rattle.bits.specs.Packed.{lowered}
 use Rattle.bits.specs.declared.packed.Packed.{Packed}

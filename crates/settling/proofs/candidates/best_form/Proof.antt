@@ -10,7 +10,7 @@ use Rattle.settling.proofs.candidates.best_form.Statement.{statement}
 use Rattle.settling.proofs.candidates.best_form.Tie as tie
 
 returns : tie.Need-returns
-returns c = form-absent _ _ (omega (arith, c .if1 .taken)) _
+returns c = form-absent _ _ (omega (arith, c .if1 .taken)) _ _
 
 shl-assignments : tie.Need-shl-assignments
 shl-assignments c = search needs
@@ -27,7 +27,7 @@ best-of-requires c κs =
     (passed-few _ _ (c .before .before .before .pre) h, length-take-le _ _ (power-small _ h) ∙ power-is _ h)
 
 returns-2 : tie.Need-returns-2
-returns-2 c = form-found _ _ _ (c .before .best-of .ensures .0) _ _ (c .before .best-of .ensures .1)
+returns-2 c = form-found _ _ _ (c .before .before .best-of .ensures .0) _ _ (c .before .before .best-of .ensures .1)
 
 pub best-form-spec : {M : Type 1} → statement M
 best-form-spec =

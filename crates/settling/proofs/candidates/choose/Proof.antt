@@ -1,6 +1,6 @@
 -- `candidates::choose` meets its contract.
 -- Assumes nothing.
-use Rattle.settling.proofs.candidates.Choosing.{form-inside, chosen-two, chosen-three}
+use Rattle.settling.proofs.candidates.Choosing.{form-inside, chosen-two, chosen-four}
 use native.Mathlib.Omega.{arith}
 use borrow.Author.Needs.{needs}
 use Rattle.settling.proofs.candidates.choose.Statement.{statement}
@@ -33,8 +33,14 @@ count-form-requires c κs = form-inside _ _ _ (c .before .before .before .before
 candidate-requires-3 : tie.Need-candidate-requires-3
 candidate-requires-3 c κs = search needs
 
+candidate-requires-4 : tie.Need-candidate-requires-4
+candidate-requires-4 c κs = search needs
+
 better-requires-2 : tie.Need-better-requires-2
 better-requires-2 c κs = search needs
+
+better-requires-3 : tie.Need-better-requires-3
+better-requires-3 c κs = search needs
 
 returns : tie.Need-returns
 returns c =
@@ -44,9 +50,10 @@ returns c =
 
 returns-2 : tie.Need-returns-2
 returns-2 c =
-    let b = c .before .before .before .before .before .before .before in
-    chosen-three _ _ _ _ (b .before .before .before .before .before .before .before .pre .best-is) _ (b .before .before .before .before .count-list .ensures) _ (b .before .before .before .candidate .ensures) _ (b .before .before .count-list2 .ensures) _ (b .before .candidate2 .ensures)
-    _ (b .better .ensures) _ _ (c .before .before .before .before .fixed .given .1) _ (c .before .before .count-form .ensures) _ (c .before .candidate3 .ensures) _ (c .better2 .ensures)
+    let b = c .before .before .before .before .before .before .before .before .before in
+    chosen-four _ _ _ _ (b .before .before .before .before .before .before .before .pre .best-is) _ (b .before .before .before .before .count-list .ensures) _ (b .before .before .before .candidate .ensures) _ (b .before .before .count-list2 .ensures) _ (b .before .candidate2 .ensures)
+    _ (b .better .ensures) _ _ (c .before .before .before .before .before .before .fixed .given .1) _ (c .before .before .before .before .count-form .ensures) _ (c .before .before .before .candidate3 .ensures)
+    _ (c .before .before .candidate4 .ensures) _ (c .before .better2 .ensures) _ (c .better3 .ensures)
 
 pub choose-spec : {M : Type 1} → statement M
 choose-spec =
@@ -61,6 +68,8 @@ choose-spec =
     enum-known-fixed
     count-form-requires
     candidate-requires-3
+    candidate-requires-4
     better-requires-2
+    better-requires-3
     returns
     returns-2)
