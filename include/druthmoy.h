@@ -1,4 +1,4 @@
-/* Druthmoy: cube lists, scripts, fixed-polarity forms, and settling a map.
+/* Druthmoy: cube lists, scripts, fixed-polarity forms, expansion trees, and settling a map.
  *
  * A number of variables n, a count of records, an assignment a and a polarity p are uint64_t; bit k of a and of p stands for
  * variable k.
@@ -167,6 +167,25 @@ void dm_best_polarity(uint64_t n,
                       const uint8_t *vector, size_t vector_length,
                       uint64_t *answer);
 
+/* The list of the cheapest expansion tree of a truth vector. The function is expanded by variable 0, then 1 and so on. With f0
+ * and f1 the function where the variable is 0 and 1, and d their EXOR, a node has two branches:
+ *
+ *     Shannon          f0 with the complemented literal    f1 with the plain literal
+ *     positive Davio   f0                                  d with the plain literal
+ *     negative Davio   f1                                  d with the complemented literal
+ *
+ * Each is expanded the same way until no variable is left; then the constant 1 is a product, of the literals that lead to it,
+ * and costs 1, or 0 where no literal does. A node costs what its branches cost together, and its expansion is the one that
+ * costs least, of several such the first of the three. The list has the products of the first branch before those of the
+ * second, at each node. No choice of expansions in that order of the variables costs less. answer[2]: its products; answer[3]:
+ * its cost, as dm_best_polarity says.
+ * Writes the first 8 * products bytes of out, and no other byte; a refusal writes none.
+ * Refuses, in this order: 1, 14, 5 (capacity of out below the products). */
+void dm_write_tree(uint64_t n,
+                   const uint8_t *vector, size_t vector_length,
+                   uint8_t *out, size_t out_length,
+                   uint64_t *answer);
+
 /* Runs a script on a list. answer[2]: the count of the result; answer[3]: the peak, the greatest count met.
  * Accepted: the result fills the front of work, and every other byte of work is zero.
  * Refused with 1 to 9: work is as it was. Refused at a step, with 10, 11, 13 or 16 to 19: every byte of work is zero.
@@ -178,9 +197,9 @@ void dm_run(uint64_t n,
             uint8_t *work, size_t work_length,
             uint64_t *answer);
 
-/* Settles a map: of the script's result, the given list and, where n is at most 8, the form of the best polarity, the
- * one that costs least is burned, of several such the one with the fewest products, and of those the earliest. A list
- * costs as dm_best_polarity says.
+/* Settles a map: of the script's result, the given list and, where n is at most 8, the form of the best polarity and the
+ * list of the cheapest expansion tree, the one that costs least is burned, of several such the one with the fewest products,
+ * and of those the earliest. A list costs as dm_best_polarity says.
  * All that is answered are numbers of products. answer[2]: given; answer[3]: peak; answer[4]: the script's result;
  * answer[5], answer[6]: the best polarity and its products, both UINT64_MAX where n is above 8; answer[7]: burned.
  * Accepted: the burned list fills the front of out, every other byte of out is zero, and every byte of work is zero.

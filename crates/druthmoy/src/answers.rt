@@ -8,6 +8,7 @@ use script::Finished;
 use settling::Fixed;
 use settling::Settled;
 use settling::Settlement;
+use trees::TreeList;
 use writer::Wrote;
 ghost use mathlib.Core.Path.{_≡_};
 ghost use mathlib.Core.List.{[], _∷_};
@@ -15,6 +16,7 @@ ghost use Rattle.records.specs.Answers.{accepted, refused, counted};
 ghost use Rattle.cube.specs.Calls.{valued};
 ghost use Rattle.reasons.specs.Calls.{reasoned};
 ghost use Rattle.polarity.specs.Calls.{found};
+ghost use Rattle.trees.specs.Calls.{listed};
 ghost use Rattle.script.specs.Calls.{finished};
 ghost use Rattle.writer.specs.Calls.{wrote};
 ghost use Rattle.settling.specs.declared.Settled.the-variants.{Burned};
@@ -78,6 +80,16 @@ pub(crate) fn put_best(answer: &mut [u64; 8], r: Best)
     match r {
         Best::Found(p, size) => put_values(answer, p, size),
         Best::Refused(why) => put_refusal(answer, why),
+    }
+}
+
+// The products and the cost of a tree's list, or a refusal.
+pub(crate) fn put_listed(answer: &mut [u64; 8], r: TreeList)
+    ensures { λ _. ⌜ now (answer .exit) ≡ words (listed r) ⌝ }
+{
+    match r {
+        TreeList::Written(products, cost) => put_values(answer, products, cost),
+        TreeList::Refused(why) => put_refusal(answer, why),
     }
 }
 

@@ -8,6 +8,7 @@ ghost use Rattle.cube.specs.Calls.{checkList, valueOutcome, vectorOutcome, vect
 ghost use Rattle.reasons.specs.Calls.{reasonsOutcome, reasonsAfter};
 ghost use Rattle.converters.specs.Calls.{wideOutcome, wideAfter, narrowOutcome, narrowAfter};
 ghost use Rattle.polarity.specs.Calls.{coefficientsOutcome, coefficientsAfter, backAfter, formOutcome, formAfter, bestOutcome};
+ghost use Rattle.trees.specs.Calls.{treeOutcome, treeAfter};
 ghost use Rattle.script.specs.Calls.{runOutcome, runAfter};
 ghost use Rattle.writer.specs.Calls.{writeOutcome, writeWork, writeSteps};
 ghost use Rattle.compactor.specs.Calls.{compactOutcome, compactAfter};
@@ -107,6 +108,16 @@ pub extern "C" fn dm_best_polarity(n: u64, vector: &[u8], answer: &mut [u64; 8])
 {
     let best = polarity::choose::best_polarity(n as usize, vector);
     answers::put_best(answer, best);
+}
+
+// The list of a truth vector's cheapest tree. Values: its products and its cost.
+#[no_mangle]
+pub extern "C" fn dm_write_tree(n: u64, vector: &[u8], out: &mut [u8], answer: &mut [u64; 8])
+    ensures { λ _. ⌜ now (answer .exit) ≡ words (treeOutcome n (now (vector .entry)) (length (now (out .entry)))) ⌝ }
+    ensures { λ _. ⌜ now (out .exit) ≡ treeAfter n (now (vector .entry)) (now (out .entry)) ⌝ }
+{
+    let listed = trees::tree::write_tree(n as usize, vector, out);
+    answers::put_listed(answer, listed);
 }
 
 // Runs a script on a list. Values: the count and the peak.

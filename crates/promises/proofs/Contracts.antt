@@ -7,6 +7,7 @@ use Rattle.records.specs.Answers.{counted}
 use Rattle.cube.specs.Calls.{valued}
 use Rattle.reasons.specs.Calls.{reasoned}
 use Rattle.polarity.specs.Calls.{found}
+use Rattle.trees.specs.Calls.{listed}
 use Rattle.script.specs.Calls.{finished}
 use Rattle.writer.specs.Calls.{wrote}
 use Rattle.settling.specs.Calls.{settled}
@@ -30,6 +31,8 @@ use Rattle.polarity.proofs.form.write_form.Kinds as write-form-kinds
 use Rattle.polarity.proofs.form.write_form.Reads as write-form-reads
 use Rattle.polarity.proofs.choose.best_polarity.Kinds as best-polarity-kinds
 use Rattle.polarity.proofs.choose.best_polarity.Reads as best-polarity-reads
+use Rattle.trees.proofs.tree.write_tree.Kinds as write-tree-kinds
+use Rattle.trees.proofs.tree.write_tree.Reads as write-tree-reads
 use Rattle.script.proofs.run.run.Kinds as run-kinds
 use Rattle.script.proofs.run.run.Reads as run-reads
 use Rattle.writer.proofs.write.write_script.Kinds as write-script-kinds
@@ -54,6 +57,8 @@ use Rattle.druthmoy.proofs.dm_write_form.Kinds as dm-write-form-kinds
 use Rattle.druthmoy.proofs.dm_write_form.Reads as dm-write-form-reads
 use Rattle.druthmoy.proofs.dm_best_polarity.Kinds as dm-best-polarity-kinds
 use Rattle.druthmoy.proofs.dm_best_polarity.Reads as dm-best-polarity-reads
+use Rattle.druthmoy.proofs.dm_write_tree.Kinds as dm-write-tree-kinds
+use Rattle.druthmoy.proofs.dm_write_tree.Reads as dm-write-tree-reads
 use Rattle.druthmoy.proofs.dm_run.Kinds as dm-run-kinds
 use Rattle.druthmoy.proofs.dm_run.Reads as dm-run-reads
 use Rattle.druthmoy.proofs.dm_write_script.Kinds as dm-write-script-kinds
@@ -66,7 +71,7 @@ use Rattle.druthmoy.proofs.dm_wide_from_narrow.Kinds as dm-wide-from-narrow-kin
 use Rattle.druthmoy.proofs.dm_wide_from_narrow.Reads as dm-wide-from-narrow-reads
 use Rattle.druthmoy.proofs.dm_narrow_from_wide.Kinds as dm-narrow-from-wide-kinds
 use Rattle.druthmoy.proofs.dm_narrow_from_wide.Reads as dm-narrow-from-wide-reads
-use Rattle.promises.specs.Calls.{Call, check, value, reasons, truthVector, coefficients, vectorBack, writeForm, bestPolarity, run, writeScript, compact, settle, wideFromNarrow, narrowFromWide, answers, leaves, wordsOf, Faced}
+use Rattle.promises.specs.Calls.{Call, check, value, reasons, truthVector, coefficients, vectorBack, writeForm, bestPolarity, writeTree, run, writeScript, compact, settle, wideFromNarrow, narrowFromWide, answers, leaves, wordsOf, Faced}
 use Rattle.promises.specs.Contracts.{IsCalled, IsFaced}
 
 -- ---- from Rattle
@@ -118,6 +123,12 @@ pub best-polarity-called : IsCalled 1 best-polarity-kinds.ps best-polarity-kinds
     (λ κs a ws. []) (λ κs z. found z)
 unfolding answers leaves
 best-polarity-called κs a z ws p = record { answer = p; left = refl }
+
+pub write-tree-called : IsCalled 2 write-tree-kinds.ps write-tree-kinds.r write-tree-reads.Learnt
+    (λ κs a. writeTree (a .0) (a .1 .0 .now) (a .1 .1 .0 .now))
+    (λ κs a ws. ws .1 .1 .0 ∷ []) (λ κs z. listed z)
+unfolding answers leaves
+write-tree-called κs a z ws p = record { answer = p .0; left = ap (λ (b : List ℕ). b ∷ []) (p .1) }
 
 pub run-called : IsCalled 3 run-kinds.ps run-kinds.r run-reads.Learnt
     (λ κs a. run (a .0) (a .1 .0 .now) (a .1 .1 .0 .now) (a .1 .1 .1 .0 .now))
@@ -207,6 +218,12 @@ pub dm-best-polarity-faced : IsFaced 2 dm-best-polarity-kinds.ps dm-best-polarit
     (λ κs a ws. []) (λ κs a ws. ws .1 .1 .0)
 unfolding answers leaves wordsOf
 dm-best-polarity-faced κs a z ws p = faced _ _ _ p refl
+
+pub dm-write-tree-faced : IsFaced 3 dm-write-tree-kinds.ps dm-write-tree-kinds.r dm-write-tree-reads.Learnt
+    (λ κs a. writeTree (a .0) (a .1 .0 .now) (a .1 .1 .0 .now))
+    (λ κs a ws. ws .1 .1 .0 ∷ []) (λ κs a ws. ws .1 .1 .1 .0)
+unfolding answers leaves wordsOf
+dm-write-tree-faced κs a z ws p = faced _ _ _ (p .0) (ap (λ (b : List ℕ). b ∷ []) (p .1))
 
 pub dm-run-faced : IsFaced 4 dm-run-kinds.ps dm-run-kinds.r dm-run-reads.Learnt
     (λ κs a. run (a .0) (a .1 .0 .now) (a .1 .1 .0 .now) (a .1 .1 .1 .0 .now))

@@ -4,7 +4,7 @@
 use mathlib.Core.Path.{_≡_, refl, sym, ap, _∙_, subst}
 use mathlib.Core.List.{List, [], _∷_, _++_}
 use Prim.Native.Nat.{ℕ, _*_, _%_, _^_, _≤_, _<_}
-use native.Mathlib.Nat.{le-trans, mul-le-mul-left, mod-lt, zero-lt-suc}
+use native.Mathlib.Nat.{le-trans, mod-lt, zero-lt-suc}
 use lib.Bits.{bitXor}
 use lib.ListN.{length, take, drop, List·getD-append}
 use lib.Seq.{take-at, drop-at}
@@ -14,12 +14,10 @@ use Rattle.bits.proofs.Below.{length-listBelow, getD-listBelow}
 use Rattle.records.specs.Records.{flat, image}
 use Rattle.records.specs.Answers.{Outcome, accepted}
 use Rattle.records.proofs.Answers.{not-both}
-use Rattle.records.proofs.Images.{length-flat}
-use Rattle.records.proofs.Records.{capacity-fits, capacity-most, written-front}
+use Rattle.records.proofs.Records.{capacity-most}
 use Rattle.cube.specs.declared.Cube.{Cube}
 use Rattle.cube.specs.Cubes.{holds}
 use Rattle.cube.specs.Lists.{cubes, cubesOf, cubeCapacity, mostVariables, mostRecords, recordWidth, vectorVariables, listValue, trues, truthVector}
-use Rattle.cube.proofs.Lists.{lawful}
 use Rattle.cube.proofs.Meaning.{value-is-exor}
 use Rattle.polarity.specs.Cost.{cost}
 use Rattle.polarity.specs.Forms.{coefficient, valueBack, formFrom, formList, size}
@@ -28,7 +26,7 @@ use Rattle.polarity.proofs.Forms.{form-good, form-cong}
 use Rattle.polarity.proofs.Parities.{parity-lt}
 use Rattle.polarity.proofs.Theorems.{there-and-back, back-and-there, form-has-the-value, best-is-first}
 use Rattle.script.specs.Run.{Ran, stopped, ended, run}
-use Rattle.script.specs.Scripts.{fits, stepsOf}
+use Rattle.script.specs.Scripts.{stepsOf}
 use Rattle.script.specs.Calls.{runOf, ranOutcome, ranWork}
 use Rattle.script.proofs.Value.{run-value}
 use Rattle.promises.specs.Calls.{Call, Called}
@@ -36,7 +34,7 @@ use Rattle.promises.specs.Calls as call
 use Rattle.promises.specs.Refusals.{NoneWrong, recordFaults, listFaults, vectorFaults, faults}
 use Rattle.promises.specs.Accepted.{goesOn, goesOnLeaving}
 use Rattle.promises.proofs.Chains.{none-left, none-right}
-use Rattle.promises.proofs.NotWrong.{not-at-most, not-below, is-vector, good-list, fit-script, second-fine, flat-back, list-fine}
+use Rattle.promises.proofs.NotWrong.{not-at-most, not-below, is-vector, good-list, fit-script, second-fine, flat-back, written-bytes, list-fine}
 use Rattle.promises.proofs.DemandOne.{accepted-not-wrong, not-wrong-goes-on}
 use Rattle.promises.proofs.Calling.{only}
 
@@ -178,11 +176,7 @@ module _ (n p k a : ℕ) (l c c′ f f′ : List ℕ) (o q : Outcome)
   unfolding goesOn goesOnLeaving
   bytes =
       let g = went-on (call.writeForm n (take (2 ^ n) c′) p f) (k ∷ []) (f′ ∷ []) second in
-      let count : k ≡ length form = one-value (g .0) in
-      let fits : recordWidth * length form ≤ length f = le-trans (mul-le-mul-left recordWidth room) (capacity-fits cubes mostRecords (length f)) in
-      let long : length (flat (cubes .enc) form) ≡ recordWidth * k = length-flat (cubes .enc) recordWidth (lawful .len) form ∙ ap (λ (j : ℕ). recordWidth * j) (sym count) in
-      ap (take (recordWidth * k)) (only (g .1) ∙ written-front cubes lawful f form fits)
-      ∙ take-at (flat (cubes .enc) form) (drop (recordWidth * length form) f) (recordWidth * k) long
+      written-bytes form k f f′ (one-value (g .0)) room (only (g .1))
 
   -- The written form's value is the vector's byte, at every assignment and under every polarity; the second number is of the form's products.
   pub form-value-call : q ≡ accepted (byteAt l a ∷ trues n (formList n p (byteAt l)) a ∷ [])

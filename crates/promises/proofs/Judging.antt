@@ -22,12 +22,14 @@ use Rattle.converters.specs.Calls.{wideOutcome, wideAfter, narrowOutcome, narro
 use Rattle.polarity.specs.Forms.{formFrom}
 use Rattle.polarity.specs.Vectors.{byteAt, isBit, checkVector}
 use Rattle.polarity.specs.Calls.{coefficientsOutcome, coefficientsAfter, backAfter, formOutcome, formAfter, bestOutcome}
+use Rattle.trees.specs.Least.{treeList}
+use Rattle.trees.specs.Calls.{treeOutcome, treeAfter}
 use Rattle.script.specs.Scripts.{stepRecords, stepWidth, mostSteps, fits}
 use Rattle.script.specs.Calls.{checkScript, checkRun, runOf, runOutcome, workAfter, runAfter}
 use Rattle.writer.specs.Calls.{writeOutcome, writeWork, writeSteps}
 use Rattle.compactor.specs.Calls.{compactOutcome, compactAfter}
 use Rattle.settling.specs.Calls.{checkSettle, settleOutcome, settleWorkBy, settleWork, settleOutBy, settleOut}
-use Rattle.promises.specs.Calls.{Call, check, value, reasons, truthVector, coefficients, vectorBack, writeForm, bestPolarity, run, writeScript, compact, settle, wideFromNarrow, narrowFromWide, answers, lent, leaves}
+use Rattle.promises.specs.Calls.{Call, check, value, reasons, truthVector, coefficients, vectorBack, writeForm, bestPolarity, writeTree, run, writeScript, compact, settle, wideFromNarrow, narrowFromWide, answers, lent, leaves}
 use Rattle.promises.specs.Refusals.{Fault, at, NoneWrong, FirstWrong, recordFaults, listFaults, atFaults, scriptFaults, vectorFaults, faults}
 use Rattle.promises.specs.Accepted.{goesOn, goesOnLeaving}
 use Rattle.promises.proofs.Chains.{Judged, judge-end, judge-unless, judge-lowest, judge-and}
@@ -111,7 +113,7 @@ one-buffer : {b d : List ℕ} → b ≡ d → b ∷ [] ≡ d ∷ []
 one-buffer e = ap (λ (x : List ℕ). x ∷ []) e
 
 pub judged : (c : Call) → Outcomes c
-unfolding answers lent leaves faults goesOn goesOnLeaving valueOutcome reasonsOutcome reasonsAfter vectorOutcome vectorAfter coefficientsOutcome coefficientsAfter backAfter formOutcome formAfter bestOutcome runOutcome runAfter checkRun writeOutcome writeWork writeSteps compactOutcome compactAfter checkSettle settleOutcome settleWork settleOut wideOutcome wideAfter narrowOutcome narrowAfter
+unfolding answers lent leaves faults goesOn goesOnLeaving valueOutcome reasonsOutcome reasonsAfter vectorOutcome vectorAfter coefficientsOutcome coefficientsAfter backAfter formOutcome formAfter bestOutcome treeOutcome treeAfter runOutcome runAfter checkRun writeOutcome writeWork writeSteps compactOutcome compactAfter checkSettle settleOutcome settleWork settleOut wideOutcome wideAfter narrowOutcome narrowAfter
 judged (check n list) = by-tests (check n list) (checkList mostVariables n list) _ (by-list cubes mostVariables n list) (λ r e. (e, refl)) (λ e. (e, refl))
 judged (value n list a) =
     by-tests (value n list a) (checkAt n list a) _ (by-at n list a) (λ r e. (and-not _ _ r e, refl)) (λ e. (and-then _ _ _ e, refl))
@@ -137,6 +139,10 @@ judged (writeForm n l p out) =
     (λ r e. (e, one-buffer (after-refused _ _ out r e))) (λ e. (e, one-buffer (after-accepted _ _ out _ e)))
 judged (bestPolarity n l) =
     by-tests (bestPolarity n l) (checkVector n l) _ (by-vector n l) (λ r e. (and-not _ _ r e, refl)) (λ e. (and-then _ _ _ e, refl))
+judged (writeTree n l out) =
+    by-tests (writeTree n l out) (treeOutcome n l (length out)) _
+    (after-vector n l _ _ _ (unless-le (judge-end _) (length (treeList n (byteAt l))) (cubeCapacity (length out)) 5 0))
+    (λ r e. (e, one-buffer (after-refused _ _ out r e))) (λ e. (e, one-buffer (after-accepted _ _ out _ e)))
 judged (run n list script work) =
     by-tests (run n list script work) (checkRun n list script (length work)) _
     (after-list cubes mostVariables n list _ _ _ (unless-le (by-script n script) (length (cubesOf list)) (cubeCapacity (length work)) 5 0))

@@ -17,5 +17,6 @@ pub mod ShortScript
 pub mod TakingOut
 pub mod PlainSteps
 pub mod DemandTwoCalls
+pub mod CheapestTree
 pub mod Faces
 pub mod Examples

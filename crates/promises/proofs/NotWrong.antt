@@ -1,23 +1,24 @@
--- Where nothing is wrong of a list, a script or a vector, what it is; and lists and vectors of which nothing is wrong.
+-- Where nothing is wrong of a list, a script or a vector, what it is; the bytes of a list that was written; and lists and vectors of which nothing is wrong.
 -- Assumes nothing.
 use mathlib.Core.Path.{_≡_, refl, sym, ap, _∙_, subst}
 use mathlib.Core.Bool.{true, true≢false}
 use mathlib.Core.List.{List, _++_, append-nil}
 use Prim.Native.Nat.{ℕ, suc, _-_, _*_, _/_, _^_, _≤_, _<_}
-use native.Mathlib.Nat.{lt-of-not-le}
+use native.Mathlib.Nat.{lt-of-not-le, le-trans, mul-le-mul-left}
 use native.Mathlib.Omega.{arith}
 use borrow.Author.Tests.{le-leb}
-use lib.ListN.{length, getD, replicate}
+use lib.ListN.{length, getD, take, drop, replicate}
+use lib.Seq.{take-at}
 use Rattle.bits.specs.Below.{listBelow}
 use Rattle.bits.specs.Sums.{All}
 use Rattle.bits.proofs.Below.{length-listBelow, getD-listBelow}
 use Rattle.bits.proofs.Sums.{all-map}
-use Rattle.records.specs.Records.{records, listOf, flat, filled, image, Holds}
+use Rattle.records.specs.Records.{records, listOf, flat, filled, written, image, Holds}
 use Rattle.records.proofs.Images.{length-flat}
-use Rattle.records.proofs.Records.{holds-records}
+use Rattle.records.proofs.Records.{capacity-fits, written-front, holds-records}
 use Rattle.cube.specs.declared.Cube.{Cube}
 use Rattle.cube.specs.Cubes.{good, Good, one}
-use Rattle.cube.specs.Lists.{cubes, cubesOf, mostRecords, recordWidth, vectorVariables}
+use Rattle.cube.specs.Lists.{cubes, cubesOf, cubeCapacity, mostRecords, recordWidth, vectorVariables}
 use Rattle.cube.proofs.Codes.{parts-good}
 use Rattle.cube.specs.Calls.{checkList}
 use Rattle.cube.proofs.Lists as list-laws
@@ -98,6 +99,18 @@ flat-back l =
     let long : length (flat (cubes .enc) l) ≡ recordWidth * length l = length-flat (cubes .enc) recordWidth (lawful .len) l in
     let many : length (flat (cubes .enc) l) / recordWidth ≡ length l = omega arith in
     ap (λ (k : ℕ). records cubes k (flat (cubes .enc) l)) many ∙ holds-records cubes lawful (flat (cubes .enc) l) l (flat-holds l)
+
+-- a list that was written to a buffer with room for it: it fits, and its bytes are the buffer's front
+module _ (l : List Cube) where
+  pub written-fits : (out : List ℕ) → length l ≤ cubeCapacity (length out) → recordWidth * length l ≤ length out
+  written-fits out room = le-trans (mul-le-mul-left recordWidth room) (capacity-fits cubes mostRecords (length out))
+
+  pub written-bytes : (k : ℕ) (out out′ : List ℕ) → k ≡ length l → length l ≤ cubeCapacity (length out) → out′ ≡ written cubes 0 l out
+      → take (recordWidth * k) out′ ≡ flat (cubes .enc) l
+  written-bytes k out out′ count room is =
+      ap (take (recordWidth * k)) (is ∙ written-front cubes lawful out l (written-fits out room))
+      ∙ take-at (flat (cubes .enc) l) (drop (recordWidth * length l) out) (recordWidth * k)
+      (length-flat (cubes .enc) recordWidth (lawful .len) l ∙ ap (λ (j : ℕ). recordWidth * j) (sym count))
 
 -- nothing is wrong of the value of a list of good cubes
 pub list-fine : (n a : ℕ) (l : List Cube) → n ≤ vectorVariables → a < 2 ^ n → length l ≤ mostRecords → All (Good n) l

@@ -7,6 +7,7 @@ pub mod Reasons
 pub mod OtherScript
 pub mod EasyScript
 pub mod ShortScript
+pub mod CheapestTree
 pub mod PlainSteps
 pub mod Faced
 pub mod Marked

@@ -1,2 +1,2 @@
 -- Laws of what is burned.
-mod Written
+pub mod Written

@@ -1,15 +1,14 @@
 // The list that is burned, and zeros after it.
 use crate::BestForm;
 use crate::Origin;
+use crate::tree;
 use records::Counted;
-use trees::TreeList;
 ghost use mathlib.Core.Path.{_≡_};
 ghost use Prim.Native.Nat.{_^_, _%_, _<_, _≤_};
 ghost use lib.ListN.{length, take};
 ghost use Rattle.cube.specs.Lists.{cubesOf, cubeCapacity, recordWidth};
 ghost use Rattle.polarity.specs.Forms.{formList};
 ghost use Rattle.polarity.specs.Vectors.{byteAt, Vector};
-ghost use Rattle.trees.specs.Least.{treeList};
 ghost use Rattle.settling.specs.Choice.{listFrom, ListFits, Burnable, BurnedIs};
 
 // A whole list, as it stands.
@@ -55,28 +54,6 @@ fn burn_form(n: usize, vector: &[u8], p: usize, out: &mut [u8]) -> usize
     )
 }
 
-// The tree's list of a vector.
-fn put_tree(n: usize, vector: &[u8], out: &mut [u8]) -> usize
-    requires { ⌜ Vector n (now vector) ⌝ }
-    requires { ⌜ length (treeList n (byteAt (now vector))) ≤ cubeCapacity (length (now out)) ⌝ }
-    ensures { λ r. ⌜ BurnedIs (treeList n (byteAt (now (vector .entry)))) (now (out .entry)) (now (out .exit)) r ⌝ }
-{
-    records::clear(out);
-    match trees::tree::write_tree(n, vector, out) {
-        TreeList::Written(count, _) => count,
-        TreeList::Refused(_) => 0,
-    }
-}
-
-// The tree's list of the vector at the front of a buffer.
-fn burn_tree(n: usize, vector: &[u8], out: &mut [u8]) -> usize
-    requires { ⌜ ListFits n (now vector) (treeList n) (length (now out)) ⌝ }
-    ensures { λ r. ⌜ BurnedIs (treeList n (byteAt (take (2 ^ n) (now (vector .entry))))) (now (out .entry)) (now (out .exit)) r ⌝ }
-{
-    let assignments: usize = 1 << n;
-    put_tree(n, &vector[..assignments], out)
-}
-
 // The list that an origin names.
 pub(crate) fn burn(
     n: usize,
@@ -98,7 +75,7 @@ pub(crate) fn burn(
         }
         Origin::Tree => {
             let vector = best.vector;
-            burn_tree(n, &vector, out)
+            tree::burn_tree(n, &vector, out)
         }
     }
 }

@@ -2,6 +2,7 @@
 pub mod burn;
 pub mod candidates;
 pub mod settle;
+mod tree;
 
 use polarity::Counts;
 use records::Refusal;

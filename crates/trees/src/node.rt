@@ -21,10 +21,11 @@ pub(crate) fn upper_half(k: usize, w: Packed) -> Packed
 pub(crate) fn first_half(by: Expansion, k: usize, w: Packed) -> Packed
     ensures { λ r. ⌜ r ≡ firstHalf by k w ⌝ }
 {
+    let upper = upper_half(k, w);
     match by {
         Expansion::Shannon => w,
         Expansion::Positive => w,
-        Expansion::Negative => upper_half(k, w),
+        Expansion::Negative => upper,
     }
 }
 
@@ -32,10 +33,12 @@ pub(crate) fn first_half(by: Expansion, k: usize, w: Packed) -> Packed
 pub(crate) fn second_half(by: Expansion, k: usize, w: Packed) -> Packed
     ensures { λ r. ⌜ r ≡ secondHalf by k w ⌝ }
 {
+    let upper = upper_half(k, w);
+    let change = w.lowered(k);
     match by {
-        Expansion::Shannon => upper_half(k, w),
-        Expansion::Positive => w.lowered(k),
-        Expansion::Negative => w.lowered(k),
+        Expansion::Shannon => upper,
+        Expansion::Positive => change,
+        Expansion::Negative => change,
     }
 }
 

@@ -39,6 +39,7 @@ fn main() {
     reasons(&mut highest);
     converters(&mut highest);
     polarities(&mut highest);
+    trees(&mut highest);
     scripts(&mut highest);
     settling(&mut highest);
     writer::rows(&mut highest);
@@ -190,6 +191,23 @@ fn polarities(highest: &mut f64) {
             |_, _| answered(|answer| plain::best_polarity::<ByWords>(n, black_box(vector), answer)),
             Another(|_: &mut [u8], _: &mut [u8]| {
                 answered(|answer| plain::best_polarity::<ByBytes>(n, black_box(vector), answer))
+            }),
+        );
+    }
+}
+
+fn trees(highest: &mut f64) {
+    for (n, size) in [(0, "n = 0"), (1, "n = 1"), (2, "n = 2"), (3, "n = 3"), (8, "n = 8")] {
+        let vector = &bits(n);
+        let n = u64::from(n);
+        row(
+            highest,
+            "write tree",
+            size,
+            |_, out| words::write_tree(n, black_box(vector), out),
+            |_, out| answered(|answer| plain::write_tree::<ByWords>(n, black_box(vector), out, answer)),
+            Another(|_: &mut [u8], out: &mut [u8]| {
+                answered(|answer| plain::write_tree::<ByBytes>(n, black_box(vector), out, answer))
             }),
         );
     }

@@ -10,6 +10,9 @@ mod lists;
 mod orders;
 mod script;
 mod settling;
+mod tree_costs;
+mod tree_lists;
+mod trees;
 mod vectors;
 mod words;
 mod writer;
@@ -19,6 +22,7 @@ pub use converters::{narrow_from_wide, wide_from_narrow};
 pub use lists::{check, reasons, truth_vector, value};
 pub use script::run;
 pub use settling::settle;
+pub use trees::write_tree;
 pub use vectors::{ByBytes, ByWords, best_polarity, coefficients, vector, write_form};
 pub use writer::{ByMarks, FromTheFront, pass, write_script};
 

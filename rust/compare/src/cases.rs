@@ -3,16 +3,18 @@
 //! Each case draws the refusals that it would like to meet; which of them the call answers, document 01's order decides.
 
 use crate::broken::AT_A_STEP;
-use crate::damage::{Faults, damaged_script, list_bytes};
+use crate::damage::{Faults, damaged_bits, damaged_script, list_bytes};
 use crate::differ::{Call, Case};
 use crate::idle_scripts;
 use crate::near_lists;
 use crate::random::Random;
 use crate::scripts;
+use crate::tree_vectors;
 use crate::undoings::with_undoings;
 use model::cube::{Cube, NARROW_RECORD, PLACE, RECORD, encoded_list, encoded_narrow_list};
 use model::polarity::coefficients;
 use model::script::{self, STEP, STEPS, Step, encoded_script};
+use model::trees;
 
 const VARIABLES: usize = 32;
 const NARROW_VARIABLES: usize = 16;
@@ -23,6 +25,7 @@ pub fn case(random: &mut Random, call: Call) -> Case {
     match call {
         Call::Check | Call::Value | Call::Reasons | Call::TruthVector => list_case(random, faults, call),
         Call::Coefficients | Call::Vector | Call::WriteForm | Call::BestPolarity => bits_case(random, faults, call),
+        Call::WriteTree => tree_case(random, faults),
         Call::Run | Call::Settle => script_case(random, faults, call),
         Call::WriteScript => writer_case(random, faults),
         Call::Compact => compact_case(random, faults),
@@ -53,23 +56,26 @@ fn bits_case(random: &mut Random, faults: &Faults, call: Call) -> Case {
     let width = few_variables(random);
     let n = variables(random, faults, width, 8);
     let number = if call == Call::BestPolarity { 0 } else { pattern(random, width, faults.has(15)) };
-    let mut input = bits(random, width);
-    let ones = input.iter().filter(|&&bit| bit == 1).count();
+    let bits = bits(random, width);
+    let ones = bits.iter().filter(|&&bit| bit == 1).count();
     let out = match call {
         Call::BestPolarity => vec![],
         Call::WriteForm => lent(random, RECORD * ones, faults.has(5)),
-        _ => lent(random, input.len(), faults.has(5)),
+        _ => lent(random, bits.len(), faults.has(5)),
     };
-    if faults.has(14) && random.one_in(3) {
-        let length = random.pick(&[0, input.len() - 1, input.len() + 1, input.len() * 2, input.len() / 2, 300]);
-        input.resize(length, random.below(3) as u8);
-    } else if faults.has(14) {
-        for _ in 0..random.between(1, 3) {
-            let place = random.below(input.len());
-            input[place] = random.pick(&[2, 3, 128, 254, 255]);
-        }
-    }
+    let input = damaged_bits(random, faults, bits);
     Case { call, n, input, number, script: vec![], work: vec![], out }
+}
+
+fn tree_case(random: &mut Random, faults: &Faults) -> Case {
+    let width = few_variables(random);
+    let n = variables(random, faults, width, 8);
+    let vector = tree_vectors::vector(random, width, faults.has(5));
+    let out = lent(random, RECORD * trees::list(&vector).len(), faults.has(5));
+    // A variable more than there may be, and as many values as it makes.
+    let vector = if n == 9 && random.one_in(2) { random.bits(512) } else { vector };
+    let input = damaged_bits(random, faults, vector);
+    Case { call: Call::WriteTree, n, input, number: 0, script: vec![], work: vec![], out }
 }
 
 fn script_case(random: &mut Random, faults: &Faults, call: Call) -> Case {

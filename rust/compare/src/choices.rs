@@ -1,18 +1,21 @@
 //! What was burned, and how often another list, or another polarity, would have been chosen by a rule that is not
 //! document 02's: such a rule would be seen in the comparison.
 
+use crate::counts::{Counts, unmet, write_lines};
 use crate::differ::Case;
 use model::cost::standing;
 use model::cube::{Cube, RECORD, truth_vector};
 use model::polarity;
 use model::script::{self, STEP, Step};
+use model::trees;
+use std::cmp::Ordering;
 use std::fmt;
 
 /// The candidates of a map that was settled.
 struct Candidates {
     /// What the script leaves before the undoing of its L steps.
     before_the_undoing: Vec<Cube>,
-    /// The script's result, the given list and, for at most 8 variables, the form.
+    /// The script's result, the given list and, for at most 8 variables, the form and the tree's list.
     lists: Vec<Vec<Cube>>,
 }
 
@@ -31,6 +34,7 @@ impl Candidates {
         if n <= 8 {
             let vector = truth_vector(n, &lists[1]);
             lists.push(polarity::form(n, &polarity::coefficients(&vector, best), best));
+            lists.push(trees::list(&vector));
         }
         Candidates { before_the_undoing, lists }
     }
@@ -41,25 +45,32 @@ impl Candidates {
     }
 }
 
-/// What a rule compares of a candidate.
-type Rule = fn(&Candidates, usize) -> (usize, usize);
+/// What a rule compares of a candidate: cost, products, and its place where both are the same.
+type Rule = fn(&Candidates, usize) -> (usize, usize, usize);
 
-const BY_COST: Rule = |candidates, k| standing(&candidates.lists[k]);
+const BY_COST: Rule = |candidates, k| at(standing(&candidates.lists[k]), k);
 
-const OTHERS: [(&str, Rule); 5] = [
-    ("products alone", |candidates, k| (candidates.lists[k].len(), 0)),
-    ("products forgotten on a tie", |candidates, k| (standing(&candidates.lists[k]).0, 0)),
+const OTHERS: [(&str, Rule); 8] = [
+    ("no tree", |candidates, k| if k == 3 { (usize::MAX, 0, 0) } else { BY_COST(candidates, k) }),
+    ("the tree before the form", |candidates, k| at(standing(&candidates.lists[k]), [0, 1, 3, 2][k])),
+    ("the tree before all others", |candidates, k| at(standing(&candidates.lists[k]), [1, 2, 3, 0][k])),
+    ("products alone", |candidates, k| (candidates.lists[k].len(), 0, k)),
+    ("products forgotten on a tie", |candidates, k| (standing(&candidates.lists[k]).0, 0, k)),
     ("the constant free each time", |candidates, k| {
         let list = &candidates.lists[k];
-        (list.iter().filter(|cube| !bare(cube)).count(), list.len())
+        (list.iter().filter(|cube| !bare(cube)).count(), list.len(), k)
     }),
     ("the script's constant before the undoing", |candidates, k| {
-        less_if(k == 0, &candidates.lists[k], &candidates.before_the_undoing)
+        at(less_if(k == 0, &candidates.lists[k], &candidates.before_the_undoing), k)
     }),
     ("the given list's constant for the script's", |candidates, k| {
-        less_if(k == 0, &candidates.lists[k], &candidates.lists[1])
+        at(less_if(k == 0, &candidates.lists[k], &candidates.lists[1]), k)
     }),
 ];
+
+fn at((cost, products): (usize, usize), place: usize) -> (usize, usize, usize) {
+    (cost, products, place)
+}
 
 /// A list's cost, with the constant looked for in another list where it is said so.
 fn less_if(other: bool, list: &[Cube], elsewhere: &[Cube]) -> (usize, usize) {
@@ -71,10 +82,17 @@ fn bare(cube: &Cube) -> bool {
     cube.iter().all(|&code| code == 2)
 }
 
-/// Settled maps by what was burned, and by the rules that would have burned another list.
+const BURNED: [&str; 4] = ["the script's result", "the given list", "the form", "the tree's list"];
+
+/// How the tree's list stands beside the form, by cost and then products.
+const BESIDE: [&str; 4] = ["lower", "as high with other products", "the same list", "higher"];
+
+/// Settled maps by what was burned, those of at most 8 variables by how the tree's list stands beside the form, and the rules
+/// that would have burned another list.
 #[derive(Default)]
 pub struct Choices {
-    burned: [u64; 3],
+    burned: [u64; BURNED.len()],
+    beside: [u64; BESIDE.len()],
     another: [u64; OTHERS.len()],
 }
 
@@ -84,26 +102,37 @@ impl Choices {
         let candidates = Candidates::of(case, answer[5] as usize);
         let burned = candidates.taken(BY_COST);
         self.burned[burned] += 1;
+        if let [_, _, form, tree] = &candidates.lists[..] {
+            self.beside[match standing(tree).cmp(&standing(form)) {
+                Ordering::Less => 0,
+                Ordering::Equal => 1 + usize::from(tree == form),
+                Ordering::Greater => 3,
+            }] += 1;
+        }
         for (count, (_, rule)) in self.another.iter_mut().zip(OTHERS) {
             let taken = candidates.taken(rule);
             *count += u64::from(candidates.lists[taken] != candidates.lists[burned]);
         }
     }
 
-    /// The rules that would never have been seen.
+    /// What was never met, and the rules that would never have been seen.
     pub fn amiss(&self) -> Vec<String> {
-        let unseen = self.another.iter().zip(OTHERS).filter(|(count, _)| **count == 0);
-        unseen.map(|(_, (name, _))| format!("no settled map tells cost from {name}")).collect()
+        unmet(&self.counts())
+    }
+
+    fn counts(&self) -> [Counts; 3] {
+        let rules = OTHERS.map(|(name, _)| name);
+        [
+            ("burned", BURNED.into_iter().zip(self.burned).collect()),
+            ("the tree's list stands beside the form", BESIDE.into_iter().zip(self.beside).collect()),
+            ("another list burned by other rules", rules.into_iter().zip(self.another).collect()),
+        ]
     }
 }
 
 impl fmt::Display for Choices {
     fn fmt(&self, f: &mut fmt::Formatter) -> fmt::Result {
-        let [script, given, form] = self.burned;
-        writeln!(f, "burned: {script} times the script's result, {given} the given list, {form} the form")?;
-        let others: Vec<String> =
-            self.another.iter().zip(OTHERS).map(|(count, (name, _))| format!("{name} {count}")).collect();
-        writeln!(f, "another list by other rules: {}", others.join(", "))
+        write_lines(f, &self.counts())
     }
 }
 

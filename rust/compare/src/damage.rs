@@ -1,4 +1,4 @@
-//! The refusals that a case would like to meet, and the bytes of lists and scripts, damaged for them.
+//! The refusals that a case would like to meet, and the bytes of lists, vectors and scripts, damaged for them.
 
 use crate::broken::AT_A_STEP;
 use crate::differ::Call;
@@ -70,6 +70,21 @@ fn spoil(random: &mut Random, width: usize, record: &mut [u8]) {
     } else {
         seen[byte] |= bit;
     }
+}
+
+/// The bytes of a truth vector or of coefficients, damaged for 14: by their length, or by some that are above 1.
+pub fn damaged_bits(random: &mut Random, faults: &Faults, good: Vec<u8>) -> Vec<u8> {
+    let mut bits = good;
+    if faults.has(14) && random.one_in(3) {
+        let length = random.pick(&[0, bits.len() - 1, bits.len() + 1, bits.len() * 2, bits.len() / 2, 300]);
+        bits.resize(length, random.below(3) as u8);
+    } else if faults.has(14) {
+        for _ in 0..random.between(1, 3) {
+            let place = random.below(bits.len());
+            bits[place] = random.pick(&[2, 3, 128, 254, 255]);
+        }
+    }
+    bits
 }
 
 /// The bytes of a script, damaged for 9 and for 7.

@@ -2,7 +2,8 @@
 
 use crate::compacted::once_more;
 use crate::replays::replay;
-use druthmoy::{Fixed, Refusal, Run, Settled, Value, Written, words};
+use crate::tree_lists::beside_vector;
+use druthmoy::{Fixed, Refusal, Run, Settled, Tree, Value, Written, words};
 use model::calls;
 use model::cube::{Cube, RECORD, decoded};
 use std::fmt;
@@ -18,6 +19,7 @@ pub enum Call {
     Vector,
     WriteForm,
     BestPolarity,
+    WriteTree,
     Run,
     Settle,
     WriteScript,
@@ -27,7 +29,7 @@ pub enum Call {
 }
 
 impl Call {
-    pub const ALL: [Call; 14] = [
+    pub const ALL: [Call; 15] = [
         Call::Check,
         Call::Value,
         Call::Reasons,
@@ -36,6 +38,7 @@ impl Call {
         Call::Vector,
         Call::WriteForm,
         Call::BestPolarity,
+        Call::WriteTree,
         Call::Run,
         Call::Settle,
         Call::WriteScript,
@@ -77,8 +80,9 @@ pub struct After {
     pub out: Vec<u8>,
 }
 
-/// Compares one case three ways: the library's words, its named answers, the model; reasons with value; a written script with
-/// its run; and a compacted one with the given one and with itself compacted. Answers the words.
+/// Compares one case three ways: the library's words, its named answers, the model; reasons with value; a tree's list with its
+/// vector and with the best polarity; a written script with its run; and a compacted one with the given one and with itself
+/// compacted. Answers the words.
 pub fn compare(case: &Case) -> Result<[u64; 8], String> {
     compared(case).map(|after| after.answer)
 }
@@ -96,6 +100,7 @@ pub fn compared(case: &Case) -> Result<After, String> {
     }
     match case.call {
         Call::Reasons => beside_value(case, &expected.answer)?,
+        Call::WriteTree => beside_vector(case, &expected)?,
         Call::WriteScript => replay(case, &expected)?,
         Call::Compact => once_more(case, &expected)?,
         _ => {}
@@ -127,6 +132,7 @@ fn by_model(case: &Case) -> After {
         Call::Vector => calls::vector(n, input, number, &mut out),
         Call::WriteForm => calls::write_form(n, input, number, &mut out),
         Call::BestPolarity => calls::best_polarity(n, input),
+        Call::WriteTree => calls::write_tree(n, input, &mut out),
         Call::Run => calls::run(n, input, &script, &mut work),
         Call::Settle => calls::settle(n, input, &script, &mut work, &mut out),
         Call::WriteScript => calls::write_script(n, input, &mut work, &mut script),
@@ -154,6 +160,7 @@ pub fn by_words(case: &Case) -> Result<After, String> {
             Call::Vector => words::vector(n, input, number, out),
             Call::WriteForm => words::write_form(n, input, number, out),
             Call::BestPolarity => words::best_polarity(n, input),
+            Call::WriteTree => words::write_tree(n, input, out),
             Call::Run => words::run(n, input, script, work),
             Call::Settle => words::settle(n, input, script, work, out),
             Call::WriteScript => words::write_script(n, input, work, script),
@@ -190,6 +197,7 @@ fn by_names(case: &Case) -> After {
         Call::Vector => druthmoy::vector(n, input, number, &mut out).map(one),
         Call::WriteForm => druthmoy::write_form(n, input, number, &mut out).map(one),
         Call::BestPolarity => druthmoy::best_polarity(n, input).map(|Fixed { polarity, size }| vec![polarity, size]),
+        Call::WriteTree => druthmoy::write_tree(n, input, &mut out).map(|Tree { products, cost }| vec![products, cost]),
         Call::Run => druthmoy::run(n, input, &script, &mut work).map(|Run { count, peak }| vec![count, peak]),
         Call::Settle => druthmoy::settle(n, input, &script, &mut work, &mut out).map(
             |Settled { given, peak, script, fixed, burned }| {

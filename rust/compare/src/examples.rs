@@ -3,6 +3,7 @@
 use crate::compact_examples;
 use crate::differ::{Call, Case, compare};
 use crate::easy_examples;
+use crate::tree_examples;
 use model::cube::{RECORD, encoded_list, encoded_narrow_list, read};
 use model::script::Step::{self, Drop, Join, L, Split, Turn};
 use model::script::encoded_script;
@@ -16,6 +17,7 @@ pub fn all() -> Result<(), String> {
         refused_steps(),
         settled(),
         costs(),
+        tree_examples::all(),
         easy_examples::all(),
         compact_examples::all(),
         limits(),
@@ -205,10 +207,11 @@ fn limits() -> Vec<Example> {
     limits
 }
 
-/// n = 9 gives 1 with a truth vector or a polarity, and n = 33 everywhere.
+/// n = 9 gives 1 with a truth vector, a polarity or a tree, and n = 33 everywhere.
 fn too_many_variables() -> Vec<Example> {
-    let with_polarity = [Call::TruthVector, Call::Coefficients, Call::Vector, Call::WriteForm, Call::BestPolarity];
-    let nine = with_polarity.map(|call| (Case { input: vec![0; 512], ..empty(call, 9) }, vec![1, 0]));
+    let of_vectors =
+        [Call::TruthVector, Call::Coefficients, Call::Vector, Call::WriteForm, Call::BestPolarity, Call::WriteTree];
+    let nine = of_vectors.map(|call| (Case { input: vec![0; 512], ..empty(call, 9) }, vec![1, 0]));
     let thirty_three = Call::ALL.map(|call| (empty(call, 33), vec![1, 0]));
     nine.into_iter().chain(thirty_three).collect()
 }
@@ -269,12 +272,12 @@ fn value(n: u64, list: &[&str]) -> Case {
     Case { input: records(list), ..empty(Call::Value, n) }
 }
 
-fn on_bits(call: Call, n: u64, bits: &[u8], p: u64) -> Case {
+pub fn on_bits(call: Call, n: u64, bits: &[u8], p: u64) -> Case {
     Case { input: bits.to_vec(), number: p, out: vec![7; 1024], ..empty(call, n) }
 }
 
 /// A run or a settling in buffers for so many records, with three bytes more.
-fn on_script(call: Call, n: u64, list: &[u8], script: &[Step], capacity: usize) -> Case {
+pub fn on_script(call: Call, n: u64, list: &[u8], script: &[Step], capacity: usize) -> Case {
     let buffer = vec![7; RECORD * capacity + 3];
     Case { input: list.to_vec(), script: encoded_script(script), work: buffer.clone(), out: buffer, ..empty(call, n) }
 }

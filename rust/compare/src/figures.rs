@@ -1,7 +1,7 @@
 //! Figures that others have published.
 
 use crate::random::Random;
-use druthmoy::{best_polarity, coefficients};
+use druthmoy::{RECORD, best_polarity, coefficients, write_tree};
 
 /// Source document 002, table 2.1, column FPRM: how many of the functions of 5 variables need t products. As printed,
 /// the column adds up to 2^32 + 1,000.
@@ -47,6 +47,29 @@ pub fn average_of_five(seed: u64) -> Result<(), String> {
         far.push(format!("average {:.4}, published {AVERAGE}", mean(&needing)));
     }
     if far.is_empty() { Ok(()) } else { Err(far.join("\n")) }
+}
+
+/// The last line of column PSDKRO: the fewest products of a tree, whatever the order of the variables.
+const AVERAGE_OF_TREES: f64 = 6.541;
+
+/// The average size over random functions of 5 variables of the tree that costs least in one order of the variables: it lies
+/// between those of the smallest tree in any order and of the best polarity.
+pub fn trees_of_five(seed: u64) -> Result<(), String> {
+    const FUNCTIONS: u64 = 100_000;
+    let mut random = Random::new(seed);
+    let (mut products, mut cost) = (0, 0);
+    for _ in 0..FUNCTIONS {
+        let function = random.next();
+        let vector: [u8; 32] = std::array::from_fn(|a| (function >> a & 1) as u8);
+        let tree = write_tree(5, &vector, &mut [0; 32 * RECORD]).map_err(|refusal| refusal.to_string())?;
+        products += tree.products;
+        cost += tree.cost;
+    }
+    let [size, cost] = [products, cost].map(|sum| sum as f64 / FUNCTIONS as f64);
+    println!("{FUNCTIONS} functions: average {size:.3} products, average cost {cost:.3}");
+    println!("published: {AVERAGE_OF_TREES} products of a tree in any order, {AVERAGE} of the best polarity");
+    let between = AVERAGE_OF_TREES < size && size < AVERAGE;
+    if between { Ok(()) } else { Err(format!("{size:.3} does not lie between the published averages")) }
 }
 
 /// Source document 001, table 1, column FP: a polarity for all outputs together, and a product that several outputs

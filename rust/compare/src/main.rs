@@ -37,6 +37,12 @@ mod replays;
 mod scripts;
 mod tally;
 mod together;
+mod tree_examples;
+mod tree_lists;
+mod tree_rules;
+mod tree_vectors;
+mod tree_writer;
+mod trees;
 mod undoings;
 mod writer;
 
@@ -53,7 +59,7 @@ fn main() -> ExitCode {
     if cfg!(feature = "standin") {
         println!("STAND-IN: the calls are answered by the model itself; nothing below speaks of the library.\n");
     }
-    let parts: [Part; 14] = [
+    let parts: [Part; 16] = [
         ("the documents' examples and limits", &examples::all),
         ("the wrapper's records", &|| records::all(seed)),
         ("random calls", &|| random_calls::all(calls as usize, seed)),
@@ -63,10 +69,12 @@ fn main() -> ExitCode {
         ("all short lists and scripts over 2 variables", &exhaustive::short_lists_and_scripts),
         ("all steps on two cubes over up to 3 variables, and over 3 of 32", &exhaustive::steps_on_two_cubes),
         ("reasons: faults together, short lists at every label", &reasons::all),
+        ("write tree: faults together, all trees of up to 3 variables, all functions of 4", &tree_writer::all),
         ("write script: faults together, short lists in every buffer", &writer::all),
         ("compact: faults together, short scripts", &compactor::all),
         ("the converters: faults together, short lists there and back", &converters::all),
         ("published average of 5-variable functions", &|| figures::average_of_five(seed)),
+        ("published averages of 5-variable functions, and their trees", &|| figures::trees_of_five(seed)),
         ("published sizes of rd53, rd73, rd84", &figures::ones_counters),
     ];
     for (name, part) in parts {

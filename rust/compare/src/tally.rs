@@ -7,6 +7,7 @@ use crate::easy_scripts::EasyScripts;
 use crate::labels::Labels;
 use crate::refused_steps::RefusedSteps;
 use crate::together::Together;
+use crate::trees::Trees;
 use model::cube::RECORD;
 use model::refusal::ORDERS;
 use std::collections::BTreeSet;
@@ -21,6 +22,7 @@ pub struct Tally {
     refused_steps: RefusedSteps,
     choices: Choices,
     labels: Labels,
+    trees: Trees,
     easy_scripts: EasyScripts,
     compactions: Compactions,
     together: Together,
@@ -40,6 +42,10 @@ impl Tally {
         }
         match case.call {
             Call::Reasons => self.labels.add(case, answer),
+            Call::WriteTree => {
+                self.trees.add(case, answer);
+                self.together.add(case, answer);
+            }
             Call::WriteScript => self.easy_scripts.add(case, answer),
             Call::Compact => {
                 self.compactions.add(case, answer);
@@ -66,7 +72,7 @@ impl Tally {
     }
 
     /// The refusals that the documents give a call and that were not met, and those met that they do not give; and what
-    /// is amiss with refused steps, with choices, with labels, with easy scripts and with compacted ones.
+    /// is amiss with refused steps, with choices, with labels, with trees, with easy scripts and with compacted ones.
     pub fn amiss(&self) -> Vec<String> {
         let mut amiss = Vec::new();
         for ((name, numbers), answers) in ORDERS.iter().zip(&self.answers) {
@@ -83,6 +89,7 @@ impl Tally {
         amiss.extend(self.refused_steps.amiss());
         amiss.extend(self.choices.amiss());
         amiss.extend(self.labels.amiss());
+        amiss.extend(self.trees.amiss());
         amiss.extend(self.easy_scripts.amiss());
         amiss.extend(self.compactions.amiss());
         amiss.extend(self.together.amiss());
@@ -114,6 +121,7 @@ impl fmt::Display for Tally {
         write!(f, "{}", self.refused_steps)?;
         write!(f, "{}", self.choices)?;
         write!(f, "{}", self.labels)?;
+        write!(f, "{}", self.trees)?;
         write!(f, "{}", self.easy_scripts)?;
         write!(f, "{}", self.compactions)?;
         write!(f, "{}", self.together)?;

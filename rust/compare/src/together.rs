@@ -1,24 +1,53 @@
-//! The refusals of compact whose rules are broken together, each looked at by itself: the first of them is answered.
+//! The refusals of write tree and of compact whose rules are broken together, each looked at by itself: the first of them is
+//! answered.
 
 use crate::differ::{Call, Case};
+use model::cube::RECORD;
 use model::refusal::ORDERS;
 use model::script::{STEP, STEPS, decoded};
+use model::trees;
+use std::collections::BTreeMap;
 use std::fmt;
 
-/// By the place of the number that is answered in compact's order, and by that of another that was not, though its rule was
-/// broken too.
+/// The calls whose refusals are looked at.
+const CALLS: [Call; 2] = [Call::WriteTree, Call::Compact];
+
 #[derive(Default)]
 pub struct Together {
-    met: [[u64; 6]; 6],
+    /// By call, the number that is answered and another that was not, though its rule was broken too.
+    met: BTreeMap<(usize, u64, u64), u64>,
     /// The first call that was refused with another number than the first of the rules that it breaks.
     out_of_order: Option<String>,
 }
 
-fn order() -> &'static [u64] {
-    ORDERS[Call::Compact as usize].1
+fn order(call: Call) -> &'static [u64] {
+    ORDERS[call as usize].1
 }
 
 fn is_broken(case: &Case, number: u64) -> bool {
+    match case.call {
+        Call::WriteTree => is_broken_by_vector(case, number),
+        _ => is_broken_by_script(case, number),
+    }
+}
+
+fn is_broken_by_vector(case: &Case, number: u64) -> bool {
+    match number {
+        1 => case.n > 8,
+        14 => case.n > 63 || case.input.len() != 1 << case.n || case.input.iter().any(|&byte| byte > 1),
+        _ => (case.out.len() / RECORD).min(4096) < trees::list(&made_good(case)).len(),
+    }
+}
+
+/// The vector's lowest bits, as many as n variables have, or, where these are too many, as few as there are values for.
+fn made_good(case: &Case) -> Vec<u8> {
+    let most = case.input.len().max(1).ilog2().min(8);
+    let length = 1 << if case.n > 8 { most.into() } else { case.n };
+    let bits = case.input.iter().map(|byte| byte & 1);
+    bits.chain([0; 256]).take(length).collect()
+}
+
+fn is_broken_by_script(case: &Case, number: u64) -> bool {
     let (steps, rest) = case.script.as_chunks::<STEP>();
     match number {
         1 => case.n > 32,
@@ -31,35 +60,48 @@ fn is_broken(case: &Case, number: u64) -> bool {
 }
 
 impl Together {
+    /// Adds a call of these.
     pub fn add(&mut self, case: &Case, answer: &[u64; 8]) {
-        let broken: Vec<usize> = (0..order().len()).filter(|&k| is_broken(case, order()[k])).collect();
-        let first = broken.first().map_or(0, |&k| order()[k]);
+        let mut broken = order(case.call).iter().copied().filter(|&number| is_broken(case, number));
+        let first = broken.next().unwrap_or(0);
         if answer[0] != first {
             self.out_of_order.get_or_insert_with(|| format!("with {first} first the answer is {answer:?}\n{case}"));
         }
-        for pair in broken.iter().skip(1).map(|&other| (broken[0], other)) {
-            self.met[pair.0][pair.1] += 1;
+        for other in broken {
+            *self.met.entry((case.call as usize, first, other)).or_default() += 1;
         }
     }
 
-    /// The pairs of the order that were not met, and a wrong order.
+    /// The pairs of an order that were not met, and a wrong order.
     pub fn amiss(&self) -> Vec<String> {
-        let pairs = (0..order().len()).flat_map(|first| (first + 1..order().len()).map(move |other| (first, other)));
-        let unmet = pairs.filter(|&(first, other)| self.met[first][other] == 0);
-        let name =
-            |(first, other): (usize, usize)| format!("compact: {} before {} not met", order()[first], order()[other]);
+        let pairs = CALLS.into_iter().flat_map(|call| {
+            let numbers = order(call).iter().copied();
+            numbers.flat_map(move |first| after(call, first).iter().map(move |&other| (call, first, other)))
+        });
+        let unmet = pairs.filter(|&(call, first, other)| self.met(call, first, other) == 0);
+        let name = |(call, first, other)| format!("{}: {first} before {other} not met", ORDERS[call as usize].0);
         unmet.map(name).chain(self.out_of_order.clone()).collect()
     }
+
+    fn met(&self, call: Call, first: u64, other: u64) -> u64 {
+        self.met.get(&(call as usize, first, other)).copied().unwrap_or(0)
+    }
+}
+
+/// The numbers after this one in a call's order.
+fn after(call: Call, number: u64) -> &'static [u64] {
+    let place = order(call).iter().position(|&other| other == number).expect("a number of the order");
+    &order(call)[place + 1..]
 }
 
 impl fmt::Display for Together {
     fn fmt(&self, f: &mut fmt::Formatter) -> fmt::Result {
-        let lines = order().iter().zip(&self.met).enumerate().map(|(first, (number, met))| {
-            let others = (first + 1..order().len()).map(|other| format!("{} {}", order()[other], met[other]));
-            (number, others.collect::<Vec<_>>().join(", "))
-        });
-        for (number, others) in lines.filter(|(_, others)| !others.is_empty()) {
-            writeln!(f, "compact refused by {number}, and broken too: {others}")?;
+        for (call, first) in CALLS.iter().flat_map(|&call| order(call).iter().map(move |&first| (call, first))) {
+            let others = after(call, first).iter().map(|&other| format!("{other} {}", self.met(call, first, other)));
+            let others = others.collect::<Vec<_>>().join(", ");
+            if !others.is_empty() {
+                writeln!(f, "{} refused by {first}, and broken too: {others}", ORDERS[call as usize].0)?;
+            }
         }
         Ok(())
     }

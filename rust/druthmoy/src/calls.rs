@@ -17,6 +17,13 @@ pub struct Fixed {
     pub size: u64,
 }
 
+/// The products of an expansion tree's list, and what it costs: as many, less one if one of them has no literal.
+#[derive(Clone, Copy, Debug, PartialEq, Eq)]
+pub struct Tree {
+    pub products: u64,
+    pub cost: u64,
+}
+
 /// The counts of a run: of its result, and the greatest that it met.
 #[derive(Clone, Copy, Debug, PartialEq, Eq)]
 pub struct Run {
@@ -85,13 +92,20 @@ pub fn best_polarity(n: u64, vector: &[u8]) -> Result<Fixed, Refusal> {
     accepted(words::best_polarity(n, vector)).map(|[polarity, size, ..]| Fixed { polarity, size })
 }
 
+/// Writes the list of a truth vector's cheapest expansion tree to the front of `out`. A tree expands the function by variable 0, then 1 and so on, at
+/// each node by Shannon, positive Davio or negative Davio; of several that cost least the first of these is taken, at each node.
+pub fn write_tree(n: u64, vector: &[u8], out: &mut [u8]) -> Result<Tree, Refusal> {
+    accepted(words::write_tree(n, vector, out)).map(|[products, cost, ..]| Tree { products, cost })
+}
+
 /// Runs a script on a list; the result stands at the front of `work`, with zeros after it.
 pub fn run(n: u64, list: &[u8], script: &[u8], work: &mut [u8]) -> Result<Run, Refusal> {
     accepted(words::run(n, list, script, work)).map(|[count, peak, ..]| Run { count, peak })
 }
 
-/// Settles a map: of the script's result, the given list and, for at most 8 variables, the form of the best polarity, the one that costs least, then
-/// has the fewest products, then comes first. It stands at the front of `out`, with zeros after it, and `work` ends all zero.
+/// Settles a map: of the script's result, the given list and, for at most 8 variables, the form of the best polarity and the list of the cheapest
+/// expansion tree, the one that costs least, then has the fewest products, then comes first. It stands at the front of `out`, with zeros after it, and
+/// `work` ends all zero.
 pub fn settle(n: u64, list: &[u8], script: &[u8], work: &mut [u8], out: &mut [u8]) -> Result<Settled, Refusal> {
     let [given, peak, script, polarity, size, burned] = accepted(words::settle(n, list, script, work, out))?;
     let fixed = (n <= 8).then_some(Fixed { polarity, size });

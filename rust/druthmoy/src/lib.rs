@@ -43,6 +43,20 @@
 //! assert_eq!(out[..STEP], join.record());
 //! ```
 //!
+//! A function that is poor under every polarity can have a cheaper expansion tree; its list is written from the truth vector:
+//!
+//! ```
+//! use druthmoy::{Cube, Fixed, Tree, best_polarity, write_tree};
+//!
+//! let vector = [1, 0, 0, 0, 0, 0, 0, 1];
+//! assert_eq!(best_polarity(3, &vector), Ok(Fixed { polarity: 1, size: 4 }));
+//! let mut out = vec![0; 64];
+//! let tree = write_tree(3, &vector, &mut out).unwrap();
+//! assert_eq!(tree, Tree { products: 2, cost: 2 });
+//! let cubes = out.as_chunks().0.iter().map(|&record| Cube::from_record(record).written(3));
+//! assert_eq!(cubes.take(tree.products as usize).collect::<Vec<_>>(), ["000", "111"]);
+//! ```
+//!
 //! The products that are true at a label, by their places, say why it has its bit:
 //!
 //! ```
@@ -85,8 +99,8 @@ mod refusal;
 pub mod words;
 
 pub use calls::{
-    Fixed, Run, Settled, Value, Written, best_polarity, check, coefficients, compact, narrow_from_wide, reasons, run,
-    settle, truth_vector, value, vector, wide_from_narrow, write_form, write_script,
+    Fixed, Run, Settled, Tree, Value, Written, best_polarity, check, coefficients, compact, narrow_from_wide, reasons,
+    run, settle, truth_vector, value, vector, wide_from_narrow, write_form, write_script, write_tree,
 };
 pub use records::{Cube, NARROW_RECORD, NotACube, PLACE, RECORD, STEP, Step};
 pub use refusal::{Fault, Refusal};

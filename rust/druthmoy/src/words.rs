@@ -78,6 +78,15 @@ pub fn best_polarity(n: u64, vector: &[u8]) -> Words {
 }
 
 #[inline]
+pub fn write_tree(n: u64, vector: &[u8], out: &mut [u8]) -> Words {
+    let mut answer = UNANSWERED;
+    unsafe {
+        raw::dm_write_tree(n, vector.as_ptr(), vector.len(), out.as_mut_ptr(), out.len(), answer.as_mut_ptr());
+    }
+    answer
+}
+
+#[inline]
 pub fn run(n: u64, list: &[u8], script: &[u8], work: &mut [u8]) -> Words {
     let mut answer = UNANSWERED;
     unsafe {

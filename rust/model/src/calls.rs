@@ -1,11 +1,13 @@
 //! The library's calls over bytes: what each refuses, in document 01's order, what it answers and what it writes.
 
 use crate::compactor;
+use crate::cost::cost;
 use crate::cube::{self, Cube, NARROW_RECORD, PLACE, RECORD, encoded_list, encoded_narrow_list, encoded_places};
 use crate::polarity;
 use crate::refusal::{Refusal, refuse_at_if, refuse_if};
 use crate::script::{self, STEP, STEPS, Step, encoded_script};
 use crate::settling;
+use crate::trees;
 use crate::writer;
 
 /// The values that an accepted call answers, in document 01's order.
@@ -84,6 +86,15 @@ pub fn best_polarity(n: u64, vector: &[u8]) -> Outcome {
     check_bits(n, vector)?;
     let best = polarity::best(n as usize, vector);
     Ok(vec![best.polarity as u64, best.size as u64])
+}
+
+/// Document 02, Six: "write its list, answering its products and cost"; "refusals: those of writing a form's list, without 15".
+pub fn write_tree(n: u64, vector: &[u8], out: &mut [u8]) -> Outcome {
+    check_bits(n, vector)?;
+    let list = trees::list(vector);
+    refuse_if(capacity(out) < list.len(), 5)?;
+    write_front(out, &encoded_list(&list));
+    Ok(vec![list.len() as u64, cost(&list) as u64])
 }
 
 pub fn run(n: u64, list: &[u8], script: &[u8], work: &mut [u8]) -> Outcome {

@@ -15,4 +15,5 @@ pub mod program;
 pub mod refusal;
 pub mod script;
 pub mod settling;
+pub mod trees;
 pub mod writer;

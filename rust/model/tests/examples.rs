@@ -14,6 +14,8 @@ use model::script::{self, encoded_script};
 mod compact;
 #[path = "examples/write_script.rs"]
 mod write_script;
+#[path = "examples/write_tree.rs"]
+mod write_tree;
 
 fn list(cubes: &[&str]) -> Vec<Cube> {
     cubes.iter().map(|text| read(text)).collect()
@@ -218,6 +220,7 @@ fn limits() {
     assert_eq!(calls::vector(33, &[], 0, &mut out), refused(1, 0));
     assert_eq!(calls::write_form(33, &[], 0, &mut out), refused(1, 0));
     assert_eq!(calls::best_polarity(33, &[]), refused(1, 0));
+    assert_eq!(calls::write_tree(33, &[], &mut out), refused(1, 0));
     assert_eq!(calls::run(33, &[], &[], &mut work), refused(1, 0));
     assert_eq!(calls::settle(33, &[], &[], &mut work, &mut out), refused(1, 0));
     assert_eq!(calls::write_script(33, &[], &mut work, &mut out), refused(1, 0));

@@ -1,8 +1,9 @@
-//! Settle: run in the work buffer, find the best polarity where there are few variables, burn the best of the three.
+//! Settle: run in the work buffer, find the best polarity and the cheapest tree where there are few variables, burn the best of the four.
 
 use super::cube::{Cube, RECORD, VARIABLES, records};
 use super::lists::checked;
 use super::script::{checked_script, run_in};
+use super::trees::Tree;
 use super::vectors::{Way, write_cubes};
 use super::words::rank;
 use super::{Refusal, Words, refuse_if, words};
@@ -34,16 +35,20 @@ fn try_settle<W: Way>(
     } else {
         (usize::MAX, usize::MAX)
     };
+    let tree = few.then(|| W::tree(n, &vector[..1 << n]));
 
     let result = &work[..done.count * RECORD];
     let script = rank(done.count, has_bare(result.as_chunks().0));
     let both = script.min(rank(given.len(), has_bare(given)));
-    let least = if few { both.min(rank(size, vector[p] == 1)) } else { both };
-    let burned = least / 2;
+    let three = if few { both.min(rank(size, vector[p] == 1)) } else { both };
+    let cheaper = tree.filter(|tree| rank(tree.products(), tree.cost() < tree.products()) < three);
+    let burned = cheaper.as_ref().map_or(three / 2, Tree::products);
     out.fill(0);
-    if least == script {
+    if let Some(tree) = cheaper {
+        tree.put(records(out));
+    } else if three == script {
         out[..result.len()].copy_from_slice(result);
-    } else if least == both {
+    } else if three == both {
         out[..list.len()].copy_from_slice(list);
     } else {
         let mut coefficients = [0; 256];

@@ -1,6 +1,9 @@
 //! The calls on vectors of at most 8 variables, in either of two ways.
 
 use super::cube::{Cube, RECORD, records};
+use super::tree_costs::ByCosts;
+use super::tree_lists::ByLists;
+use super::trees::Tree;
 use super::words::{Packed, WORD_VARIABLES, Word, first_above_one};
 use super::{Refusal, Words, bytes, refusal, refuse_if, words};
 
@@ -13,6 +16,7 @@ pub trait Way {
     fn vector(n: u64, coefficients: &[u8], p: usize, out: &mut [u8]);
     /// The polarity with the least cost, then the fewest products, then the smallest p, and how many products it has.
     fn best(n: u64, vector: &[u8]) -> (usize, usize);
+    fn tree(n: u64, vector: &[u8]) -> impl Tree;
 }
 
 /// The library's way: four words, or one where that is enough.
@@ -50,6 +54,10 @@ impl Way for ByWords {
         }
         Packed::of(vector).best(n)
     }
+
+    fn tree(n: u64, vector: &[u8]) -> impl Tree {
+        ByCosts::of(n, vector)
+    }
 }
 
 impl Way for ByBytes {
@@ -71,6 +79,10 @@ impl Way for ByBytes {
 
     fn best(_: u64, vector: &[u8]) -> (usize, usize) {
         bytes::best(vector)
+    }
+
+    fn tree(_: u64, vector: &[u8]) -> impl Tree {
+        ByLists::of(vector)
     }
 }
 
@@ -111,7 +123,7 @@ pub fn write_cubes(coefficients: &[u8], p: usize, out: &mut [u8]) {
 }
 
 /// Rules 1 and 14.
-fn check_bits<W: Way>(n: u64, bits: &[u8]) -> Result<(), Refusal> {
+pub fn check_bits<W: Way>(n: u64, bits: &[u8]) -> Result<(), Refusal> {
     refuse_if(n > 8, 1)?;
     if bits.len() != 1 << n {
         return refusal(14, 1 << n);

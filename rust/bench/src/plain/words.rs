@@ -129,6 +129,19 @@ impl Packed {
         }
     }
 
+    /// The half with variable k, at the places of the half without it.
+    #[inline]
+    pub fn upper(self, k: usize) -> Packed {
+        let Packed(change) = self.lowered(k);
+        Packed(std::array::from_fn(|i| self.0[i] ^ change[i]))
+    }
+
+    /// The first bit.
+    #[inline]
+    pub fn first(self) -> usize {
+        (self.0[0] & 1) as usize
+    }
+
     #[inline]
     fn rank(self) -> usize {
         rank(self.0.iter().map(|word| word.count_ones() as usize).sum(), self.0[0] & 1 == 1)

@@ -4,6 +4,9 @@ use borrow.Author.Needs.{needs}
 use Rattle.trees.proofs.node.first_half.Statement.{statement}
 use Rattle.trees.proofs.node.first_half.Tie as tie
 
+upper-half-requires : tie.Need-upper-half-requires
+upper-half-requires c κs = search needs
+
 enum-told : tie.Need-enum-told
 enum-told c = search needs
 
@@ -13,19 +16,23 @@ enum-told-2 c = search needs
 enum-told-3 : tie.Need-enum-told-3
 enum-told-3 c = search needs
 
-upper-half-requires : tie.Need-upper-half-requires
-upper-half-requires c κs = search needs
-
 returns : tie.Need-returns
-returns c = search needs
+returns c = rw (c .enum-told .given .1)
 
 returns-2 : tie.Need-returns-2
-returns-2 c = search needs
+returns-2 c = rw (c .enum-told2 .given .1)
 
 returns-3 : tie.Need-returns-3
-returns-3 c = rw (c .before .enum-told3 .given .1) (c .upper-half .ensures)
+returns-3 c = rw (c .enum-told3 .given .1) (c .before .before .upper-half .ensures)
 
 pub first-half-spec : {M : Type 1} → statement M
 first-half-spec =
     tie.close
-    (tie.spec enum-told enum-told-2 enum-told-3 upper-half-requires returns returns-2 returns-3)
+    (tie.spec
+    upper-half-requires
+    enum-told
+    enum-told-2
+    enum-told-3
+    returns
+    returns-2
+    returns-3)

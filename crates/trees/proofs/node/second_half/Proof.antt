@@ -4,43 +4,39 @@ use borrow.Author.Needs.{needs}
 use Rattle.trees.proofs.node.second_half.Statement.{statement}
 use Rattle.trees.proofs.node.second_half.Tie as tie
 
-enum-told : tie.Need-enum-told
-enum-told c = search needs
-
 upper-half-requires : tie.Need-upper-half-requires
 upper-half-requires c κs = search needs
-
-enum-told-2 : tie.Need-enum-told-2
-enum-told-2 c = search needs
 
 lowered-requires : tie.Need-lowered-requires
 lowered-requires c κs = search needs
 
+enum-told : tie.Need-enum-told
+enum-told c = search needs
+
+enum-told-2 : tie.Need-enum-told-2
+enum-told-2 c = search needs
+
 enum-told-3 : tie.Need-enum-told-3
 enum-told-3 c = search needs
 
-lowered-requires-2 : tie.Need-lowered-requires-2
-lowered-requires-2 c κs = search needs
-
 returns : tie.Need-returns
-returns c = rw (c .before .enum-told .given .1) (c .upper-half .ensures)
+returns c = rw (c .enum-told .given .1) (c .before .before .before .upper-half .ensures)
 
 returns-2 : tie.Need-returns-2
-returns-2 c = rw (c .before .enum-told2 .given .1) (c .lowered .ensures)
+returns-2 c = rw (c .enum-told2 .given .1) (c .before .before .lowered .ensures)
 
 returns-3 : tie.Need-returns-3
-returns-3 c = rw (c .before .enum-told3 .given .1) (c .lowered2 .ensures)
+returns-3 c = rw (c .enum-told3 .given .1) (c .before .before .lowered .ensures)
 
 pub second-half-spec : {M : Type 1} → statement M
 second-half-spec =
     tie.close
     (tie.spec
-    enum-told
     upper-half-requires
-    enum-told-2
     lowered-requires
+    enum-told
+    enum-told-2
     enum-told-3
-    lowered-requires-2
     returns
     returns-2
     returns-3)

@@ -1,12 +1,12 @@
--- `burn::burn_tree` meets its contract.
+-- `tree::burn_tree` meets its contract.
 -- Assumes nothing.
 use mathlib.Core.Path.{sym}
 use lib.Seq.{length-take-le}
 use Rattle.settling.proofs.burn.Written.{front-end, front-vector, front-room, front-burned}
 use Rattle.trees.specs.Least.{treeList}
 use borrow.Author.Needs.{needs}
-use Rattle.settling.proofs.burn.burn_tree.Statement.{statement}
-use Rattle.settling.proofs.burn.burn_tree.Tie as tie
+use Rattle.settling.proofs.tree.burn_tree.Statement.{statement}
+use Rattle.settling.proofs.tree.burn_tree.Tie as tie
 
 shl-assignments : tie.Need-shl-assignments
 shl-assignments c = search needs

@@ -1,9 +1,9 @@
--- `burn::put_tree` meets its contract.
+-- `tree::put_tree` meets its contract.
 -- Assumes nothing.
 use Rattle.settling.proofs.burn.Written.{tree-burned, tree-not-refused}
 use borrow.Author.Needs.{needs}
-use Rattle.settling.proofs.burn.put_tree.Statement.{statement}
-use Rattle.settling.proofs.burn.put_tree.Tie as tie
+use Rattle.settling.proofs.tree.put_tree.Statement.{statement}
+use Rattle.settling.proofs.tree.put_tree.Tie as tie
 
 clear-requires : tie.Need-clear-requires
 clear-requires c κs = search needs
