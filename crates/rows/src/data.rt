@@ -96,22 +96,26 @@ fn all(row: &[u8], kind: Kind, from: Spot, out: &mut [u8]) -> Spot {
     s
 }
 
-// The part that begins with a colon at a place of the row, to the front of a buffer. It ends where something else stands, and where it begins if the buffer is short.
-pub fn read(row: &[u8], at: usize, kind: Kind, out: &mut [u8]) -> Part
-    ensures { λ r. ⌜ Counts (r .end) (now (out .exit)) ⌝ }
-{
+// All that stands after a colon at a place of the row; nothing where none stands there.
+fn after_colon(row: &[u8], at: usize, kind: Kind, out: &mut [u8]) -> Spot {
     let p = head::after(row, at, b":");
-    if p == at {
-        let end = within(0, out);
-        return Part { end, p: at };
-    }
     let from = Spot {
         p,
         end: 0,
         mark: 0,
         raw: false,
     };
-    let s = all(row, kind, from, out);
+    if p == at {
+        return from;
+    }
+    all(row, kind, from, out)
+}
+
+// The part that begins with a colon at a place of the row, to the front of a buffer. It ends where something else stands, and where it begins if the buffer is short.
+pub fn read(row: &[u8], at: usize, kind: Kind, out: &mut [u8]) -> Part
+    ensures { λ r. ⌜ Counts (r .end) (now (out .exit)) ⌝ }
+{
+    let s = after_colon(row, at, kind, out);
     let end = within(s.end, out);
     if end == s.end {
         return Part { end, p: s.p };

@@ -3,7 +3,7 @@ use text::ReadNumber;
 use text::number;
 use text::place;
 
-// The calls: those on lists, COMPACT on a script, from WIDE on the two converters of lists, and from TEST on those on vectors and coefficients.
+// The calls: up to WRITE those on lists, COMPACT on a script, from WIDE on the two converters of lists, and from TEST on those that take a vector or coefficients.
 pub const CHECK: usize = 1;
 
 pub const VALUE: usize = 2;
@@ -32,6 +32,8 @@ pub const COEFFICIENTS: usize = 13;
 
 pub const BACK: usize = 14;
 
+pub const TREE: usize = 15;
+
 // A number and the place after it; 0 and the same place where there is none.
 pub struct Numeral {
     pub x: usize,
@@ -59,7 +61,7 @@ fn name_by_r(row: &[u8], first: u8) -> ReadNumber {
     if first == b'r' {
         return either(row, b"run ", RUN, b"reasons ", REASONS);
     }
-    place::word_at(row, 0, b"test ", TEST)
+    either(row, b"test ", TEST, b"tree ", TREE)
 }
 
 fn name_by_b(row: &[u8], first: u8) -> ReadNumber {

@@ -1,5 +1,4 @@
 // The tree's list, burned: to the front of the output, zeros after it.
-use trees::TreeList;
 ghost use Prim.Native.Nat.{_^_, _≤_};
 ghost use lib.ListN.{length, take};
 ghost use Rattle.cube.specs.Lists.{cubeCapacity};
@@ -14,10 +13,7 @@ fn put_tree(n: usize, vector: &[u8], out: &mut [u8]) -> usize
     ensures { λ r. ⌜ BurnedIs (treeList n (byteAt (now (vector .entry)))) (now (out .entry)) (now (out .exit)) r ⌝ }
 {
     records::clear(out);
-    match trees::tree::write_tree(n, vector, out) {
-        TreeList::Written(count, _) => count,
-        TreeList::Refused(_) => 0,
-    }
+    trees::tree::put_list(n, vector, out)
 }
 
 // The tree's list of the vector at the front of a buffer.

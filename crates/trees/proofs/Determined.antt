@@ -12,6 +12,8 @@ use Rattle.trees.specs.declared.TreeList.the-variants as list-is
 use Rattle.trees.specs.Calls.{listed}
 use Rattle.trees.proofs.tree.count_tree.Kinds as count-tree-kinds
 use Rattle.trees.proofs.tree.count_tree.Reads as count-tree-reads
+use Rattle.trees.proofs.tree.put_list.Kinds as put-list-kinds
+use Rattle.trees.proofs.tree.put_list.Reads as put-list-reads
 use Rattle.trees.proofs.tree.write_tree.Kinds as write-tree-kinds
 use Rattle.trees.proofs.tree.write_tree.Reads as write-tree-reads
 
@@ -24,6 +26,9 @@ pub listed-known : (a : TreeList) → listed-back (listed a) ≡ a
 unfolding listed-back
 listed-known (list-is.Written products cost) = refl
 listed-known (list-is.Refused r) = refl
+
+pub put-list-determined : Determined 2 put-list-kinds.ps put-list-kinds.r put-list-reads.Learnt
+put-list-determined κs a z z′ ws ws′ p q = (same (p .0) (q .0), ap (λ (b : List ℕ). (tt, (tt, (b, tt)))) (same (p .1) (q .1)))
 
 pub count-tree-determined : Determined 1 count-tree-kinds.ps count-tree-kinds.r count-tree-reads.Learnt
 count-tree-determined κs a z z′ ws ws′ p q = (same p q, refl)

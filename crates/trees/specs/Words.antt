@@ -18,6 +18,10 @@ use Rattle.trees.specs.Least.{firstOfThree, least, choice, chosen}
 
 -- ---- a vector and its halves
 
+-- four words
+abbrev pub words : ℕ → ℕ → ℕ → ℕ → Packed
+words a b c d = record { a = a; b = b; c = c; d = d }
+
 -- the function f of the variables from k on, of which so many are left, stands at the bits whose index has no variable below k
 pub record Stands (k left : ℕ) (f : ℕ → ℕ) (w : Packed) : Type 0 where
   pub at : (a : ℕ) → a < 2 ^ left → bitAt w (a * 2 ^ k) ≡ f a
@@ -61,11 +65,6 @@ nodeBy Negative l h d = record { cost = h .cost + d; products = h .products + d;
 
 unfoldable pub nodeCosts : Costs → Costs → ℕ → Costs
 nodeCosts l h d = nodeBy (firstOfThree (l .paid + h .paid) (l .cost + d) (h .cost + d)) l h d
-
--- the cost where no literal leads to the node, or where one does
-abbrev pub costAt : Bool → Costs → ℕ
-costAt true c = c .cost
-costAt false c = c .paid
 
 -- r is the least cost of the function that stands in w, where a literal leads to it
 pub record PaidIs (k left : ℕ) (w : Packed) (r : ℕ) : Type 0 where

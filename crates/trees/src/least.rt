@@ -5,8 +5,9 @@ use crate::Expansion;
 use crate::node;
 use bits::packed::Packed;
 ghost use mathlib.Core.Path.{_≡_};
+ghost use mathlib.Core.Bool.{true, false};
 ghost use Prim.Native.Nat.{suc, _+_, _%_, _≤_};
-ghost use Rattle.trees.specs.Words.{leastSum, costAt, Few, leafCosts, nodeCosts, PaidIs, CostsAre, ChoiceIs};
+ghost use Rattle.trees.specs.Words.{words, leastSum, Few, leafCosts, nodeCosts, PaidIs, CostsAre, ChoiceIs};
 
 // The least cost of a node to which a literal leads: any two of the three functions are its branches.
 fn joined(lower: usize, upper: usize, change: usize) -> usize
@@ -27,22 +28,22 @@ fn paid_of_one(k: usize, w: Packed) -> usize
     requires { ⌜ k + 1 ≤ 8 ⌝ }
     ensures { λ r. ⌜ PaidIs k 1 w r ⌝ }
 {
-    joined(
-        paid_of_none(w),
-        paid_of_none(node::upper_half(k, w)),
-        paid_of_none(w.lowered(k)),
-    )
+    let change = w.lowered(k);
+    let upper = w.sum(change);
+    joined(paid_of_none(w), paid_of_none(upper), paid_of_none(change))
 }
 
 fn paid_of_two(k: usize, w: Packed) -> usize
     requires { ⌜ k + 2 ≤ 8 ⌝ }
     ensures { λ r. ⌜ PaidIs k 2 w r ⌝ }
 {
+    let change = w.lowered(k);
+    let upper = w.sum(change);
     let j = k + 1;
     joined(
         paid_of_one(j, w),
-        paid_of_one(j, node::upper_half(k, w)),
-        paid_of_one(j, w.lowered(k)),
+        paid_of_one(j, upper),
+        paid_of_one(j, change),
     )
 }
 
@@ -59,19 +60,23 @@ fn paid_of_few(k: usize, left: usize, w: Packed) -> usize
     paid_of_two(k, w)
 }
 
-fn least_paid(k: usize, left: usize, w: Packed) -> usize
+// Word by word, since a struct of four words goes through memory at each call.
+fn least_paid(k: usize, left: usize, a: u64, b: u64, c: u64, d: u64) -> usize
     requires { ⌜ k + left ≤ 8 ⌝ }
-    ensures { λ r. ⌜ PaidIs k left w r ⌝ }
+    ensures { λ r. ⌜ PaidIs k left (words a b c d) r ⌝ }
 {
+    let w = Packed { a, b, c, d };
     if left <= 2 {
         return paid_of_few(k, left, w);
     }
+    let change = w.lowered(k);
+    let upper = w.sum(change);
     let j = k + 1;
     let m = left - 1;
     joined(
-        least_paid(j, m, w),
-        least_paid(j, m, node::upper_half(k, w)),
-        least_paid(j, m, w.lowered(k)),
+        least_paid(j, m, a, b, c, d),
+        least_paid(j, m, upper.a, upper.b, upper.c, upper.d),
+        least_paid(j, m, change.a, change.b, change.c, change.d),
     )
 }
 
@@ -116,44 +121,68 @@ fn node_costs(lower: Costs, upper: Costs, change: usize) -> Costs
 }
 
 // Both least costs of the function of the variables from k on, and the products of the tree to which no literal leads.
-pub(crate) fn least_costs(k: usize, left: usize, w: Packed) -> Costs
+fn costs_from(k: usize, left: usize, a: u64, b: u64, c: u64, d: u64) -> Costs
     requires { ⌜ k + left ≤ 8 ⌝ }
-    ensures { λ r. ⌜ CostsAre k left w r ⌝ }
+    ensures { λ r. ⌜ CostsAre k left (words a b c d) r ⌝ }
 {
+    let w = Packed { a, b, c, d };
     if left == 0 {
         return costs_of_none(w);
     }
+    let change = w.lowered(k);
+    let upper = w.sum(change);
     let j = k + 1;
     let m = left - 1;
     node_costs(
-        least_costs(j, m, w),
-        least_costs(j, m, node::upper_half(k, w)),
-        least_paid(j, m, w.lowered(k)),
+        costs_from(j, m, a, b, c, d),
+        costs_from(j, m, upper.a, upper.b, upper.c, upper.d),
+        least_paid(j, m, change.a, change.b, change.c, change.d),
     )
 }
 
-// The cost where no literal leads to the node, or where one does.
-fn cost_at(free: bool, costs: Costs) -> usize
-    ensures { λ r. ⌜ r ≡ costAt free costs ⌝ }
+// The same of all n variables.
+pub(crate) fn least_costs(n: usize, w: Packed) -> Costs
+    requires { ⌜ n ≤ 8 ⌝ }
+    ensures { λ r. ⌜ CostsAre 0 n w r ⌝ }
 {
-    if free {
-        return costs.cost;
-    }
-    costs.paid
+    costs_from(0, n, w.a, w.b, w.c, w.d)
 }
 
-// The expansion at a node by variable k, with m variables left below it.
+// The expansion at a node by variable k to which a literal leads, with m variables left below it.
+fn choose_paid(k: usize, m: usize, w: Packed) -> Expansion
+    requires { ⌜ k + suc m ≤ 8 ⌝ }
+    ensures { λ r. ⌜ ChoiceIs k m false w r ⌝ }
+{
+    let change = w.lowered(k);
+    let upper = w.sum(change);
+    let j = k + 1;
+    let l = least_paid(j, m, w.a, w.b, w.c, w.d);
+    let h = least_paid(j, m, upper.a, upper.b, upper.c, upper.d);
+    let d = least_paid(j, m, change.a, change.b, change.c, change.d);
+    node::first_least(l + h, l + d, h + d)
+}
+
+// The same where no literal leads to the node.
+fn choose_free(k: usize, m: usize, w: Packed) -> Expansion
+    requires { ⌜ k + suc m ≤ 8 ⌝ }
+    ensures { λ r. ⌜ ChoiceIs k m true w r ⌝ }
+{
+    let change = w.lowered(k);
+    let upper = w.sum(change);
+    let j = k + 1;
+    let l = costs_from(j, m, w.a, w.b, w.c, w.d);
+    let h = costs_from(j, m, upper.a, upper.b, upper.c, upper.d);
+    let d = least_paid(j, m, change.a, change.b, change.c, change.d);
+    node::first_least(l.paid + h.paid, l.cost + d, h.cost + d)
+}
+
+// Either.
 pub(crate) fn choose(k: usize, m: usize, free: bool, w: Packed) -> Expansion
     requires { ⌜ k + suc m ≤ 8 ⌝ }
     ensures { λ r. ⌜ ChoiceIs k m free w r ⌝ }
 {
-    let j = k + 1;
-    let lower = least_costs(j, m, w);
-    let upper = least_costs(j, m, node::upper_half(k, w));
-    let change = least_paid(j, m, w.lowered(k));
-    node::first_least(
-        lower.paid + upper.paid,
-        cost_at(free, lower) + change,
-        cost_at(free, upper) + change,
-    )
+    if free {
+        return choose_free(k, m, w);
+    }
+    choose_paid(k, m, w)
 }

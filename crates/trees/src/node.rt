@@ -8,20 +8,13 @@ ghost use Prim.Native.Nat.{min, _<_};
 ghost use Rattle.cube.specs.Cubes.{withCode};
 ghost use Rattle.trees.specs.Trees.{firstCode, secondCode, unmarked};
 ghost use Rattle.trees.specs.Least.{firstOfThree};
-ghost use Rattle.trees.specs.Words.{upperHalf, firstHalf, secondHalf};
-
-// The half with variable k, moved to the places of the half without it.
-pub(crate) fn upper_half(k: usize, w: Packed) -> Packed
-    ensures { λ r. ⌜ r ≡ upperHalf k w ⌝ }
-{
-    w.sum(w.lowered(k))
-}
+ghost use Rattle.trees.specs.Words.{firstHalf, secondHalf};
 
 // The vector of the first branch.
 pub(crate) fn first_half(by: Expansion, k: usize, w: Packed) -> Packed
     ensures { λ r. ⌜ r ≡ firstHalf by k w ⌝ }
 {
-    let upper = upper_half(k, w);
+    let upper = w.sum(w.lowered(k));
     match by {
         Expansion::Shannon => w,
         Expansion::Positive => w,
@@ -33,8 +26,8 @@ pub(crate) fn first_half(by: Expansion, k: usize, w: Packed) -> Packed
 pub(crate) fn second_half(by: Expansion, k: usize, w: Packed) -> Packed
     ensures { λ r. ⌜ r ≡ secondHalf by k w ⌝ }
 {
-    let upper = upper_half(k, w);
     let change = w.lowered(k);
+    let upper = w.sum(change);
     match by {
         Expansion::Shannon => upper,
         Expansion::Positive => change,

@@ -3,6 +3,8 @@ use crate::TreeList;
 use crate::least;
 use crate::node;
 use bits::packed::Packed;
+use bits::packing;
+use bits::word;
 use cube::Cube;
 use cube::list;
 use polarity::Counts;
@@ -13,6 +15,9 @@ ghost use mathlib.Core.Path.{_≡_};
 ghost use mathlib.Core.Bool.{Bool};
 ghost use Prim.Native.Nat.{ℕ, _+_, _^_, _≤_, _<_};
 ghost use lib.ListN.{length};
+ghost use Rattle.bits.specs.Packed.{packed};
+ghost use Rattle.records.specs.Records.{written};
+ghost use Rattle.cube.specs.Lists.{cubes};
 ghost use Rattle.polarity.specs.Ranks.{countsOf};
 ghost use Rattle.polarity.specs.Vectors.{byteAt, Vector};
 ghost use Rattle.trees.specs.Least.{treeList};
@@ -70,12 +75,32 @@ fn put_tree(
     )
 }
 
+// The bits of a vector; of at most six variables they stand in one word.
+fn bits_of(n: usize, vector: &[u8]) -> Packed
+    requires { ⌜ Vector n (now vector) ⌝ }
+    ensures { λ r. ⌜ r ≡ packed (now (vector .entry)) ⌝ }
+{
+    if n <= word::VARIABLES {
+        return Packed::alone(packing::pack_word(vector, 0));
+    }
+    Packed::of(vector)
+}
+
+// Writes the tree's list of a vector to the front of a buffer, and answers how many products it has.
+pub fn put_list(n: usize, vector: &[u8], out: &mut [u8]) -> usize
+    requires { ⌜ Vector n (now vector) ⌝ }
+    ensures { λ r. ⌜ r ≡ length (treeList n (byteAt (now (vector .entry)))) ⌝ }
+    ensures { λ _. ⌜ now (out .exit) ≡ written cubes 0 (treeList n (byteAt (now (vector .entry)))) (now (out .entry)) ⌝ }
+{
+    put_tree(0, n, true, bits_of(n, vector), Cube::ONE, out, 0)
+}
+
 // How many products the tree's list of a vector has, and whether one of them has no literal: it is free.
 pub fn count_tree(n: usize, vector: &[u8]) -> Counts
     requires { ⌜ Vector n (now vector) ⌝ }
     ensures { λ r. ⌜ r ≡ countsOf (treeList n (byteAt (now (vector .entry)))) ⌝ }
 {
-    let costs = least::least_costs(0, n, Packed::of(vector));
+    let costs = least::least_costs(n, bits_of(n, vector));
     Counts {
         products: costs.products as u32,
         constant: costs.cost != costs.products,
@@ -90,8 +115,8 @@ pub fn write_tree(n: usize, vector: &[u8], out: &mut [u8]) -> TreeList
     match vector::check_vector(n, vector) {
         Counted::Refused(r) => TreeList::Refused(r),
         Counted::Count(_) => {
-            let w = Packed::of(vector);
-            let costs = least::least_costs(0, n, w);
+            let w = bits_of(n, vector);
+            let costs = least::least_costs(n, w);
             if list::capacity(out.len()) < costs.products {
                 return TreeList::Refused(Refusal::new(5, 0));
             }

@@ -1,7 +1,7 @@
 // The table, row by row: a row that begins with `#` is a remark, and the others are calls.
 use crate::call;
+use answers::print;
 use rows::head;
-use rows::print;
 use text::ReadNumber;
 use text::place;
 ghost use Prim.Native.Nat.{_+_, _≤_, _<_};

@@ -1,7 +1,7 @@
 -- What is burned at the front of the output buffer, zeros after it: a whole list, a form, and the tree's list.
 -- Assumes nothing.
 use mathlib.Core.List.{List, [], _∷_, _++_, append-nil}
-use mathlib.Core.Path.{_≡_, sym, ap, _∙_, subst, ap₂}
+use mathlib.Core.Path.{_≡_, sym, ap, _∙_, subst}
 use Prim.Native.Nat.{ℕ, _*_, _/_, _%_, _^_, _≤_, _<_, _-_}
 use native.Mathlib.Nat.{mod-lt, zero-lt-suc}
 use native.Mathlib.Omega.{arith}
@@ -22,14 +22,9 @@ use Rattle.cube.specs.Lists.{cubes, cubesOf, cubeCapacity, recordWidth, mostRec
 use Rattle.cube.specs.declared.Cube.{Cube}
 use Rattle.cube.proofs.Lists.{cubes-bytes, lawful}
 use Rattle.polarity.specs.Calls.{coefficientsOutcome, coefficientsAfter, formOutcome, formAfter}
-use Rattle.polarity.specs.Cost.{cost}
 use Rattle.polarity.specs.Forms.{formList, parityWithin, coefficient, formFrom}
 use Rattle.polarity.specs.Vectors.{byteAt, Vector, coefficientVector}
 use Rattle.polarity.proofs.Forms.{form-cong}
-use Rattle.trees.specs.declared.TreeList.{TreeList}
-use Rattle.trees.specs.declared.TreeList.the-variants as list-is
-use Rattle.trees.specs.Calls.{treeOutcome, treeAfter, listed}
-use Rattle.trees.specs.Least.{treeList}
 use Rattle.settling.specs.Choice.{listFrom, Named, ListFits, Burnable, BurnedIs}
 use Rattle.settling.specs.declared.BestForm.{BestForm}
 use Rattle.settling.specs.declared.Origin.{Origin}
@@ -108,7 +103,7 @@ module _ (n : ℕ) (list result : List ℕ) (best : BestForm) (o : Origin) (out 
     made-burned out₀ out′ r d =
         origin-burned n (cubesOf list) (cubesOf result) o q e out₀ out′ r (subst (λ (l : List Cube). BurnedIs l out₀ out′ r) same d)
 
--- ---- a form written to a cleared buffer
+-- ---- a list written to a cleared buffer
 
 -- a list written to the front of zeros is its image
 written-zeros : (l : List Cube) (n : ℕ) → recordWidth * length l ≤ n → written cubes 0 l (zeros n) ≡ image cubes n l
@@ -118,30 +113,13 @@ written-zeros l n h =
     ∙ ap (λ (t : List ℕ). flat (cubes .enc) l ++ t)
     (drop-zeros (recordWidth * length l) n ∙ ap (λ (k : ℕ). replicate (n - k) 0) (sym (length-flat (cubes .enc) recordWidth (lawful .len) l)))
 
--- ---- the tree's list, likewise
-
-module _ (n : ℕ) (v : List ℕ) (vector : Vector n v) (out : List ℕ) (room : length (treeList n (byteAt v)) ≤ cubeCapacity (length out)) where
-  tree-accepted : treeOutcome n v (length out) ≡ accepted (length (treeList n (byteAt v)) ∷ cost (treeList n (byteAt v)) ∷ [])
-  unfolding treeOutcome
-  tree-accepted = and-then _ _ _ (vector-accepted n v vector) ∙ unless-passes _ 5 0 _ (le-leb _ _ room)
-
-  module _ (r : TreeList) (out₁ : List ℕ) (e₁ : out₁ ≡ zeros (length out)) (ea : listed r ≡ treeOutcome n v (length out₁)) where
-    is-accepted : listed r ≡ accepted (length (treeList n (byteAt v)) ∷ cost (treeList n (byteAt v)) ∷ [])
-    is-accepted = ea ∙ ap (λ (b : List ℕ). treeOutcome n v (length b)) e₁ ∙ ap (treeOutcome n v) (length-replicate {A = ℕ} (length out) 0) ∙ tree-accepted
-
-    pub tree-burned : (count c : ℕ) → r ≡ list-is.Written count c → (out₂ : List ℕ) → out₂ ≡ treeAfter n v out₁ → BurnedIs (treeList n (byteAt v)) out out₂ count
-    unfolding treeAfter
-    tree-burned count c er out₂ e₂ =
-        let both : accepted (count ∷ c ∷ []) ≡ accepted (length (treeList n (byteAt v)) ∷ cost (treeList n (byteAt v)) ∷ []) = ap listed (sym er) ∙ is-accepted in
-        record {
-          answer = cc;
-          buffer =
-              e₂ ∙ after-accepted _ _ out₁ _ (sym ea ∙ is-accepted) ∙ ap (written cubes 0 (treeList n (byteAt v))) e₁
-              ∙ written-zeros (treeList n (byteAt v)) (length out) (omega (arith, capacity-fits cubes mostRecords (length out)));
-        }
-
-    pub tree-not-refused : (x : Refusal) → r ≡ list-is.Refused x → ⊥
-    tree-not-refused x er = not-both (sym is-accepted ∙ ap listed er)
+pub list-written : (l : List Cube) (out : List ℕ) → length l ≤ cubeCapacity (length out) → (out₁ : List ℕ) → out₁ ≡ zeros (length out)
+    → (count : ℕ) → count ≡ length l → (out₂ : List ℕ) → out₂ ≡ written cubes 0 l out₁ → BurnedIs l out out₂ count
+list-written l out room out₁ e₁ count ec out₂ e₂ = record {
+  answer = ec;
+  buffer =
+      e₂ ∙ ap (written cubes 0 l) e₁ ∙ written-zeros l (length out) (omega (arith, capacity-fits cubes mostRecords (length out)));
+}
 
 module _ (n q : ℕ) (v : List ℕ) (vector : Vector n v) (polarity : q < 2 ^ n) where
   pub coefficients-written : (c c′ : List ℕ) → length c ≡ 2 ^ n → c′ ≡ coefficientsAfter n v q c → c′ ≡ coefficientVector n q v
@@ -176,13 +154,9 @@ module _ (n q : ℕ) (v : List ℕ) (vector : Vector n v) (polarity : q < 2 ^ n)
         let same : length out₁ ≡ length out = ap length e₁ ∙ length-replicate {A = ℕ} (length out) 0 in
         let is : formOutcome n c q (length out₁) ≡ accepted (length (formList n q (byteAt v)) ∷ []) = ap (formOutcome n c q) same ∙ form-accepted in
         let both : accepted (count ∷ []) ≡ accepted (length (formList n q (byteAt v)) ∷ []) = ap counted (sym er) ∙ ea ∙ is in
-        record {
-          answer = cc;
-          buffer =
-              e₂ ∙ after-accepted _ _ out₁ _ is
-              ∙ ap₂ (λ (l : List Cube) (b : List ℕ). written cubes 0 l b) (ap (λ (t : List ℕ). formFrom n q (byteAt t)) ec ∙ form-is) e₁
-              ∙ written-zeros (formList n q (byteAt v)) (length out) (omega (arith, capacity-fits cubes mostRecords (length out)));
-        }
+        let same-count : count ≡ length (formList n q (byteAt v)) = cc in
+        list-written (formList n q (byteAt v)) out room out₁ e₁ count same-count out₂
+        (e₂ ∙ after-accepted _ _ out₁ _ is ∙ ap (λ (l : List Cube). written cubes 0 l out₁) (ap (λ (t : List ℕ). formFrom n q (byteAt t)) ec ∙ form-is))
 
     pub form-not-refused : (r : Counted) (x : Refusal) → r ≡ counted-is.Refused x → (out₁ : List ℕ) → out₁ ≡ zeros (length out) → counted r ≡ formOutcome n c q (length out₁) → ⊥
     form-not-refused r x er out₁ e₁ ea =

@@ -1,13 +1,13 @@
 -- The costs of a node from those of its three functions: below a literal, where no literal leads to it, and the expansion that is chosen.
 -- Assumes nothing.
 use mathlib.Core.Path.{_≡_, refl, sym, ap, ap₂, _∙_, subst}
-use mathlib.Core.Bool.{Bool, true, false, not}
+use mathlib.Core.Bool.{true, false, not}
 use Prim.Native.Nat.{ℕ, zero, suc, _+_, _*_, _%_, _^_, _≤_, _<_}
 use native.Mathlib.Nat.{pow-suc}
 use native.Mathlib.Omega.{arith}
 use lib.Dec.{eqb}
 use Rattle.bits.specs.Sums.{oneIf}
-use Rattle.bits.specs.Packed.{lowered}
+use Rattle.bits.specs.Packed.{lowered, summed}
 use Rattle.bits.specs.declared.packed.Packed.{Packed}
 use Rattle.polarity.proofs.Shown.{most}
 use Rattle.trees.specs.declared.Expansion.{Expansion}
@@ -15,7 +15,7 @@ use Rattle.trees.specs.declared.Expansion.the-variants.{Shannon, Positiv
 use Rattle.trees.specs.declared.Costs.{Costs}
 use Rattle.trees.specs.Trees.{lower, upper, change, first, second, unmarked, treeCost}
 use Rattle.trees.specs.Least.{firstOfThree, firstLeast, least, through, choice, chosen}
-use Rattle.trees.specs.Words.{Stands, upperHalf, leastSum, Few, leafCosts, nodeBy, nodeCosts, costAt, PaidIs, CostsAre, ChoiceIs}
+use Rattle.trees.specs.Words.{Stands, leastSum, Few, leafCosts, nodeBy, nodeCosts, PaidIs, CostsAre, ChoiceIs}
 use Rattle.trees.proofs.Halves.{stands-lower, stands-upper, stands-change, stands-none}
 use Rattle.trees.proofs.Choices.{first-least, chosen-cost}
 
@@ -52,10 +52,6 @@ pub costs-few : {k left : ℕ} {w : Packed} {r : Costs} → left ≤ 8 → Costs
 costs-few {k} {left} few C =
     let m = most left few in
     record { cost = omega (arith, C .few .cost, m); products = omega (arith, C .few .products, m); paid = omega (arith, C .few .paid, m) }
-
-pub cost-at-few : {k left : ℕ} {w : Packed} {r : Costs} (free : Bool) → left ≤ 8 → CostsAre k left w r → costAt free r ≤ 256
-cost-at-few true few C = costs-few few C .cost
-cost-at-few false few C = costs-few few C .paid
 
 -- the cost below a literal alone
 paid-part : {k n : ℕ} {w : Packed} {r : Costs} → CostsAre k n w r → PaidIs k n w (r .paid)
@@ -99,13 +95,13 @@ products-by m f = refl
 -- ---- a node by variable k from its three functions; j is the next variable, and m are left below the node
 
 module _ (k j left m : ℕ) (next : j ≡ suc k) (below : left ≡ suc m) (few : k + left ≤ 8)
-    (w u v : Packed) (is-upper : u ≡ upperHalf k w) (is-change : v ≡ lowered k w) where
+    (w v u : Packed) (is-change : v ≡ lowered k w) (is-upper : u ≡ summed w v) where
   module _ (f : ℕ → ℕ) (S : Stands k left f w) where
     low : Stands j m (lower f) w
     low = stands-lower k j left m next below few f w S
 
     high : Stands j m (upper f) u
-    high = subst (Stands j m (upper f)) (sym is-upper) (stands-upper k j left m next below few f w S)
+    high = subst (Stands j m (upper f)) (sym (is-upper ∙ ap (summed w) is-change)) (stands-upper k j left m next below few f w S)
 
     both : Stands j m (change f) v
     both = subst (Stands j m (change f)) (sym is-change) (stands-change k j left m next below few f w S)
@@ -124,42 +120,31 @@ module _ (k j left m : ℕ) (next : j ≡ suc k) (below : left ≡ suc m) (few :
 
   module _ (l h : Costs) (d : ℕ) (L : CostsAre j m w l) (H : CostsAre j m u h) (D : PaidIs j m v d) where
     module _ (f : ℕ → ℕ) (S : Stands k left f w) where
-      cost-low : (free : Bool) → costAt free l ≡ least m free (lower f)
-      cost-low true = L .cost-is (lower f) (low f S)
-      cost-low false = L .paid-is (lower f) (low f S)
-
-      cost-high : (free : Bool) → costAt free h ≡ least m free (upper f)
-      cost-high true = H .cost-is (upper f) (high f S)
-      cost-high false = H .paid-is (upper f) (high f S)
-
       cost-change : d ≡ least m false (change f)
       cost-change = D .is (change f) (both f S)
 
       -- the three sums that the choice is made of
-      by-shannon : (free : Bool) → l .paid + h .paid ≡ through m free f Shannon
-      by-shannon true = ap₂ _+_ (cost-low false) (cost-high false)
-      by-shannon false = ap₂ _+_ (cost-low false) (cost-high false)
+      by-shannon : l .paid + h .paid ≡ through m true f Shannon
+      by-shannon = ap₂ _+_ (L .paid-is (lower f) (low f S)) (H .paid-is (upper f) (high f S))
 
-      by-positive : (free : Bool) → costAt free l + d ≡ through m free f Positive
-      by-positive true = ap₂ _+_ (cost-low true) cost-change
-      by-positive false = ap₂ _+_ (cost-low false) cost-change
+      by-positive : l .cost + d ≡ through m true f Positive
+      by-positive = ap₂ _+_ (L .cost-is (lower f) (low f S)) cost-change
 
-      by-negative : (free : Bool) → costAt free h + d ≡ through m free f Negative
-      by-negative true = ap₂ _+_ (cost-high true) cost-change
-      by-negative false = ap₂ _+_ (cost-high false) cost-change
+      by-negative : h .cost + d ≡ through m true f Negative
+      by-negative = ap₂ _+_ (H .cost-is (upper f) (high f S)) cost-change
 
-      chosen-by : (free : Bool) → firstOfThree (l .paid + h .paid) (costAt free l + d) (costAt free h + d) ≡ choice m free f
+      chosen-by : firstOfThree (l .paid + h .paid) (l .cost + d) (h .cost + d) ≡ choice m true f
       unfolding choice firstLeast
-      chosen-by free = λ i. firstOfThree (by-shannon free i) (by-positive free i) (by-negative free i)
+      chosen-by = λ i. firstOfThree (by-shannon i) (by-positive i) (by-negative i)
 
       -- the node by any expansion, where no literal leads to it
       node-cost : (e : Expansion) → nodeBy e l h d .cost ≡ through m true f e
-      node-cost Shannon = by-shannon true
-      node-cost Positive = by-positive true
-      node-cost Negative = by-negative true
+      node-cost Shannon = by-shannon
+      node-cost Positive = by-positive
+      node-cost Negative = by-negative
 
       node-products : (e : Expansion) → nodeBy e l h d .products ≡ productsBy m f e
-      node-products Shannon = ap₂ _+_ (cost-low false ∙ sym (chosen-cost m false (lower f))) (cost-high false ∙ sym (chosen-cost m false (upper f)))
+      node-products Shannon = ap₂ _+_ (L .paid-is (lower f) (low f S) ∙ sym (chosen-cost m false (lower f))) (H .paid-is (upper f) (high f S) ∙ sym (chosen-cost m false (upper f)))
       node-products Positive = ap₂ _+_ (L .products-are (lower f) (low f S)) (cost-change ∙ sym (chosen-cost m false (change f)))
       node-products Negative = ap₂ _+_ (H .products-are (upper f) (high f S)) (cost-change ∙ sym (chosen-cost m false (change f)))
 
@@ -183,9 +168,9 @@ module _ (k j left m : ℕ) (next : j ≡ suc k) (below : left ≡ suc m) (few :
     unfolding nodeCosts
     costs-made = record {
       few = node-few by;
-      cost-is = λ f S. node-cost f S by ∙ ap (through m true f) (chosen-by f S true) ∙ sym (ap (λ (x : ℕ). least x true f) below ∙ least-by m f);
+      cost-is = λ f S. node-cost f S by ∙ ap (through m true f) (chosen-by f S) ∙ sym (ap (λ (x : ℕ). least x true f) below ∙ least-by m f);
       products-are = λ f S.
-          node-products f S by ∙ ap (productsBy m f) (chosen-by f S true)
+          node-products f S by ∙ ap (productsBy m f) (chosen-by f S)
           ∙ sym (ap (λ (x : ℕ). treeCost (chosen x true f) false f) below ∙ products-by m f);
       paid-is = λ f S. node-paid by ∙ paid-node (l .paid) (h .paid) d _ (paid-part L) (paid-part H) D refl .is f S;
     }
@@ -193,9 +178,16 @@ module _ (k j left m : ℕ) (next : j ≡ suc k) (below : left ≡ suc m) (few :
     pub costs-node : (r : Costs) → r ≡ nodeCosts l h d → CostsAre k left w r
     costs-node r e = subst (CostsAre k left w) (sym e) costs-made
 
-    pub choice-node : (free : Bool) (e : Expansion) (x y : ℕ) → x ≡ costAt free l → y ≡ costAt free h
-        → e ≡ firstOfThree (l .paid + h .paid) (x + d) (y + d) → ChoiceIs k m free w e
-    choice-node free e x y p q is = record {
-      is = λ f S.
-          is ∙ (λ i. firstOfThree (l .paid + h .paid) (p i + d) (q i + d)) ∙ chosen-by f (subst (λ (z : ℕ). Stands k z f w) (sym below) S) free;
-    }
+    pub choice-free : (e : Expansion) → e ≡ firstOfThree (l .paid + h .paid) (l .cost + d) (h .cost + d) → ChoiceIs k m true w e
+    choice-free e is = record { is = λ f S. is ∙ chosen-by f (subst (λ (x : ℕ). Stands k x f w) (sym below) S) }
+
+  pub choice-paid : (l h d : ℕ) → PaidIs j m w l → PaidIs j m u h → PaidIs j m v d → (e : Expansion) → e ≡ firstOfThree (l + h) (l + d) (h + d) → ChoiceIs k m false w e
+  unfolding choice firstLeast
+  choice-paid l h d L H D e is = record { is = λ f S. is ∙ chosen-by f (subst (λ (x : ℕ). Stands k x f w) (sym below) S) }
+    where
+      chosen-by : (f : ℕ → ℕ) → Stands k left f w → firstOfThree (l + h) (l + d) (h + d) ≡ choice m false f
+      chosen-by f S =
+          let el = L .is (lower f) (low f S) in
+          let eh = H .is (upper f) (high f S) in
+          let ed = D .is (change f) (both f S) in
+          λ i. firstOfThree (el i + eh i) (el i + ed i) (eh i + ed i)

@@ -113,11 +113,13 @@ fn first_least(shannon: usize, positive: usize, negative: usize) -> Expansion {
 
 /// The expansion at a node by variable k, with so many variables left below it.
 fn choose(k: usize, left: usize, free: bool, w: Packed) -> Expansion {
-    let lower = least_costs(k + 1, left, w);
-    let upper = least_costs(k + 1, left, w.upper(k));
     let change = least_paid(k + 1, left, w.lowered(k));
-    let cost = |costs: Costs| if free { costs.cost } else { costs.paid };
-    first_least(lower.paid + upper.paid, cost(lower) + change, cost(upper) + change)
+    if free {
+        let (lower, upper) = (least_costs(k + 1, left, w), least_costs(k + 1, left, w.upper(k)));
+        return first_least(lower.paid + upper.paid, lower.cost + change, upper.cost + change);
+    }
+    let (lower, upper) = (least_paid(k + 1, left, w), least_paid(k + 1, left, w.upper(k)));
+    first_least(lower + upper, lower + change, upper + change)
 }
 
 /// Writes the products of the tree to which a product leads, from a place on; answers the next place.

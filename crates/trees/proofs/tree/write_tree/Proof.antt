@@ -33,8 +33,8 @@ enum-known-r c = search needs
 enum-told : tie.Need-enum-told
 enum-told c = search needs
 
-of-requires : tie.Need-of-requires
-of-requires c κs = search needs
+bits-of-requires : tie.Need-bits-of-requires
+bits-of-requires c κs = ok c
 
 least-costs-requires : tie.Need-least-costs-requires
 least-costs-requires c κs = omega (arith, ok (c .before) .few)
@@ -49,7 +49,7 @@ returns : tie.Need-returns
 unfolding treeAfter
 returns c =
     let a = c .before .before .before .before .before .before in
-    call-refused _ _ _ _ (tree-5 _ _ _ _ (told a) _ (c .before .before .before .before .before .of .ensures) _ (c .before .before .before .before .least-costs .ensures) _ (c .before .before .before .capacity .ensures)
+    call-refused _ _ _ _ (tree-5 _ _ _ _ (told a) _ (c .before .before .before .before .before .bits-of .ensures) _ (c .before .before .before .before .least-costs .ensures) _ (c .before .before .before .capacity .ensures)
     _ (c .new .ensures) (c .before .if1 .taken))
 
 put-tree-requires : tie.Need-put-tree-requires
@@ -66,8 +66,8 @@ returns-3 : tie.Need-returns-3
 unfolding treeAfter
 returns-3 c =
     let a = c .before .before .before .before .before .before .before .before .before in
-    call-accepted _ _ _ _ _ (tree-0 _ _ _ _ (told a) _ (c .before .before .before .before .before .before .before .before .of .ensures) _ (c .before .before .before .before .before .before .before .least-costs .ensures) _ (c .before .before .before .before .before .before .capacity .ensures) (c .before .before .before .before .if1 .left))
-    (c .before .before .put-tree .ensures .bytes _ (stands-vector _ _ (ok a) _ (c .before .before .before .before .before .before .before .before .of .ensures)))
+    call-accepted _ _ _ _ _ (tree-0 _ _ _ _ (told a) _ (c .before .before .before .before .before .before .before .before .bits-of .ensures) _ (c .before .before .before .before .before .before .before .least-costs .ensures) _ (c .before .before .before .before .before .before .capacity .ensures) (c .before .before .before .before .if1 .left))
+    (c .before .before .put-tree .ensures .bytes _ (stands-vector _ _ (ok a) _ (c .before .before .before .before .before .before .before .before .bits-of .ensures)))
 
 pub write-tree-spec : {M : Type 1} → statement M
 write-tree-spec =
@@ -76,7 +76,7 @@ write-tree-spec =
     check-vector-requires
     enum-known-r
     enum-told
-    of-requires
+    bits-of-requires
     least-costs-requires
     capacity-requires
     new-requires

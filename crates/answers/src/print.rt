@@ -1,5 +1,4 @@
 // What is printed of an answer and of a buffer.
-use crate::data;
 use cube::Cube;
 use cube::Valued;
 use cube::list;
@@ -8,8 +7,10 @@ use polarity::Best;
 use reasons::Reasoned;
 use records::Counted;
 use records::Refusal;
+use rows::data;
 use script::Finished;
 use text::cubes;
+use trees::TreeList;
 use writer::Wrote;
 ghost use Rattle.io.specs.Counts.{Counts};
 
@@ -91,12 +92,17 @@ pub fn wrote(answer: Wrote) {
     }
 }
 
+// Two numbers with a space between them.
+fn two(x: usize, y: usize) {
+    number(b"= ", x);
+    number(b" ", y);
+}
+
 // A polarity, and how many products its form has.
 pub fn best(answer: Best) {
     match answer {
         Best::Found(p, products) => {
-            number(b"= ", p);
-            number(b" ", products);
+            two(p, products);
         }
         Best::Refused(r) => {
             refused(r);
@@ -186,6 +192,20 @@ pub fn finished(n: usize, answer: Finished, b: &[u8]) {
             list(n, count, b);
         }
         Finished::Refused(r) => {
+            refused(r);
+            bytes(b);
+        }
+    }
+}
+
+// The same of a tree's list, with its cost.
+pub fn tree(n: usize, answer: TreeList, b: &[u8]) {
+    match answer {
+        TreeList::Written(products, cost) => {
+            two(products, cost);
+            list(n, products, b);
+        }
+        TreeList::Refused(r) => {
             refused(r);
             bytes(b);
         }

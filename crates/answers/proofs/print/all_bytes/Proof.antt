@@ -3,8 +3,8 @@
 use Prim.Native.Nat.{_-_, _≤_}
 use lib.ListN.{length}
 use borrow.Author.Needs.{needs}
-use Rattle.rows.proofs.print.all_bytes.Statement.{statement}
-use Rattle.rows.proofs.print.all_bytes.Tie as tie
+use Rattle.answers.proofs.print.all_bytes.Statement.{statement}
+use Rattle.answers.proofs.print.all_bytes.Tie as tie
 
 abbrev Inv-loop : tie.InvT-loop
 Inv-loop b k₀ k = k ≤ length b

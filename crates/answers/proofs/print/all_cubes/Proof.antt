@@ -2,8 +2,8 @@
 -- Assumes nothing.
 use Prim.Native.Nat.{_-_, _≤_}
 use borrow.Author.Needs.{needs}
-use Rattle.rows.proofs.print.all_cubes.Statement.{statement}
-use Rattle.rows.proofs.print.all_cubes.Tie as tie
+use Rattle.answers.proofs.print.all_cubes.Statement.{statement}
+use Rattle.answers.proofs.print.all_cubes.Tie as tie
 
 abbrev Inv-loop : tie.InvT-loop
 Inv-loop n count b i₀ i = i ≤ count

@@ -1,0 +1,2 @@
+// What a call answers and leaves, printed.
+pub mod print;
