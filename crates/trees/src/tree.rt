@@ -52,27 +52,19 @@ fn put_tree(
     if left == 0 {
         return put_leaf(w, c, out, at);
     }
-    let j = k + 1;
     let m = left - 1;
     let by = least::choose(k, m, free, w);
-    let next = put_tree(
-        j,
-        m,
-        node::stays_free(free, by),
-        node::first_half(by, k, w),
-        node::first_cube(by, k, c),
-        out,
-        at,
-    );
-    put_tree(
-        j,
-        m,
-        false,
-        node::second_half(by, k, w),
-        node::second_cube(by, k, c),
-        out,
-        next,
-    )
+    let u = node::first_half(by, k, w);
+    let v = node::second_half(by, k, w);
+    let x = node::first_cube(by, k, c);
+    let y = node::second_cube(by, k, c);
+    if m == 0 {
+        let next = put_leaf(u, x, out, at);
+        return put_leaf(v, y, out, next);
+    }
+    let j = k + 1;
+    let next = put_tree(j, m, node::stays_free(free, by), u, x, out, at);
+    put_tree(j, m, false, v, y, out, next)
 }
 
 // The bits of a vector; of at most six variables they stand in one word.

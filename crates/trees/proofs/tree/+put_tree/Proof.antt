@@ -1,7 +1,8 @@
 -- The proof of the cycle of calls {put_tree}. The measure is the number of variables that are left.
 -- Assumes nothing.
-use mathlib.Core.Path.{ap}
-use Prim.Native.Nat.{ℕ, _^_, _<_}
+use mathlib.Core.Path.{refl, ap}
+use mathlib.Core.Bool.{true, false}
+use Prim.Native.Nat.{ℕ, suc, _^_, _<_}
 use native.Mathlib.Numerals.{add-one}
 use native.Mathlib.Omega.{arith}
 use borrow.Author.Needs.{needs}
@@ -33,7 +34,7 @@ module _ (t : ℕ) where
 
   -- the contracts of what it calls
   abbrev calls : lts.Claims
-  calls = (put-leaf-reads.Asked, put-leaf-reads.Learnt, choose-reads.Asked, choose-reads.Learnt, stays-free-reads.Asked, stays-free-reads.Learnt, first-half-reads.Asked, first-half-reads.Learnt, first-cube-reads.Asked, first-cube-reads.Learnt, below, put-tree.Post, second-half-reads.Asked, second-half-reads.Learnt, second-cube-reads.Asked, second-cube-reads.Learnt)
+  calls = (put-leaf-reads.Asked, put-leaf-reads.Learnt, choose-reads.Asked, choose-reads.Learnt, first-half-reads.Asked, first-half-reads.Learnt, second-half-reads.Asked, second-half-reads.Learnt, first-cube-reads.Asked, first-cube-reads.Learnt, second-cube-reads.Asked, second-cube-reads.Learnt, stays-free-reads.Asked, stays-free-reads.Learnt, below, put-tree.Post)
 
   put-leaf-requires : lts.Need-put-leaf-requires calls at put-tree.Post
   put-leaf-requires c κs = let e = c .before in omega (arith, ap (λ (x : ℕ). 2 ^ x) (e .if1 .taken), e .before .before .pre .1 .1)
@@ -47,43 +48,35 @@ module _ (t : ℕ) where
       let s = e .before .before .args in
       put-left _ (s .left) (e .if1 .taken) (c .before .before .put-leaf .ensures (s .k) (s .free))
 
-  add-j : lts.Need-add-j calls at put-tree.Post
-  add-j c = omega (arith, c .before .before .pre .1 .0)
-
   sub-m : lts.Need-sub-m calls at put-tree.Post
   sub-m c = search needs
 
   choose-requires : lts.Need-choose-requires calls at put-tree.Post
   choose-requires c κs = omega (arith, c .before .before .pre .1 .0, c .if1 .left)
 
-  stays-free-requires : lts.Need-stays-free-requires calls at put-tree.Post
-  stays-free-requires c κs = search needs
-
   first-half-requires : lts.Need-first-half-requires calls at put-tree.Post
   first-half-requires c κs = search needs
-
-  first-cube-requires : lts.Need-first-cube-requires calls at put-tree.Post
-  first-cube-requires c κs = let e = c .before .before .before in omega (arith, e .before .before .pre .1 .0, e .if1 .left)
-
-  put-tree-requires : lts.Need-put-tree-requires calls at put-tree.Post
-  put-tree-requires c κs =
-      let e = c .before .before .before .before .before in
-      let s = e .before .before in
-      (omega (arith, s .pre .0, e .if1 .left), (omega (arith, s .pre .1 .0, e .if1 .left), omega (arith, s .pre .1 .1, half (s .args .left) (e .if1 .left))))
 
   second-half-requires : lts.Need-second-half-requires calls at put-tree.Post
   second-half-requires c κs = search needs
 
-  second-cube-requires : lts.Need-second-cube-requires calls at put-tree.Post
-  second-cube-requires c κs = let e = c .before .before .before .before .before .before .before .before .before in omega (arith, e .before .before .pre .1 .0, e .if1 .left)
+  first-cube-requires : lts.Need-first-cube-requires calls at put-tree.Post
+  first-cube-requires c κs = let e = c .before .before .before in omega (arith, e .before .before .pre .1 .0, e .if1 .left)
 
-  put-tree-requires-2 : lts.Need-put-tree-requires-2 calls at put-tree.Post
-  put-tree-requires-2 c κs =
+  second-cube-requires : lts.Need-second-cube-requires calls at put-tree.Post
+  second-cube-requires c κs = let e = c .before .before .before .before in omega (arith, e .before .before .pre .1 .0, e .if1 .left)
+
+  put-leaf-requires-2 : lts.Need-put-leaf-requires-2 calls at put-tree.Post
+  put-leaf-requires-2 c κs =
+      let e = c .before .before .before .before .before .before .before in
+      let s = e .before .before in
+      omega (arith, s .pre .1 .1, half (s .args .left) (e .if1 .left), ap (λ (x : ℕ). 2 ^ x) (c .before .if2 .taken))
+
+  put-leaf-requires-3 : lts.Need-put-leaf-requires-3 calls at put-tree.Post
+  put-leaf-requires-3 c κs =
       let e = c .before .before .before .before .before .before .before .before .before .before .before in
-      let s = e .before .before in (
-        omega (arith, s .pre .0, e .if1 .left),
-        (omega (arith, s .pre .1 .0, e .if1 .left), omega (arith, s .pre .1 .1, half (s .args .left) (e .if1 .left), c .before .before .before .before .before .put-tree .ensures .few)),
-      )
+      let s = e .before .before in
+      omega (arith, s .pre .1 .1, half (s .args .left) (e .if1 .left), ap (λ (x : ℕ). 2 ^ x) (c .before .before .before .before .before .if2 .taken), c .before .before .before .put-leaf2 .ensures 0 true .few)
 
   same-length-2 : lts.Need-same-length-2 calls at put-tree.Post
   same-length-2 c = search needs
@@ -92,10 +85,43 @@ module _ (t : ℕ) where
   returns-2 c =
       let e = c .before .before .before .before .before .before .before .before .before .before .before .before .before .before in
       let s = e .before .before in
+      let k = s .args .k in
+      let none = c .before .before .before .before .before .before .before .before .if2 .taken in
+      put-node k (suc k) (s .args .left) _ refl (omega (arith, e .if1 .left)) (s .pre .1 .0) (s .args .free) _ (s .args .w) _ _ (s .args .c) _ _ _
+      (c .before .before .before .before .before .before .before .before .before .before .before .before .before .choose .ensures) refl (c .before .before .before .before .before .before .before .before .before .before .before .before .first-half .ensures) (c .before .before .before .before .before .before .before .before .before .before .before .second-half .ensures) (c .before .before .before .before .before .before .before .before .before .before .first-cube .ensures) (c .before .before .before .before .before .before .before .before .before .second-cube .ensures)
+      _ _ _ _ _ _ (put-left 0 _ none (c .before .before .before .before .before .before .put-leaf2 .ensures (suc k) _)) (put-left 0 _ none (c .before .before .put-leaf3 .ensures (suc k) false))
+
+  add-j : lts.Need-add-j calls at put-tree.Post
+  add-j c = let s = c .before .before .before .before .before .before .before .before in omega (arith, s .pre .1 .0)
+
+  stays-free-requires : lts.Need-stays-free-requires calls at put-tree.Post
+  stays-free-requires c κs = search needs
+
+  put-tree-requires : lts.Need-put-tree-requires calls at put-tree.Post
+  put-tree-requires c κs =
+      let e = c .before .before .before .before .before .before .before .before in
+      let s = e .before .before in
+      (omega (arith, s .pre .0, e .if1 .left), (omega (arith, s .pre .1 .0, e .if1 .left), omega (arith, s .pre .1 .1, half (s .args .left) (e .if1 .left))))
+
+  put-tree-requires-2 : lts.Need-put-tree-requires-2 calls at put-tree.Post
+  put-tree-requires-2 c κs =
+      let e = c .before .before .before .before .before .before .before .before .before .before .before .before in
+      let s = e .before .before in (
+        omega (arith, s .pre .0, e .if1 .left),
+        (omega (arith, s .pre .1 .0, e .if1 .left), omega (arith, s .pre .1 .1, half (s .args .left) (e .if1 .left), c .before .before .before .put-tree .ensures .few)),
+      )
+
+  same-length-3 : lts.Need-same-length-3 calls at put-tree.Post
+  same-length-3 c = search needs
+
+  returns-3 : lts.Need-returns-3 calls at put-tree.Post
+  returns-3 c =
+      let e = c .before .before .before .before .before .before .before .before .before .before .before .before .before .before .before in
+      let s = e .before .before in
       put-node (s .args .k) _ (s .args .left) _ (add-one (s .args .k)) (omega (arith, e .if1 .left)) (s .pre .1 .0) (s .args .free) _ (s .args .w) _ _ (s .args .c) _ _ _
-      (c .before .before .before .before .before .before .before .before .before .before .before .before .before .choose .ensures) (c .before .before .before .before .before .before .before .before .before .before .before .before .stays-free .ensures) (c .before .before .before .before .before .before .before .before .before .before .before .first-half .ensures) (c .before .before .before .before .before .second-half .ensures)
-      (c .before .before .before .before .before .before .before .before .before .before .first-cube .ensures) (c .before .before .before .before .second-cube .ensures)
-      _ _ _ _ _ _ (c .before .before .before .before .before .before .before .before .put-tree .ensures) (c .before .before .put-tree2 .ensures)
+      (c .before .before .before .before .before .before .before .before .before .before .before .before .before .before .choose .ensures) (c .before .before .before .before .before .before .before .before .stays-free .ensures) (c .before .before .before .before .before .before .before .before .before .before .before .before .before .first-half .ensures) (c .before .before .before .before .before .before .before .before .before .before .before .before .second-half .ensures)
+      (c .before .before .before .before .before .before .before .before .before .before .before .first-cube .ensures) (c .before .before .before .before .before .before .before .before .before .before .second-cube .ensures)
+      _ _ _ _ _ _ (c .before .before .before .before .before .before .put-tree .ensures) (c .before .before .put-tree2 .ensures)
 
 pub +put-tree-spec : {M : Type 1} → statement M
 +put-tree-spec =
@@ -108,15 +134,19 @@ pub +put-tree-spec : {M : Type 1} → statement M
     (put-leaf-requires t)
     (same-length t)
     (returns t)
-    (add-j t)
     (sub-m t)
     (choose-requires t)
-    (stays-free-requires t)
     (first-half-requires t)
-    (first-cube-requires t)
-    (put-tree-requires t)
     (second-half-requires t)
+    (first-cube-requires t)
     (second-cube-requires t)
-    (put-tree-requires-2 t)
+    (put-leaf-requires-2 t)
+    (put-leaf-requires-3 t)
     (same-length-2 t)
     (returns-2 t)
+    (add-j t)
+    (stays-free-requires t)
+    (put-tree-requires t)
+    (put-tree-requires-2 t)
+    (same-length-3 t)
+    (returns-3 t)
