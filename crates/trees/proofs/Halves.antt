@@ -24,6 +24,10 @@ use Rattle.trees.specs.declared.Expansion.the-variants.{Shannon, Positiv
 use Rattle.trees.specs.Trees.{lower, upper, change, first, second}
 use Rattle.trees.specs.Words.{Stands, upperHalf, firstHalf, secondHalf}
 
+-- one variable more, twice the assignments
+pub twice : (left m : ℕ) → left ≡ suc m → 2 ^ left ≡ 2 ^ m * 2
+twice left m below = ap (λ (x : ℕ). 2 ^ x) below ∙ pow-suc 2 m
+
 -- ---- the places of the two halves
 
 module _ (k a : ℕ) where
@@ -49,14 +53,11 @@ module _ (k j left m : ℕ) (next : j ≡ suc k) (below : left ≡ suc m) (few :
     place : a * 2 ^ j ≡ a * 2 ^ suc k
     place = ap (λ (x : ℕ). a * 2 ^ x) next
 
-    twice : 2 ^ left ≡ 2 ^ m * 2
-    twice = ap (λ (x : ℕ). 2 ^ x) below ∙ pow-suc 2 m
-
     at-even : bitAt w (a * 2 ^ j) ≡ lower f a
-    at-even = ap (bitAt w) (place ∙ sym (even-place k a)) ∙ S .at (2 * a) (omega (arith, twice))
+    at-even = ap (bitAt w) (place ∙ sym (even-place k a)) ∙ S .at (2 * a) (omega (arith, twice left m below))
 
     at-odd : bitAt w (a * 2 ^ j + 2 ^ k) ≡ upper f a
-    at-odd = ap (bitAt w) (ap (λ (x : ℕ). x + 2 ^ k) place ∙ sym (odd-place k a)) ∙ S .at (2 * a + 1) (omega (arith, twice))
+    at-odd = ap (bitAt w) (ap (λ (x : ℕ). x + 2 ^ k) place ∙ sym (odd-place k a)) ∙ S .at (2 * a + 1) (omega (arith, twice left m below))
 
     at-sum : bitAt (lowered k w) (a * 2 ^ j) ≡ bitXor (lower f a) (upper f a)
     at-sum =

@@ -2,8 +2,7 @@
 -- Assumes nothing.
 use mathlib.Core.Path.{_≡_, refl, sym, ap, ap₂, _∙_, subst}
 use mathlib.Core.Bool.{true, false, not}
-use Prim.Native.Nat.{ℕ, zero, suc, _+_, _*_, _%_, _^_, _≤_, _<_}
-use native.Mathlib.Nat.{pow-suc}
+use Prim.Native.Nat.{ℕ, zero, suc, _+_, _%_, _^_, _≤_, _<_}
 use native.Mathlib.Omega.{arith}
 use lib.Dec.{eqb}
 use Rattle.bits.specs.Sums.{oneIf}
@@ -16,7 +15,7 @@ use Rattle.trees.specs.declared.Costs.{Costs}
 use Rattle.trees.specs.Trees.{lower, upper, change, first, second, unmarked, treeCost}
 use Rattle.trees.specs.Least.{firstOfThree, firstLeast, least, through, choice, chosen}
 use Rattle.trees.specs.Words.{Stands, leastSum, Few, leafCosts, nodeBy, nodeCosts, PaidIs, CostsAre, ChoiceIs}
-use Rattle.trees.proofs.Halves.{stands-lower, stands-upper, stands-change, stands-none}
+use Rattle.trees.proofs.Halves.{twice, stands-lower, stands-upper, stands-change, stands-none}
 use Rattle.trees.proofs.Choices.{first-least, chosen-cost}
 
 -- ---- below a literal any two of the three functions are the branches
@@ -106,12 +105,9 @@ module _ (k j left m : ℕ) (next : j ≡ suc k) (below : left ≡ suc m) (few :
     both : Stands j m (change f) v
     both = subst (Stands j m (change f)) (sym is-change) (stands-change k j left m next below few f w S)
 
-  twice : 2 ^ left ≡ 2 ^ m * 2
-  twice = ap (λ (x : ℕ). 2 ^ x) below ∙ pow-suc 2 m
-
   pub paid-node : (l h d r : ℕ) → PaidIs j m w l → PaidIs j m u h → PaidIs j m v d → r ≡ leastSum l h d → PaidIs k left w r
   paid-node l h d r L H D e = record {
-    few = omega (arith, H .few, D .few, twice);
+    few = omega (arith, H .few, D .few, twice left m below);
     is = λ f S.
         e
         ∙ (λ i. leastSum (L .is (lower f) (low f S) i) (H .is (upper f) (high f S) i) (D .is (change f) (both f S) i))
@@ -157,12 +153,12 @@ module _ (k j left m : ℕ) (next : j ≡ suc k) (below : left ≡ suc m) (few :
     node-paid Negative = refl
 
     node-few : (e : Expansion) → Few (2 ^ left) (nodeBy e l h d)
-    node-few e = record { cost = sums e .0; products = sums e .1; paid = rw (node-paid e) (omega (arith, H .few .paid, D .few, twice)) }
+    node-few e = record { cost = sums e .0; products = sums e .1; paid = rw (node-paid e) (omega (arith, H .few .paid, D .few, twice left m below)) }
       where
         sums : (e : Expansion) → (nodeBy e l h d .cost ≤ 2 ^ left) × (nodeBy e l h d .products ≤ 2 ^ left)
-        sums Shannon = omega (arith, L .few .paid, H .few .paid, twice)
-        sums Positive = omega (arith, L .few .cost, L .few .products, D .few, twice)
-        sums Negative = omega (arith, H .few .cost, H .few .products, D .few, twice)
+        sums Shannon = omega (arith, L .few .paid, H .few .paid, twice left m below)
+        sums Positive = omega (arith, L .few .cost, L .few .products, D .few, twice left m below)
+        sums Negative = omega (arith, H .few .cost, H .few .products, D .few, twice left m below)
 
     costs-made : CostsAre k left w (nodeCosts l h d)
     unfolding nodeCosts

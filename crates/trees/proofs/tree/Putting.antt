@@ -4,7 +4,6 @@ use mathlib.Core.Path.{_≡_, refl, sym, ap, ap₂, _∙_, subst}
 use mathlib.Core.Bool.{Bool, false, _&&_, cond}
 use mathlib.Core.List.{List, [], _∷_, _++_}
 use Prim.Native.Nat.{ℕ, suc, _+_, _-_, _*_, _%_, _^_, _≤_}
-use native.Mathlib.Nat.{pow-suc}
 use native.Mathlib.Omega.{arith}
 use borrow.Author.Tests.{eq-eqb, ne-eqb}
 use lib.Dec.{eqb}
@@ -19,7 +18,7 @@ use Rattle.trees.specs.declared.Expansion.{Expansion}
 use Rattle.trees.specs.Trees.{first, second, firstCode, secondCode, unmarked, products}
 use Rattle.trees.specs.Least.{choice, chosen}
 use Rattle.trees.specs.Words.{Stands, firstHalf, secondHalf, ChoiceIs, PutIs}
-use Rattle.trees.proofs.Halves.{stands-first, stands-second, stands-none}
+use Rattle.trees.proofs.Halves.{twice, stands-first, stands-second, stands-none}
 
 -- ---- a leaf
 
@@ -57,9 +56,7 @@ put-left {k} {free} {w} {c} {at} {out} {out′} {r} m left e P = subst (λ (x : 
 
 -- each branch has half of the assignments
 pub half : (left : ℕ) → (left ≡ 0 → ⊥) → 2 ^ left ≡ 2 ^ (left - 1) * 2
-half left more =
-    let e : left ≡ suc (left - 1) = omega (arith, more) in
-    ap (λ (x : ℕ). 2 ^ x) e ∙ pow-suc 2 (left - 1)
+half left more = twice left (left - 1) (omega (arith, more))
 
 -- ---- a node by variable k; j is the next variable, and m are left below the node
 
@@ -98,7 +95,7 @@ module _ (k j left m : ℕ) (next : j ≡ suc k) (below : left ≡ suc m) (few :
 
   pub put-node : (at place r : ℕ) (out mid out′ : List ℕ) → PutIs j m stays u a at out mid place → PutIs j m false v b place mid out′ r → PutIs k left free w c at out out′ r
   put-node at place r out mid out′ P Q = record {
-    few = omega (arith, P .few, Q .few, ap (λ (x : ℕ). 2 ^ x) below ∙ pow-suc 2 m);
+    few = omega (arith, P .few, Q .few, twice left m below);
     next = λ f S.
         rw (whole f S, length-append) (omega (arith, P .next (first e f) (low f S), Q .next (second e f) (high f S)));
     bytes = λ f S.

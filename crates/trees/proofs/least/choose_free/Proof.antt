@@ -37,7 +37,8 @@ add-first-least-2 : tie.Need-add-first-least-2
 add-first-least-2 c =
     let s = c .before .before .before .before .before .before .before .before in
     let few : s .args .m ≤ 8 = omega (arith, s .pre) in
-    omega (arith, costs-few few (c .before .before .before .before .before .costs-from .ensures) .cost, paid-few few (c .before .before .before .least-paid .ensures))
+    let l = costs-few few (c .before .before .before .before .before .costs-from .ensures) in
+    omega (arith, l .cost, l .paid, paid-few few (c .before .before .before .least-paid .ensures))
 
 add-first-least-3 : tie.Need-add-first-least-3
 add-first-least-3 c =
