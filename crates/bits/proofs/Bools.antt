@@ -2,12 +2,12 @@
 -- Assumes nothing.
 use mathlib.Core.Path.{_≡_, refl, sym, ap, ap₂, _∙_}
 use mathlib.Core.Logic.{⊎-elim, _⊎_, inl, inr}
-use mathlib.Core.Bool.{Bool, true, false, _&&_, _||_, Bool·beq, true≢false, false≢true}
+use mathlib.Core.Bool.{Bool, true, false, _&&_, _||_, not, Bool·beq, true≢false, false≢true}
 use Prim.Native.Nat.{ℕ, zero, suc, _+_, _%_, _<_, _≤_}
 use native.Mathlib.Nat.{eq-or-lt-of-le, le-of-suc-le-suc, not-suc-le-zero}
 use native.Mathlib.Omega.{arith}
-use lib.Dec.{ltb}
-use borrow.Author.Tests.{ltb-true, ltb-false}
+use lib.Dec.{eqb, ltb}
+use borrow.Author.Tests.{eqb-true, ltb-true, ltb-false}
 use Rattle.bits.specs.Below.{allBelow}
 use Rattle.bits.specs.Sums.{_⊕_, oneIf}
 
@@ -68,6 +68,10 @@ all-at₂ m n f e x y hx hy = all-at n (f x) (all-at m (λ x. allBelow n (f x)) 
 pub all-at₃ : (m n o : ℕ) (f : ℕ → ℕ → ℕ → Bool) → allBelow m (λ x. allBelow n (λ y. allBelow o (f x y))) ≡ true
     → (x y z : ℕ) → x < m → y < n → z < o → f x y z ≡ true
 all-at₃ m n o f e x y z hx hy hz = all-at o (f x y) (all-at₂ m n (λ x y. allBelow o (f x y)) e x y hx hy) z hz
+
+-- a bit is 1 where it is not 0
+pub bit-one : (x : ℕ) → x < 2 → oneIf (not (eqb x 0)) ≡ x
+bit-one x h = eqb-true _ _ (all-at 2 (λ x. eqb (oneIf (not (eqb x 0))) x) refl x h)
 
 pub all-true : (n : ℕ) (f : ℕ → Bool) → ((k : ℕ) → k < n → f k ≡ true) → allBelow n f ≡ true
 all-true zero f h = refl

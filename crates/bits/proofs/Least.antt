@@ -1,9 +1,10 @@
--- Laws of the least of many, for any f: over two ranges side by side, that it is the only one, and that `firstBelow` is it where f decides the order.
+-- Laws of the least of many, for any f: over two ranges side by side, over a range that is moved, that it is the only one, and that `firstBelow` is it where f
+-- decides the order.
 -- Assumes nothing.
 use mathlib.Core.Path.{_≡_, refl, sym, ap, _∙_, subst}
 use mathlib.Core.Logic.{⊎-elim}
 use mathlib.Core.Bool.{Bool, cond}
-use Prim.Native.Nat.{ℕ, zero, suc, _+_, _<_, _≤_}
+use Prim.Native.Nat.{ℕ, zero, suc, _+_, _-_, _<_, _≤_, zero-le}
 use native.Mathlib.Nat.{le-refl, le-antisymm}
 use native.Mathlib.Numerals.{add-one}
 use native.Mathlib.Omega.{arith}
@@ -50,6 +51,28 @@ module _ (f : ℕ → ℕ) where
       smallest = P .smallest;
     }
 
+  -- of a range moved up by t
+  pub in-moved : (t m p : ℕ) → LeastIn (λ x. f (t + x)) 0 m p → LeastIn f t (t + m) (t + p)
+  in-moved t m p P = record {
+    from = omega arith;
+    inside = omega (arith, P .inside);
+    least = λ q l h.
+        let e : t + (q - t) ≡ q = omega arith in
+        subst (λ (x : ℕ). f (t + p) ≤ f x) e (P .least (q - t) zero-le (omega arith));
+    smallest = λ q l h.
+        let e : t + (q - t) ≡ q = omega arith in
+        subst (λ (x : ℕ). f (t + p) < f x) e (P .smallest (q - t) zero-le (omega arith));
+  }
+
+  -- for g that is the same there
+  pub in-alike : (g : ℕ → ℕ) (a b p : ℕ) → ((q : ℕ) → a ≤ q → q < b → f q ≡ g q) → LeastIn f a b p → LeastIn g a b p
+  in-alike g a b p same P = record {
+    from = P .from;
+    inside = P .inside;
+    least = λ q l h. omega (arith, same p (P .from) (P .inside), same q l h, P .least q l h);
+    smallest = λ q l h. omega (arith, same p (P .from) (P .inside), same q l (omega (arith, P .inside)), P .smallest q l h);
+  }
+
   in-at-most : (a b p q : ℕ) → LeastIn f a b p → LeastIn f a b q → p ≤ q
   in-at-most a b p q P Q =
       ⊎-elim (λ l. absurd (omega (arith, P .smallest q (Q .from) l, Q .least p (P .from) (P .inside)))) (λ h. h) (below-or q p)
@@ -81,3 +104,7 @@ module _ (f : ℕ → ℕ) where
         (λ l. subst (Least f (suc (suc m))) (sym (first-later (suc m) l)) (in-upper 0 (suc m) (suc (suc m)) (firstBelow before (suc m)) (suc m) P Q l))
         (λ l. subst (Least f (suc (suc m))) (sym (first-kept (suc m) l)) (in-lower 0 (suc m) (suc (suc m)) (firstBelow before (suc m)) (suc m) P Q l))
         (below-or (f (suc m)) (f (firstBelow before (suc m))))
+
+    pub first-least : (m : ℕ) → 0 < m → Least f m (firstBelow before m)
+    first-least zero h = absurd (omega arith)
+    first-least (suc m) h = first-is m

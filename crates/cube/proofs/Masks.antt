@@ -4,7 +4,7 @@ use mathlib.Core.Path.{_≡_, refl, sym, ap, ap₂, _∙_}
 use mathlib.Core.Bool.{Bool, true, not, cond, Bool·beq}
 use Prim.Native.Nat.{ℕ, _^_, _≤_, _<_, min, max}
 use native.Mathlib.Nat.{lt-of-le-of-lt}
-use borrow.Author.Tests.{le-leb, eqb-true}
+use borrow.Author.Tests.{le-leb}
 use Rattle.bits.specs.Sums.{oneIf}
 use lib.Bits.{bitAnd, bitXor, differ, and-le-l, or-lt, xor-lt}
 use lib.Count.{ones, trailingZeros}
@@ -12,7 +12,7 @@ use lib.Dec.{eqb, leb}
 use lib.ListN.{length}
 use Rattle.bits.specs.Bits.{bit}
 use Rattle.bits.specs.Below.{allBelow}
-use Rattle.bits.proofs.Bools.{beq-eq, all-at₃, all-at, all-ext}
+use Rattle.bits.proofs.Bools.{beq-eq, all-at₃, all-at, bit-one, all-ext}
 use Rattle.bits.proofs.Bits.{bit-lt, bit-and, bit-or, bit-xor}
 use Rattle.bits.proofs.Below.{eqb-bits, those-cong, setBits, count-setBits, headOr, first-setBit}
 use Rattle.cube.specs.declared.Cube.{Cube}
@@ -66,10 +66,7 @@ module _ (n : ℕ) (c d : Cube) (g : Good n c) (h : Good n d) where
       (sym (bit-or (bitXor (c .seen) (d .seen)) (bitXor (c .value) (d .value)) k ∙ ap₂ max (bit-xor (c .seen) (d .seen) k) (bit-xor (c .value) (d .value) k)))
 
   pub differing-is : (k : ℕ) → bit (differing c d) k ≡ oneIf (differAt c d k)
-  differing-is k = one-of (bit (differing c d) k) (bit-lt (differing c d) k) ∙ ap oneIf (sym (differing-bit k))
-    where
-      one-of : (x : ℕ) → x < 2 → x ≡ oneIf (not (eqb x 0))
-      one-of x h = eqb-true _ _ (all-at 2 (λ x. eqb x (oneIf (not (eqb x 0)))) refl x h)
+  differing-is k = sym (bit-one (bit (differing c d) k) (bit-lt (differing c d) k)) ∙ ap oneIf (sym (differing-bit k))
 
   pub differing-lt : differing c d < 2 ^ n
   unfolding differing

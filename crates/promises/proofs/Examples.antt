@@ -22,7 +22,7 @@ use Rattle.script.specs.Scripts.{fits, stepsOf}
 use Rattle.script.specs.Calls.{checkScript, runOf}
 use Rattle.polarity.specs.Cost.{cost, cheaper}
 use Rattle.polarity.specs.Forms.{parityWithin, formFrom, bestPolarity}
-use Rattle.trees.specs.Trees.{products}
+use Rattle.trees.specs.Trees.{leafList, products}
 use Rattle.trees.specs.Least.{firstLeast, least, choice, chosen}
 use Rattle.settling.specs.Candidates.{bestForm, treeForm, burnedList, fixedOf}
 use Rattle.settling.specs.Calls.{checkSettle, settleOutcome, settleWork, settleOut}
@@ -30,11 +30,11 @@ use Rattle.promises.specs.Calls.{settle, answers, leaves, Called}
 use Rattle.promises.specs.Marked.{table, cubeFrom, sameNumbers, sameCubes, right, allRight, printedList, printedScript, printedCounts, printedBurned}
 
 pub marked : allRight table ≡ true
-unfolding allRight right table cubeFrom sameNumbers sameCubes withBit those sumBelow listBelow firstBelow tally bytesOf numberAt removeAt code put withCode holds apart trues listValue third joinAt turnAt applied joinMove turnMove exchanged step stepsFrom undoBy run parityWithin formFrom cost cheaper bestPolarity bestForm products firstLeast least choice chosen treeForm burnedList
+unfolding allRight right table cubeFrom sameNumbers sameCubes withBit those sumBelow listBelow firstBelow tally bytesOf numberAt removeAt code put withCode holds apart trues listValue third joinAt turnAt applied joinMove turnMove exchanged step stepsFrom undoBy run parityWithin formFrom cost cheaper bestPolarity bestForm leafList products firstLeast least choice chosen treeForm burnedList
 marked = refl
 
 -- The printed example is a call of settle: the list's and the script's bytes, and buffers of 32 bytes that held anything; the counts that the program
 -- prints, work all zero, and the two cubes that it prints at the front of the output.
 pub printed : Called (settle 2 printedList printedScript (replicate 32 7) (replicate 32 9)) (accepted printedCounts) (zeros 32 ∷ printedBurned ∷ [])
-unfolding answers leaves settleOutcome settleWork settleOut checkSettle checkListOf checkScript firstBad listOf records good fits stepsOf meaning runOf withBit those sumBelow listBelow firstBelow tally bytesOf numberAt removeAt code put withCode holds apart trues listValue third joinAt turnAt applied joinMove turnMove exchanged step stepsFrom undoBy run parityWithin formFrom cost cheaper bestPolarity bestForm products firstLeast least choice chosen treeForm burnedList fixedOf capacityOf image filled
+unfolding answers leaves settleOutcome settleWork settleOut checkSettle checkListOf checkScript firstBad listOf records good fits stepsOf meaning runOf withBit those sumBelow listBelow firstBelow tally bytesOf numberAt removeAt code put withCode holds apart trues listValue third joinAt turnAt applied joinMove turnMove exchanged step stepsFrom undoBy run parityWithin formFrom cost cheaper bestPolarity bestForm leafList products firstLeast least choice chosen treeForm burnedList fixedOf capacityOf image filled
 printed = record { answer = refl; left = refl }

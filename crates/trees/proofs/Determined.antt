@@ -10,6 +10,12 @@ use Rattle.records.specs.Answers.{Outcome, accepted, refused}
 use Rattle.trees.specs.declared.TreeList.{TreeList}
 use Rattle.trees.specs.declared.TreeList.the-variants as list-is
 use Rattle.trees.specs.Calls.{listed}
+use Rattle.trees.proofs.node.first_cube.Kinds as first-cube-kinds
+use Rattle.trees.proofs.node.first_cube.Reads as first-cube-reads
+use Rattle.trees.proofs.node.second_cube.Kinds as second-cube-kinds
+use Rattle.trees.proofs.node.second_cube.Reads as second-cube-reads
+use Rattle.trees.proofs.tree.put_leaf.Kinds as put-leaf-kinds
+use Rattle.trees.proofs.tree.put_leaf.Reads as put-leaf-reads
 use Rattle.trees.proofs.tree.count_tree.Kinds as count-tree-kinds
 use Rattle.trees.proofs.tree.count_tree.Reads as count-tree-reads
 use Rattle.trees.proofs.tree.put_list.Kinds as put-list-kinds
@@ -26,6 +32,15 @@ pub listed-known : (a : TreeList) → listed-back (listed a) ≡ a
 unfolding listed-back
 listed-known (list-is.Written products cost) = refl
 listed-known (list-is.Refused r) = refl
+
+pub first-cube-determined : Determined 0 first-cube-kinds.ps first-cube-kinds.r first-cube-reads.Learnt
+first-cube-determined κs a z z′ ws ws′ p q = (same p q, refl)
+
+pub second-cube-determined : Determined 0 second-cube-kinds.ps second-cube-kinds.r second-cube-reads.Learnt
+second-cube-determined κs a z z′ ws ws′ p q = (same p q, refl)
+
+pub put-leaf-determined : Determined 1 put-leaf-kinds.ps put-leaf-kinds.r put-leaf-reads.Learnt
+put-leaf-determined κs a z z′ ws ws′ p q = (same (p .0) (q .0), ap (λ (b : List ℕ). (tt, (tt, (b, (tt, tt))))) (same (p .1) (q .1)))
 
 pub put-list-determined : Determined 2 put-list-kinds.ps put-list-kinds.r put-list-reads.Learnt
 put-list-determined κs a z z′ ws ws′ p q = (same (p .0) (q .0), ap (λ (b : List ℕ). (tt, (tt, (b, tt)))) (same (p .1) (q .1)))

@@ -27,7 +27,7 @@ use Rattle.polarity.specs.Words.{nonzero}
 use Rattle.polarity.proofs.Forms.{product-code, product-good}
 use Rattle.polarity.proofs.Parities.{parity-zero}
 use Rattle.trees.specs.declared.Expansion.{Expansion}
-use Rattle.trees.specs.Trees.{first, second, firstCode, secondCode, products, listOf, davio, polarityTree}
+use Rattle.trees.specs.Trees.{first, second, firstCode, secondCode, leafList, products, listOf, davio, polarityTree}
 use Rattle.trees.proofs.Prices.{with-good}
 use Rattle.trees.proofs.Values.{first-bits, second-bits}
 
@@ -149,7 +149,7 @@ once x b = cond (nonzero x) (oneIf b) 0
 -- the tree has one product for each nonzero coefficient: by the lowest variable, the sets without it in the first branch and those with it in the second
 tree-tally : (g : Cube → Bool) (j k p : ℕ) (c : Cube) (f : ℕ → ℕ) → p < 2 ^ j → ((x : ℕ) → f x < 2)
     → tally g (products (polarityTree j p) k c f) ≡ sumBelow (2 ^ j) (λ s. once (coefficient j p f s) (g (grown j k p s c)))
-unfolding products polarityTree grown sumBelow tally
+unfolding products leafList polarityTree grown sumBelow tally
 tree-tally g zero k p c f h bits = rw (parity-zero (λ t. f (bitXor t p)) 0, xor-zero-l p, lt-one h, mod-eq-of-lt (bits 0)) (go (eqb (f 0) 0))
   where
     go : (b : Bool) → tally g (cond b [] (c ∷ [])) ≡ 0 + cond (not b) (oneIf (g c)) 0

@@ -5,7 +5,7 @@ use mathlib.Core.Path.{_≡_, refl, sym, ap, ap₂, _∙_, subst}
 use mathlib.Core.Bool.{Bool, true, false, _&&_, not, cond, and-false, and-true}
 use mathlib.Core.List.{[], _∷_}
 use Prim.Native.Nat.{ℕ, zero, suc, _+_, _*_, _^_, _≤_, _<_}
-use native.Mathlib.Nat.{le-refl, zero-mul, add-zero}
+use native.Mathlib.Nat.{le-refl, zero-mul, add-zero, pow-suc}
 use native.Mathlib.Omega.{arith}
 use borrow.Author.Tests.{ne-eqb}
 use lib.Dec.{eqb, ltb}
@@ -20,7 +20,7 @@ use Rattle.cube.proofs.Codes.{with-put, put-good, good-more, one-good}
 use Rattle.polarity.specs.Cost.{cost}
 use Rattle.trees.specs.declared.Expansion.{Expansion}
 use Rattle.trees.specs.declared.Expansion.the-variants.{Shannon, Positive, Negative}
-use Rattle.trees.specs.Trees.{first, second, firstCode, secondCode, unmarked, Tree, leaf, node, products, listOf, treeCost}
+use Rattle.trees.specs.Trees.{first, second, firstCode, secondCode, unmarked, Tree, leaf, node, leafList, products, listOf, treeCost}
 
 -- ---- the codes of a node
 
@@ -61,7 +61,7 @@ module _ (k : ℕ) (c : Cube) (x : ℕ) (few : k < 32) (h : x < 3) (g : Good k c
 
 -- where a literal leads to a tree it costs its products
 pub length-products : {n : ℕ} (t : Tree n) (k : ℕ) (c : Cube) (f : ℕ → ℕ) → length (products t k c f) ≡ treeCost t false f
-unfolding products treeCost
+unfolding products leafList treeCost
 length-products leaf k c f = go (eqb (f 0) 0)
   where
     go : (b : Bool) → length (cond b [] (c ∷ [])) ≡ oneIf (not b)
@@ -71,10 +71,20 @@ length-products (node e t u) k c f =
     rw length-append
     (ap₂ _+_ (length-products t (suc k) (withCode c k (firstCode e)) (first e f)) (length-products u (suc k) (withCode c k (secondCode e)) (second e f)))
 
+-- at most one for each assignment
+pub products-most : {n : ℕ} (t : Tree n) (f : ℕ → ℕ) → treeCost t false f ≤ 2 ^ n
+unfolding treeCost
+products-most leaf f = go (eqb (f 0) 0)
+  where
+    go : (b : Bool) → oneIf (not b) ≤ 1
+    go true = omega arith
+    go false = omega arith
+products-most {n = suc n} (node e t u) f = omega (arith, pow-suc 2 n, products-most t (first e f), products-most u (second e f))
+
 -- the products without literals, where `free` says that c is one: there is at most one, and that is what the tree costs less than under a literal
 bare-products : {n : ℕ} (t : Tree n) (k : ℕ) (c : Cube) (f : ℕ → ℕ) (free : Bool) → k + n ≤ 32 → Good k c → bare c ≡ free
     → (tally bare (products t k c f) + treeCost t free f ≡ treeCost t false f) × (tally bare (products t k c f) ≤ 1)
-unfolding products treeCost tally
+unfolding products leafList treeCost tally
 bare-products leaf k c f free few g e = go (eqb (f 0) 0) free e
   where
     go : (b free : Bool) → bare c ≡ free → (tally bare (cond b [] (c ∷ [])) + cond free 0 (oneIf (not b)) ≡ oneIf (not b)) × (tally bare (cond b [] (c ∷ [])) ≤ 1)

@@ -20,7 +20,7 @@ use Rattle.cube.specs.Lists.{trues, listValue}
 use Rattle.cube.proofs.Codes.{code-same, code-other, with-put, good-more, one-good}
 use Rattle.trees.specs.declared.Expansion.{Expansion}
 use Rattle.trees.specs.declared.Expansion.the-variants.{Shannon, Positive, Negative}
-use Rattle.trees.specs.Trees.{first, second, firstCode, secondCode, Tree, leaf, node, products, listOf}
+use Rattle.trees.specs.Trees.{first, second, firstCode, secondCode, Tree, leaf, node, leafList, products, listOf}
 use Rattle.trees.proofs.Prices.{first-code, second-code, with-good}
 
 -- ---- a node
@@ -77,7 +77,7 @@ halved a k = rw (← add-one k) (omega (arith, sym (shr-shr a k 1)))
 -- the product c leads to the tree and k is its first variable: where c is true the value is that of f
 tree-value : {j : ℕ} (t : Tree j) (n k : ℕ) (c : Cube) (f : ℕ → ℕ) (a : ℕ) → k + j ≡ n → n ≤ 32 → a < 2 ^ n → ((x : ℕ) → f x < 2)
     → trues n (products t k c f) a % 2 ≡ oneIf (holds k c a) * f (a / 2 ^ k)
-unfolding products trues
+unfolding products leafList trues
 tree-value leaf n k c f a e few l bits =
     let same : n ≡ k = omega arith in
     let z : a / 2 ^ k ≡ 0 = div-eq-of-lt (rw same at l) in
@@ -96,7 +96,7 @@ list-value {n} t f few bits a l = tree-value t n 0 one f a (omega arith) few l b
 
 -- only the values at the assignments of its variables count
 pub products-cong : {j : ℕ} (t : Tree j) (k : ℕ) (c : Cube) (f g : ℕ → ℕ) → ((a : ℕ) → a < 2 ^ j → f a ≡ g a) → products t k c f ≡ products t k c g
-unfolding products
+unfolding products leafList
 products-cong leaf k c f g same = ap (λ (x : ℕ). cond (eqb x 0) [] (c ∷ [])) (same 0 (omega arith))
 products-cong (node {n} e t u) k c f g same =
     ap₂ _++_
@@ -122,7 +122,7 @@ products-cong (node {n} e t u) k c f g same =
 -- ---- its cubes
 
 products-good : {j : ℕ} (t : Tree j) (n k : ℕ) (c : Cube) (f : ℕ → ℕ) → k + j ≡ n → n ≤ 32 → Good k c → All (Good n) (products t k c f)
-unfolding products
+unfolding products leafList
 products-good leaf n k c f e few g = go (eqb (f 0) 0)
   where
     go : (b : Bool) → All (Good n) (cond b [] (c ∷ []))

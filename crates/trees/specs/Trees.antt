@@ -58,9 +58,13 @@ pub data Tree : ℕ → Type 0 where
   leaf : Tree zero
   node : {n : ℕ} → Expansion → Tree n → Tree n → Tree (suc n)
 
--- the products of f's tree, "depth first", where the product c leads to it and k is the next variable; with no variable left, c where f is 1
+-- with no variable left, of a function that is x: the product c that leads there, where x is 1
+unfoldable pub leafList : ℕ → Cube → List Cube
+leafList x c = cond (eqb x 0) [] (c ∷ [])
+
+-- the products of f's tree, "depth first", where the product c leads to it and k is the next variable
 unfoldable pub products : {n : ℕ} → Tree n → ℕ → Cube → (ℕ → ℕ) → List Cube
-products leaf k c f = cond (eqb (f 0) 0) [] (c ∷ [])
+products leaf k c f = leafList (f 0) c
 products (node e t u) k c f =
     products t (suc k) (withCode c k (firstCode e)) (first e f) ++ products u (suc k) (withCode c k (secondCode e)) (second e f)
 

@@ -13,7 +13,7 @@ use Rattle.cube.specs.Lists.{cubes}
 use Rattle.trees.specs.declared.Expansion.{Expansion}
 use Rattle.trees.specs.declared.Expansion.the-variants.{Shannon, Positive, Negative}
 use Rattle.trees.specs.declared.Costs.{Costs}
-use Rattle.trees.specs.Trees.{products, treeCost}
+use Rattle.trees.specs.Trees.{Tree, products, treeCost}
 use Rattle.trees.specs.Least.{firstOfThree, least, choice, chosen}
 
 -- ---- a vector and its halves
@@ -84,8 +84,16 @@ pub record ChoiceIs (k m : ℕ) (free : Bool) (w : Packed) (e : Expansion) : Typ
 
 -- ---- the list
 
--- the products of the tree, where the product c leads to it, stand in the buffer from place `at` on, and r is the next place
-pub record PutIs (k left : ℕ) (free : Bool) (w : Packed) (c : Cube) (at : ℕ) (out out′ : List ℕ) (r : ℕ) : Type 0 where
+-- a tree for each function, by the number of variables that are left
+abbrev pub Plan : Type 0
+Plan = (n : ℕ) → (ℕ → ℕ) → Tree n
+
+-- the cheapest, where `free` says that no literal leads to it
+abbrev pub cheapest : Bool → Plan
+cheapest free n f = chosen n free f
+
+-- the products of the planned tree, where the product c leads to it, stand in the buffer from place `at` on, and r is the next place
+pub record PutIs (k left : ℕ) (plan : Plan) (w : Packed) (c : Cube) (at : ℕ) (out out′ : List ℕ) (r : ℕ) : Type 0 where
   pub few : r ≤ at + 2 ^ left
-  pub next : (f : ℕ → ℕ) → Stands k left f w → r ≡ at + length (products (chosen left free f) k c f)
-  pub bytes : (f : ℕ → ℕ) → Stands k left f w → out′ ≡ written cubes at (products (chosen left free f) k c f) out
+  pub next : (f : ℕ → ℕ) → Stands k left f w → r ≡ at + length (products (plan left f) k c f)
+  pub bytes : (f : ℕ → ℕ) → Stands k left f w → out′ ≡ written cubes at (products (plan left f) k c f) out

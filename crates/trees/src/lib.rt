@@ -1,6 +1,6 @@
 // Expansion trees of truth vectors: at each node by Shannon, positive Davio or negative Davio.
 mod least;
-mod node;
+pub mod node;
 pub mod tree;
 
 use records::Refusal;

@@ -58,7 +58,7 @@ fn second_code(by: Expansion) -> u8
 }
 
 // The product that leads to the first branch of a node by variable k, where c leads to the node.
-pub(crate) fn first_cube(by: Expansion, k: usize, c: Cube) -> Cube
+pub fn first_cube(by: Expansion, k: usize, c: Cube) -> Cube
     requires { ⌜ k < 8 ⌝ }
     ensures { λ r. ⌜ r ≡ withCode c k (firstCode by) ⌝ }
 {
@@ -66,7 +66,7 @@ pub(crate) fn first_cube(by: Expansion, k: usize, c: Cube) -> Cube
 }
 
 // The product that leads to its second branch.
-pub(crate) fn second_cube(by: Expansion, k: usize, c: Cube) -> Cube
+pub fn second_cube(by: Expansion, k: usize, c: Cube) -> Cube
     requires { ⌜ k < 8 ⌝ }
     ensures { λ r. ⌜ r ≡ withCode c k (secondCode by) ⌝ }
 {

@@ -12,24 +12,25 @@ use polarity::vector;
 use records::Counted;
 use records::Refusal;
 ghost use mathlib.Core.Path.{_≡_};
-ghost use mathlib.Core.Bool.{Bool};
-ghost use Prim.Native.Nat.{ℕ, _+_, _^_, _≤_, _<_};
+ghost use Prim.Native.Nat.{_+_, _%_, _^_, _≤_, _<_};
 ghost use lib.ListN.{length};
 ghost use Rattle.bits.specs.Packed.{packed};
 ghost use Rattle.records.specs.Records.{written};
 ghost use Rattle.cube.specs.Lists.{cubes};
 ghost use Rattle.polarity.specs.Ranks.{countsOf};
 ghost use Rattle.polarity.specs.Vectors.{byteAt, Vector};
+ghost use Rattle.trees.specs.Trees.{leafList};
 ghost use Rattle.trees.specs.Least.{treeList};
 ghost use Rattle.trees.specs.Calls.{treeOutcome, treeAfter, listed};
-ghost use Rattle.trees.specs.Words.{PutIs};
+ghost use Rattle.trees.specs.Words.{cheapest, PutIs};
 
-// With no variable left: the product c where the function is 1.
-fn put_leaf(w: Packed, c: Cube, out: &mut [u8], at: usize) -> usize
+// With no variable left: the product c where the function, the lowest bit of w, is 1. It answers the next place.
+pub fn put_leaf(w: u64, c: Cube, out: &mut [u8], at: usize) -> usize
     requires { ⌜ at < 256 ⌝ }
-    ensures { λ r. ⌜ ((k : ℕ) (free : Bool) → PutIs k 0 free w c at (now (out .entry)) (now (out .exit)) r) ⌝ }
+    ensures { λ r. ⌜ r ≡ at + length (leafList (w % 2) c) ⌝ }
+    ensures { λ _. ⌜ now (out .exit) ≡ written cubes at (leafList (w % 2) c) (now (out .entry)) ⌝ }
 {
-    if w.a % 2 == 0 {
+    if w % 2 == 0 {
         return at;
     }
     list::put_cube(out, at, c);
@@ -47,10 +48,10 @@ fn put_tree(
     at: usize,
 ) -> usize
     requires { ⌜ (k + left ≤ 8) × (at + 2 ^ left ≤ 256) ⌝ }
-    ensures { λ r. ⌜ PutIs k left free w c at (now (out .entry)) (now (out .exit)) r ⌝ }
+    ensures { λ r. ⌜ PutIs k left (cheapest free) w c at (now (out .entry)) (now (out .exit)) r ⌝ }
 {
     if left == 0 {
-        return put_leaf(w, c, out, at);
+        return put_leaf(w.a, c, out, at);
     }
     let m = left - 1;
     let by = least::choose(k, m, free, w);
@@ -59,8 +60,8 @@ fn put_tree(
     let x = node::first_cube(by, k, c);
     let y = node::second_cube(by, k, c);
     if m == 0 {
-        let next = put_leaf(u, x, out, at);
-        return put_leaf(v, y, out, next);
+        let next = put_leaf(u.a, x, out, at);
+        return put_leaf(v.a, y, out, next);
     }
     let j = k + 1;
     let next = put_tree(j, m, node::stays_free(free, by), u, x, out, at);

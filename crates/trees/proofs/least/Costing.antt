@@ -2,12 +2,13 @@
 -- Assumes nothing.
 use mathlib.Core.Path.{_≡_, refl, sym, ap, ap₂, _∙_, subst}
 use mathlib.Core.Bool.{true, false, not}
-use Prim.Native.Nat.{ℕ, zero, suc, _+_, _%_, _^_, _≤_, _<_}
+use Prim.Native.Nat.{ℕ, suc, _+_, _%_, _^_, _≤_}
 use native.Mathlib.Omega.{arith}
 use lib.Dec.{eqb}
 use Rattle.bits.specs.Sums.{oneIf}
 use Rattle.bits.specs.Packed.{lowered, summed}
 use Rattle.bits.specs.declared.packed.Packed.{Packed}
+use Rattle.bits.proofs.Bools.{bit-one}
 use Rattle.polarity.proofs.Shown.{most}
 use Rattle.trees.specs.declared.Expansion.{Expansion}
 use Rattle.trees.specs.declared.Expansion.the-variants.{Shannon, Positive, Negative}
@@ -32,12 +33,7 @@ paid-least n f = go (firstLeast (through n false f)) (first-least (through n fal
 
 pub paid-none : (k : ℕ) (w : Packed) (r : ℕ) → r ≡ w .a % 2 → PaidIs k 0 w r
 unfolding least
-paid-none k w r e = record { few = omega arith; is = λ f S. e ∙ bit-one (w .a % 2) (f 0) (omega arith) (stands-none k f w S) }
-  where
-    bit-one : (x y : ℕ) → x < 2 → x ≡ y → x ≡ oneIf (not (eqb y 0))
-    bit-one x zero h q = q
-    bit-one x (suc zero) h q = q
-    bit-one x (suc (suc y)) h q = absurd (omega arith)
+paid-none k w r e = record { few = omega arith; is = λ f S. e ∙ sym (bit-one (w .a % 2) (omega arith)) ∙ ap (λ (x : ℕ). oneIf (not (eqb x 0))) (stands-none k f w S) }
 
 -- the number of variables that are left, as a test finds it
 pub paid-left : {k : ℕ} {w : Packed} {r : ℕ} (m left : ℕ) → left ≡ m → PaidIs k m w r → PaidIs k left w r

@@ -1,7 +1,7 @@
 -- The proof of the cycle of calls {put_tree}. The measure is the number of variables that are left.
 -- Assumes nothing.
 use mathlib.Core.Path.{refl, ap}
-use mathlib.Core.Bool.{true, false}
+use mathlib.Core.Bool.{false, _&&_}
 use Prim.Native.Nat.{ℕ, suc, _^_, _<_}
 use native.Mathlib.Numerals.{add-one}
 use native.Mathlib.Omega.{arith}
@@ -14,7 +14,9 @@ use Rattle.trees.proofs.node.second_cube.Reads as second-cube-reads
 use Rattle.trees.proofs.node.second_half.Reads as second-half-reads
 use Rattle.trees.proofs.node.stays_free.Reads as stays-free-reads
 use Rattle.trees.proofs.least.choose.Reads as choose-reads
-use Rattle.trees.proofs.tree.Putting.{put-left, half, put-node}
+use Rattle.trees.specs.Trees.{unmarked}
+use Rattle.trees.specs.Words.{cheapest}
+use Rattle.trees.proofs.tree.Putting.{leaf-next, put-leaf, half, chosen-node, put-node}
 use Rattle.trees.proofs.tree.put_leaf.Reads as put-leaf-reads
 use Rattle.trees.proofs.tree.put_tree.Reads as put-tree
 use Rattle.trees.proofs.tree.put_tree.Kinds as put-tree-kinds
@@ -46,7 +48,8 @@ module _ (t : ℕ) where
   returns c =
       let e = c .before .before .before .before in
       let s = e .before .before .args in
-      put-left _ (s .left) (e .if1 .taken) (c .before .before .put-leaf .ensures (s .k) (s .free))
+      let l = c .before .before .put-leaf .ensures in
+      put-leaf (s .k) (s .left) (e .if1 .taken) (cheapest (s .free)) (s .w) (s .c) (s .at) _ _ _ (l .0) (l .1)
 
   sub-m : lts.Need-sub-m calls at put-tree.Post
   sub-m c = search needs
@@ -76,7 +79,7 @@ module _ (t : ℕ) where
   put-leaf-requires-3 c κs =
       let e = c .before .before .before .before .before .before .before .before .before .before .before in
       let s = e .before .before in
-      omega (arith, s .pre .1 .1, half (s .args .left) (e .if1 .left), ap (λ (x : ℕ). 2 ^ x) (c .before .before .before .before .before .if2 .taken), c .before .before .before .put-leaf2 .ensures 0 true .few)
+      omega (arith, s .pre .1 .1, half (s .args .left) (e .if1 .left), ap (λ (x : ℕ). 2 ^ x) (c .before .before .before .before .before .if2 .taken), leaf-next _ _ _ _ (c .before .before .before .put-leaf2 .ensures .0))
 
   same-length-2 : lts.Need-same-length-2 calls at put-tree.Post
   same-length-2 c = search needs
@@ -87,9 +90,13 @@ module _ (t : ℕ) where
       let s = e .before .before in
       let k = s .args .k in
       let none = c .before .before .before .before .before .before .before .before .if2 .taken in
-      put-node k (suc k) (s .args .left) _ refl (omega (arith, e .if1 .left)) (s .pre .1 .0) (s .args .free) _ (s .args .w) _ _ (s .args .c) _ _ _
-      (c .before .before .before .before .before .before .before .before .before .before .before .before .before .choose .ensures) refl (c .before .before .before .before .before .before .before .before .before .before .before .before .first-half .ensures) (c .before .before .before .before .before .before .before .before .before .before .before .second-half .ensures) (c .before .before .before .before .before .before .before .before .before .before .first-cube .ensures) (c .before .before .before .before .before .before .before .before .before .second-cube .ensures)
-      _ _ _ _ _ _ (put-left 0 _ none (c .before .before .before .before .before .before .put-leaf2 .ensures (suc k) _)) (put-left 0 _ none (c .before .before .put-leaf3 .ensures (suc k) false))
+      let low = c .before .before .before .before .before .before .put-leaf2 .ensures in
+      let high = c .before .before .put-leaf3 .ensures in
+      put-node k (suc k) (s .args .left) _ refl (omega (arith, e .if1 .left)) (s .pre .1 .0) (s .args .w) _ _ (s .args .c) _ _ _
+      (c .before .before .before .before .before .before .before .before .before .before .before .before .first-half .ensures) (c .before .before .before .before .before .before .before .before .before .before .before .second-half .ensures) (c .before .before .before .before .before .before .before .before .before .before .first-cube .ensures) (c .before .before .before .before .before .before .before .before .before .second-cube .ensures)
+      (cheapest (s .args .free)) (cheapest (s .args .free && unmarked (c .before .before .before .before .before .before .before .before .before .before .before .before .before .choose .result))) (cheapest false)
+      (λ f S. chosen-node _ (s .args .free) _ f _ (c .before .before .before .before .before .before .before .before .before .before .before .before .before .choose .ensures .is f S) refl)
+      _ _ _ _ _ _ (put-leaf (suc k) _ none _ _ _ _ _ _ _ (low .0) (low .1)) (put-leaf (suc k) _ none _ _ _ _ _ _ _ (high .0) (high .1))
 
   add-j : lts.Need-add-j calls at put-tree.Post
   add-j c = let s = c .before .before .before .before .before .before .before .before in omega (arith, s .pre .1 .0)
@@ -118,9 +125,11 @@ module _ (t : ℕ) where
   returns-3 c =
       let e = c .before .before .before .before .before .before .before .before .before .before .before .before .before .before .before in
       let s = e .before .before in
-      put-node (s .args .k) _ (s .args .left) _ (add-one (s .args .k)) (omega (arith, e .if1 .left)) (s .pre .1 .0) (s .args .free) _ (s .args .w) _ _ (s .args .c) _ _ _
-      (c .before .before .before .before .before .before .before .before .before .before .before .before .before .before .choose .ensures) (c .before .before .before .before .before .before .before .before .stays-free .ensures) (c .before .before .before .before .before .before .before .before .before .before .before .before .before .first-half .ensures) (c .before .before .before .before .before .before .before .before .before .before .before .before .second-half .ensures)
+      put-node (s .args .k) _ (s .args .left) _ (add-one (s .args .k)) (omega (arith, e .if1 .left)) (s .pre .1 .0) (s .args .w) _ _ (s .args .c) _ _ _
+      (c .before .before .before .before .before .before .before .before .before .before .before .before .before .first-half .ensures) (c .before .before .before .before .before .before .before .before .before .before .before .before .second-half .ensures)
       (c .before .before .before .before .before .before .before .before .before .before .before .first-cube .ensures) (c .before .before .before .before .before .before .before .before .before .before .second-cube .ensures)
+      (cheapest (s .args .free)) (cheapest _) (cheapest false)
+      (λ f S. chosen-node _ (s .args .free) _ f _ (c .before .before .before .before .before .before .before .before .before .before .before .before .before .before .choose .ensures .is f S) (c .before .before .before .before .before .before .before .before .stays-free .ensures))
       _ _ _ _ _ _ (c .before .before .before .before .before .before .put-tree .ensures) (c .before .before .put-tree2 .ensures)
 
 pub +put-tree-spec : {M : Type 1} → statement M

@@ -1,0 +1,3 @@
+-- What the proofs of `choice` use.
+pub mod Choosing
+pub mod Calling

@@ -1,0 +1,131 @@
+-- The proof of the cycle of calls {least_of}. The measure is the number of variables that are left.
+-- Assumes nothing.
+use mathlib.Core.Path.{sym}
+use Prim.Native.Nat.{ℕ, _<_}
+use native.Mathlib.Omega.{arith}
+use borrow.Author.Needs.{needs}
+use borrow.Fn.Kinds.{In}
+use borrow.Fn.PlainCycle.{Measures, is, falls, and}
+use lib.Seq.{length-take-le}
+use Rattle.kronecker.proofs.search.Parts.{found-few, Parted, table-few, half-few, first-some, middle, last, parts-found, lowest-some, lowest-most, lowest-found}
+use Rattle.kronecker.proofs.search.least_of.Reads as least-of
+use Rattle.kronecker.proofs.search.least_of.Kinds as least-of-kinds
+use Rattle.kronecker.proofs.search.+least_of.Lts-least_of as lts
+use Rattle.kronecker.proofs.search.least_entry.Reads as least-entry-reads
+use Rattle.kronecker.proofs.search.lesser_from.Reads as lesser-from-reads
+use Rattle.kronecker.proofs.search.+least_of.{statement}
+use Rattle.kronecker.proofs.search.+least_of.Tie.{close}
+
+abbrev μ-least-of : Measures 1 least-of-kinds.ps ℕ
+μ-least-of κs a = a .0
+
+module _ (t : ℕ) where
+  abbrev at : In 1 least-of-kinds.ps
+  at = and 1 least-of-kinds.ps (is 1 least-of-kinds.ps μ-least-of t) least-of.Pre
+
+  abbrev below : In 1 least-of-kinds.ps
+  below = and 1 least-of-kinds.ps (falls 1 least-of-kinds.ps _<_ μ-least-of t) least-of.Pre
+
+  -- the contracts of what it calls
+  abbrev calls : lts.Claims
+  calls = (least-entry-reads.Asked, least-entry-reads.Learnt, below, least-of.Post, lesser-from-reads.Asked, lesser-from-reads.Learnt)
+
+  shared-slice-read-products : lts.Need-shared-slice-read-products calls at least-of.Post
+  shared-slice-read-products c = let s = c .before .before .before in lowest-some _ _ _ (c .before .if1 .taken) (s .pre .1 .1)
+
+  cast-products : lts.Need-cast-products calls at least-of.Post
+  cast-products c = omega (arith, c .shared-slice-known2 .given 0)
+
+  sub-t17 : lts.Need-sub-t17 calls at least-of.Post
+  sub-t17 c = let s = c .before .before .before in lowest-most _ _ _ (c .before .if1 .taken) (s .pre .1 .1)
+
+  returns : lts.Need-returns calls at least-of.Post
+  returns c = let s = c .before .before .before in lowest-found _ _ _ (c .before .if1 .taken) (s .pre .1 .1)
+
+  -- where a variable is left
+  parted : (e : lts.Else1 calls at least-of.Post) → let s = e .before .before in Parted (s .args .left) (s .args .w) (s .args .table .now)
+  parted e = let s = e .before .before in record { few = s .pre .1 .0; more = e .if1 .left; covers = s .pre .1 .1 }
+
+  sub-m : lts.Need-sub-m calls at least-of.Post
+  sub-m c = search needs
+
+  shl-half : lts.Need-shl-half calls at least-of.Post
+  shl-half c = search needs
+
+  mul-end : lts.Need-mul-end calls at least-of.Post
+  mul-end c = omega (arith, table-few (parted c))
+
+  slice-aggregate-least-entry : lts.Need-slice-aggregate-least-entry calls at least-of.Post
+  slice-aggregate-least-entry c = sym (length-take-le _ _ (omega arith))
+
+  least-entry-requires : lts.Need-least-entry-requires calls at least-of.Post
+  least-entry-requires c κs = first-some (parted (c .before))
+
+  sub-least-of : lts.Need-sub-least-of calls at least-of.Post
+  sub-least-of c = omega arith
+
+  part-least-of-start : lts.Need-part-least-of-start calls at least-of.Post
+  part-least-of-start c = omega arith
+
+  part-least-of-end : lts.Need-part-least-of-end calls at least-of.Post
+  part-least-of-end c = omega arith
+
+  least-of-requires : lts.Need-least-of-requires calls at least-of.Post
+  least-of-requires c κs = let e = c .before .before .before in (omega arith, (omega arith, middle (parted e) .covers))
+
+  shr-least-of : lts.Need-shr-least-of calls at least-of.Post
+  shr-least-of c = half-few (parted (c .before .before .before .before))
+
+  sub-least-of-2 : lts.Need-sub-least-of-2 calls at least-of.Post
+  sub-least-of-2 c = omega arith
+
+  part-least-of-start-2 : lts.Need-part-least-of-start-2 calls at least-of.Post
+  part-least-of-start-2 c = omega arith
+
+  part-least-of-end-2 : lts.Need-part-least-of-end-2 calls at least-of.Post
+  part-least-of-end-2 c = omega arith
+
+  least-of-requires-2 : lts.Need-least-of-requires-2 calls at least-of.Post
+  least-of-requires-2 c κs = let e = c .before .before .before .before .before in (omega arith, (omega arith, last (parted e) .covers))
+
+  lesser-from-requires : lts.Need-lesser-from-requires calls at least-of.Post
+  lesser-from-requires c κs = let e = c .before .before .before .before .before .before in (omega (arith, table-few (parted e)), found-few _ _ _ _ (omega arith) (c .before .before .least-of .ensures))
+
+  lesser-from-requires-2 : lts.Need-lesser-from-requires-2 calls at least-of.Post
+  lesser-from-requires-2 c κs = let e = c .before .before .before .before .before .before .before in (omega (arith, table-few (parted e)), found-few _ _ _ _ (omega arith) (c .before .least-of2 .ensures))
+
+  returns-2 : lts.Need-returns-2 calls at least-of.Post
+  returns-2 c =
+      let d = c .before .before .before .before .before .before in
+      parts-found (parted (d .before .before)) _ _ _ _ _ (d .least-entry .ensures) (c .before .before .before .before .least-of .ensures) (c .before .before .least-of2 .ensures)
+      (c .before .lesser-from .ensures) (c .lesser-from2 .ensures)
+
+pub +least-of-spec : {M : Type 1} → statement M
++least-of-spec =
+    close
+    μ-least-of
+    λ t. lts.spec
+    (calls t)
+    (at t)
+    least-of.Post
+    (shared-slice-read-products t)
+    (cast-products t)
+    (sub-t17 t)
+    (returns t)
+    (sub-m t)
+    (shl-half t)
+    (mul-end t)
+    (slice-aggregate-least-entry t)
+    (least-entry-requires t)
+    (sub-least-of t)
+    (part-least-of-start t)
+    (part-least-of-end t)
+    (least-of-requires t)
+    (shr-least-of t)
+    (sub-least-of-2 t)
+    (part-least-of-start-2 t)
+    (part-least-of-end-2 t)
+    (least-of-requires-2 t)
+    (lesser-from-requires t)
+    (lesser-from-requires-2 t)
+    (returns-2 t)

@@ -1,0 +1,3 @@
+-- What the proofs of `table` use.
+pub mod Joining
+pub mod Filling

@@ -1,0 +1,3 @@
+pub mod Choices
+pub mod Calls
+pub mod Words
