@@ -23,6 +23,8 @@ use Rattle.druthmoy.proofs.dm_best_polarity.Kinds as dm-best-polarity-k
 use Rattle.druthmoy.proofs.dm_best_polarity.Reads as dm-best-polarity-reads
 use Rattle.druthmoy.proofs.dm_write_tree.Kinds as dm-write-tree-kinds
 use Rattle.druthmoy.proofs.dm_write_tree.Reads as dm-write-tree-reads
+use Rattle.druthmoy.proofs.dm_write_kronecker.Kinds as dm-write-kronecker-kinds
+use Rattle.druthmoy.proofs.dm_write_kronecker.Reads as dm-write-kronecker-reads
 use Rattle.druthmoy.proofs.dm_run.Kinds as dm-run-kinds
 use Rattle.druthmoy.proofs.dm_run.Reads as dm-run-reads
 use Rattle.druthmoy.proofs.dm_write_script.Kinds as dm-write-script-kinds
@@ -62,6 +64,9 @@ dm-best-polarity-determined κs a z z′ ws ws′ p q = (refl, ap (λ (w : List 
 
 pub dm-write-tree-determined : Determined 3 dm-write-tree-kinds.ps dm-write-tree-kinds.r dm-write-tree-reads.Learnt
 dm-write-tree-determined κs a z z′ ws ws′ p q = (refl, ap₂ (λ (w b : List ℕ). (tt, (tt, (b, (w, tt))))) (same (p .0) (q .0)) (same (p .1) (q .1)))
+
+pub dm-write-kronecker-determined : Determined 3 dm-write-kronecker-kinds.ps dm-write-kronecker-kinds.r dm-write-kronecker-reads.Learnt
+dm-write-kronecker-determined κs a z z′ ws ws′ p q = (refl, ap₂ (λ (w b : List ℕ). (tt, (tt, (b, (w, tt))))) (same (p .0) (q .0)) (same (p .1) (q .1)))
 
 pub dm-run-determined : Determined 4 dm-run-kinds.ps dm-run-kinds.r dm-run-reads.Learnt
 dm-run-determined κs a z z′ ws ws′ p q = (refl, ap₂ (λ (w b : List ℕ). (tt, (tt, (tt, (b, (w, tt)))))) (same (p .0) (q .0)) (same (p .1) (q .1)))

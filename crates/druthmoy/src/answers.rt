@@ -1,5 +1,6 @@
 // Answers as eight words: the number of a refusal, its place, and six values; of a refusal the first value is its number of differing variables.
 use cube::Valued;
+use kronecker::KroneckerList;
 use polarity::Best;
 use reasons::Reasoned;
 use records::Counted;
@@ -17,6 +18,7 @@ ghost use Rattle.cube.specs.Calls.{valued};
 ghost use Rattle.reasons.specs.Calls.{reasoned};
 ghost use Rattle.polarity.specs.Calls.{found};
 ghost use Rattle.trees.specs.Calls.{listed};
+ghost use Rattle.kronecker.specs.Calls.{kroneckerListed};
 ghost use Rattle.script.specs.Calls.{finished};
 ghost use Rattle.writer.specs.Calls.{wrote};
 ghost use Rattle.settling.specs.declared.Settled.the-variants.{Burned};
@@ -90,6 +92,18 @@ pub(crate) fn put_listed(answer: &mut [u64; 8], r: TreeList)
     match r {
         TreeList::Written(products, cost) => put_values(answer, products, cost),
         TreeList::Refused(why) => put_refusal(answer, why),
+    }
+}
+
+// The cost, the choice and the products of a Kronecker list, or a refusal.
+pub(crate) fn put_kronecker_listed(answer: &mut [u64; 8], r: KroneckerList)
+    ensures { λ _. ⌜ now (answer .exit) ≡ words (kroneckerListed r) ⌝ }
+{
+    match r {
+        KroneckerList::Written(cost, choice, products) => {
+            *answer = [0, 0, cost as u64, choice as u64, products as u64, 0, 0, 0];
+        }
+        KroneckerList::Refused(why) => put_refusal(answer, why),
     }
 }
 

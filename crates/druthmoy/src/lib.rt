@@ -9,6 +9,7 @@ ghost use Rattle.reasons.specs.Calls.{reasonsOutcome, reasonsAfter};
 ghost use Rattle.converters.specs.Calls.{wideOutcome, wideAfter, narrowOutcome, narrowAfter};
 ghost use Rattle.polarity.specs.Calls.{coefficientsOutcome, coefficientsAfter, backAfter, formOutcome, formAfter, bestOutcome};
 ghost use Rattle.trees.specs.Calls.{treeOutcome, treeAfter};
+ghost use Rattle.kronecker.specs.Calls.{kroneckerOutcome, kroneckerAfter};
 ghost use Rattle.script.specs.Calls.{runOutcome, runAfter};
 ghost use Rattle.writer.specs.Calls.{writeOutcome, writeWork, writeSteps};
 ghost use Rattle.compactor.specs.Calls.{compactOutcome, compactAfter};
@@ -118,6 +119,16 @@ pub extern "C" fn dm_write_tree(n: u64, vector: &[u8], out: &mut [u8], answer: &
 {
     let listed = trees::tree::write_tree(n as usize, vector, out);
     answers::put_listed(answer, listed);
+}
+
+// The list of a truth vector's cheapest choice of one expansion for each variable. Values: its cost, the choice and its products.
+#[no_mangle]
+pub extern "C" fn dm_write_kronecker(n: u64, vector: &[u8], out: &mut [u8], answer: &mut [u64; 8])
+    ensures { λ _. ⌜ now (answer .exit) ≡ words (kroneckerOutcome n (now (vector .entry)) (length (now (out .entry)))) ⌝ }
+    ensures { λ _. ⌜ now (out .exit) ≡ kroneckerAfter n (now (vector .entry)) (now (out .entry)) ⌝ }
+{
+    let listed = kronecker::choice::write_kronecker(n as usize, vector, out);
+    answers::put_kronecker_listed(answer, listed);
 }
 
 // Runs a script on a list. Values: the count and the peak.

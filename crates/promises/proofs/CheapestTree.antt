@@ -6,20 +6,16 @@ use mathlib.Core.Path.{_≡_, refl, sym, ap, _∙_, subst}
 use mathlib.Core.Bool.{Bool, true, false, _&&_, cond}
 use mathlib.Core.List.{List, [], _∷_}
 use Prim.Native.Nat.{ℕ, _*_, _^_, _≤_, _<_}
-use native.Mathlib.Nat.{le-trans}
 use native.Mathlib.Omega.{arith}
 use borrow.Author.Tests.{leb-true, leb-false}
 use lib.Dec.{leb}
 use lib.ListN.{length, getD, drop}
 use Rattle.bits.specs.Sums.{All}
-use Rattle.records.specs.Records.{flat, written}
 use Rattle.records.specs.Answers.{Outcome, accepted}
 use Rattle.records.proofs.Answers.{accepted-values}
-use Rattle.records.proofs.Records.{capacity-most, written-rest}
 use Rattle.cube.specs.declared.Cube.{Cube}
 use Rattle.cube.specs.Cubes.{Good}
-use Rattle.cube.specs.Lists.{recordWidth, cubes, cubesOf, cubeCapacity, mostVariables, mostRecords, listValue, trues}
-use Rattle.cube.proofs.Lists.{lawful, cubes-flat}
+use Rattle.cube.specs.Lists.{recordWidth, cubesOf, cubeCapacity, mostVariables, listValue, trues}
 use Rattle.polarity.specs.Cost.{cost}
 use Rattle.polarity.specs.Forms.{formList}
 use Rattle.polarity.specs.Vectors.{byteAt, Vector}
@@ -36,9 +32,10 @@ use Rattle.promises.specs.Accepted.{goesOn, goesOnLeaving}
 use Rattle.promises.specs.CheapestTree.{order, FirstLeast, listIn, SameProducts}
 use Rattle.promises.proofs.Calling.{only}
 use Rattle.promises.proofs.Chains.{none-left, none-right}
-use Rattle.promises.proofs.NotWrong.{not-below, is-vector, written-fits, written-bytes, list-fine}
+use Rattle.promises.proofs.NotWrong.{not-below, is-vector}
 use Rattle.promises.proofs.DemandOne.{accepted-not-wrong, not-wrong-goes-on}
 use Rattle.promises.proofs.DemandTwoCalls.{best-polarity-answers}
+use Rattle.promises.proofs.WrittenList.{Wrote, list-written, no-more, of-list, value-call}
 
 -- ---- the meaning: the expansion at a node
 
@@ -105,43 +102,32 @@ module _ (n : ℕ) (vector out : List ℕ) (products price : ℕ) (out′ : List
   unfolding goesOn
   price-is = ap (λ (v : List ℕ). getD v 1 0) (accepted-values (went-on .0))
 
-  is : out′ ≡ written cubes 0 (treeList n (byteAt vector)) out
+  wrote : Wrote n vector out (treeList n (byteAt vector)) products out′
   unfolding goesOnLeaving
-  is = only (went-on .1)
-
-  bytes : listIn products out′ ≡ flat (cubes .enc) (treeList n (byteAt vector))
-  bytes = written-bytes tree products out out′ all room is
+  wrote = record { is-one = is-one; all = all; room = room; is = only (went-on .1) }
 
   -- The list of the tree stands at the front of the output, ..
   pub tree-written : cubesOf (listIn products out′) ≡ treeList n (byteAt vector)
-  tree-written = ap cubesOf bytes ∙ cubes-flat tree
+  tree-written = list-written n vector out tree products out′ wrote
 
   -- .. and every byte after it is as it was.
   pub tree-no-more : drop (recordWidth * products) out′ ≡ drop (recordWidth * products) out
-  tree-no-more =
-      (λ i. drop (recordWidth * all i) (is i)) ∙ written-rest cubes lawful out tree (written-fits tree out room) ∙ ap (λ (k : ℕ). drop (recordWidth * k) out) (sym all)
-
-  -- what is known of the tree's list is known of what was written
-  of-tree : (P : List Cube → Type 0) → P (treeList n (byteAt vector)) → P (cubesOf (listIn products out′))
-  of-tree P = subst P (sym tree-written)
+  tree-no-more = no-more n vector out tree products out′ wrote
 
   -- Its products are good cubes over n variables, ..
   pub tree-good : All (Good n) (cubesOf (listIn products out′))
-  tree-good = of-tree (All (Good n)) (trees.tree-is-good n (byteAt vector) few)
+  tree-good = of-list n vector out tree products out′ wrote (All (Good n)) (trees.tree-is-good n (byteAt vector) few)
 
   -- .. and it has the vector's value at every assignment, ..
   pub tree-value : (a : ℕ) → a < 2 ^ n → listValue n (cubesOf (listIn products out′)) a ≡ byteAt vector a
-  tree-value a h = of-tree (λ l. listValue n l a ≡ byteAt vector a) (trees.tree-has-the-value n (byteAt vector) few (is-one .bits) a h)
+  tree-value a h =
+      of-list n vector out tree products out′ wrote (λ l. listValue n l a ≡ byteAt vector a) (trees.tree-has-the-value n (byteAt vector) few (is-one .bits) a h)
 
   -- .. which the value call, of the bytes that were written, answers.
   pub tree-value-call : (a : ℕ) → a < 2 ^ n → (o : Outcome) → Called (value n (listIn products out′) a) o []
       → o ≡ accepted (byteAt vector a ∷ trues n (cubesOf (listIn products out′)) a ∷ [])
-  unfolding goesOn
-  tree-value-call a h o c =
-      let short : length tree ≤ mostRecords = le-trans room (capacity-most cubes mostRecords (length out)) in
-      let fine = list-fine n a tree (is-one .few) h short (trees.tree-is-good n (byteAt vector) few) in
-      not-wrong-goes-on (value n (listIn products out′) a) o [] c (subst (λ (b : List ℕ). NoneWrong (faults (value n b a))) (sym bytes) fine) .0
-      ∙ ap (λ (x : ℕ). accepted (x ∷ trues n (cubesOf (listIn products out′)) a ∷ [])) (tree-value a h)
+  tree-value-call a h =
+      value-call n vector out tree products out′ wrote (trees.tree-is-good n (byteAt vector) few) a h (trees.tree-has-the-value n (byteAt vector) few (is-one .bits) a h)
 
   -- The number answered is that of its products, ..
   pub products-are : products ≡ length (cubesOf (listIn products out′))

@@ -8,6 +8,7 @@ use Rattle.cube.specs.Calls.{valued}
 use Rattle.reasons.specs.Calls.{reasoned}
 use Rattle.polarity.specs.Calls.{found}
 use Rattle.trees.specs.Calls.{listed}
+use Rattle.kronecker.specs.Calls.{kroneckerListed}
 use Rattle.script.specs.Calls.{finished}
 use Rattle.writer.specs.Calls.{wrote}
 use Rattle.settling.specs.Calls.{settled}
@@ -33,6 +34,8 @@ use Rattle.polarity.proofs.choose.best_polarity.Kinds as best-polarity-kinds
 use Rattle.polarity.proofs.choose.best_polarity.Reads as best-polarity-reads
 use Rattle.trees.proofs.tree.write_tree.Kinds as write-tree-kinds
 use Rattle.trees.proofs.tree.write_tree.Reads as write-tree-reads
+use Rattle.kronecker.proofs.choice.write_kronecker.Kinds as write-kronecker-kinds
+use Rattle.kronecker.proofs.choice.write_kronecker.Reads as write-kronecker-reads
 use Rattle.script.proofs.run.run.Kinds as run-kinds
 use Rattle.script.proofs.run.run.Reads as run-reads
 use Rattle.writer.proofs.write.write_script.Kinds as write-script-kinds
@@ -59,6 +62,8 @@ use Rattle.druthmoy.proofs.dm_best_polarity.Kinds as dm-best-polarity-kinds
 use Rattle.druthmoy.proofs.dm_best_polarity.Reads as dm-best-polarity-reads
 use Rattle.druthmoy.proofs.dm_write_tree.Kinds as dm-write-tree-kinds
 use Rattle.druthmoy.proofs.dm_write_tree.Reads as dm-write-tree-reads
+use Rattle.druthmoy.proofs.dm_write_kronecker.Kinds as dm-write-kronecker-kinds
+use Rattle.druthmoy.proofs.dm_write_kronecker.Reads as dm-write-kronecker-reads
 use Rattle.druthmoy.proofs.dm_run.Kinds as dm-run-kinds
 use Rattle.druthmoy.proofs.dm_run.Reads as dm-run-reads
 use Rattle.druthmoy.proofs.dm_write_script.Kinds as dm-write-script-kinds
@@ -71,7 +76,7 @@ use Rattle.druthmoy.proofs.dm_wide_from_narrow.Kinds as dm-wide-from-narrow-kin
 use Rattle.druthmoy.proofs.dm_wide_from_narrow.Reads as dm-wide-from-narrow-reads
 use Rattle.druthmoy.proofs.dm_narrow_from_wide.Kinds as dm-narrow-from-wide-kinds
 use Rattle.druthmoy.proofs.dm_narrow_from_wide.Reads as dm-narrow-from-wide-reads
-use Rattle.promises.specs.Calls.{Call, check, value, reasons, truthVector, coefficients, vectorBack, writeForm, bestPolarity, writeTree, run, writeScript, compact, settle, wideFromNarrow, narrowFromWide, answers, leaves, wordsOf, Faced}
+use Rattle.promises.specs.Calls.{Call, check, value, reasons, truthVector, coefficients, vectorBack, writeForm, bestPolarity, writeTree, writeKronecker, run, writeScript, compact, settle, wideFromNarrow, narrowFromWide, answers, leaves, wordsOf, Faced}
 use Rattle.promises.specs.Contracts.{IsCalled, IsFaced}
 
 -- ---- from Rattle
@@ -129,6 +134,12 @@ pub write-tree-called : IsCalled 2 write-tree-kinds.ps write-tree-kinds.r write-
     (λ κs a ws. ws .1 .1 .0 ∷ []) (λ κs z. listed z)
 unfolding answers leaves
 write-tree-called κs a z ws p = record { answer = p .0; left = ap (λ (b : List ℕ). b ∷ []) (p .1) }
+
+pub write-kronecker-called : IsCalled 2 write-kronecker-kinds.ps write-kronecker-kinds.r write-kronecker-reads.Learnt
+    (λ κs a. writeKronecker (a .0) (a .1 .0 .now) (a .1 .1 .0 .now))
+    (λ κs a ws. ws .1 .1 .0 ∷ []) (λ κs z. kroneckerListed z)
+unfolding answers leaves
+write-kronecker-called κs a z ws p = record { answer = p .0; left = ap (λ (b : List ℕ). b ∷ []) (p .1) }
 
 pub run-called : IsCalled 3 run-kinds.ps run-kinds.r run-reads.Learnt
     (λ κs a. run (a .0) (a .1 .0 .now) (a .1 .1 .0 .now) (a .1 .1 .1 .0 .now))
@@ -224,6 +235,12 @@ pub dm-write-tree-faced : IsFaced 3 dm-write-tree-kinds.ps dm-write-tree-kinds.r
     (λ κs a ws. ws .1 .1 .0 ∷ []) (λ κs a ws. ws .1 .1 .1 .0)
 unfolding answers leaves wordsOf
 dm-write-tree-faced κs a z ws p = faced _ _ _ (p .0) (ap (λ (b : List ℕ). b ∷ []) (p .1))
+
+pub dm-write-kronecker-faced : IsFaced 3 dm-write-kronecker-kinds.ps dm-write-kronecker-kinds.r dm-write-kronecker-reads.Learnt
+    (λ κs a. writeKronecker (a .0) (a .1 .0 .now) (a .1 .1 .0 .now))
+    (λ κs a ws. ws .1 .1 .0 ∷ []) (λ κs a ws. ws .1 .1 .1 .0)
+unfolding answers leaves wordsOf
+dm-write-kronecker-faced κs a z ws p = faced _ _ _ (p .0) (ap (λ (b : List ℕ). b ∷ []) (p .1))
 
 pub dm-run-faced : IsFaced 4 dm-run-kinds.ps dm-run-kinds.r dm-run-reads.Learnt
     (λ κs a. run (a .0) (a .1 .0 .now) (a .1 .1 .0 .now) (a .1 .1 .1 .0 .now))

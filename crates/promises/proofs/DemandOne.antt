@@ -24,7 +24,7 @@ use Rattle.script.specs.Scripts.{stepsOf}
 use Rattle.script.specs.Calls.{runOf, atStep, ofStep, ranOutcome, ranWork}
 use Rattle.script.proofs.Refusals.{stopped-steps, refused-stops}
 use Rattle.settling.specs.Calls.{ranSettled, ranBurned}
-use Rattle.promises.specs.Calls.{Call, check, value, reasons, truthVector, coefficients, vectorBack, writeForm, bestPolarity, writeTree, run, writeScript, compact, settle, wideFromNarrow, narrowFromWide, answers, lent, leaves, Called}
+use Rattle.promises.specs.Calls.{Call, check, value, reasons, truthVector, coefficients, vectorBack, writeForm, bestPolarity, writeTree, writeKronecker, run, writeScript, compact, settle, wideFromNarrow, narrowFromWide, answers, lent, leaves, Called}
 use Rattle.promises.specs.Refusals.{NoneWrong, FirstWrong, faults, beforeSteps, RefusedBefore, StepStops, Stopped, RefusedAtStep, in-run, in-settle}
 use Rattle.promises.specs.Accepted.{goesOn, goesOnLeaving, ScriptStops, run-stops, settle-stops, ScriptEnds}
 use Rattle.promises.proofs.Chains.{first-only, first-number, not-none}
@@ -59,6 +59,7 @@ at-step (vectorBack n vector p out) r buffers none e f = absurd (not-both e)
 at-step (writeForm n vector p out) r buffers none e f = absurd (not-both e)
 at-step (bestPolarity n vector) r buffers none e f = absurd (not-both e)
 at-step (writeTree n vector out) r buffers none e f = absurd (not-both e)
+at-step (writeKronecker n vector out) r buffers none e f = absurd (not-both e)
 at-step (writeScript n list work script) r buffers none e f = absurd (not-both e)
 at-step (compact n count script out) r buffers none e f = absurd (not-both e)
 at-step (wideFromNarrow n list out) r buffers none e f = absurd (not-both e)
@@ -112,6 +113,7 @@ accepts (vectorBack n vector p out) s = (_, refl)
 accepts (writeForm n vector p out) s = (_, refl)
 accepts (bestPolarity n vector) s = (_, refl)
 accepts (writeTree n vector out) s = (_, refl)
+accepts (writeKronecker n vector out) s = (_, refl)
 accepts (run n list script work) s = (_, ap ranOutcome (s .is))
 accepts (writeScript n list work script) s = (_, refl)
 accepts (compact n count script out) s = (_, refl)

@@ -14,7 +14,7 @@ use Rattle.settling.specs.declared.Settled.the-variants as settled-is
 use Rattle.settling.specs.declared.Settlement.{Settlement}
 use Rattle.settling.specs.Calls.{settled}
 use Rattle.druthmoy.specs.Faces.{eight, words, settledWords}
-use Rattle.promises.specs.Calls.{Call, check, value, reasons, truthVector, coefficients, vectorBack, writeForm, bestPolarity, writeTree, run, writeScript, compact, settle, wideFromNarrow, narrowFromWide, wordsOf, Faced}
+use Rattle.promises.specs.Calls.{Call, check, value, reasons, truthVector, coefficients, vectorBack, writeForm, bestPolarity, writeTree, writeKronecker, run, writeScript, compact, settle, wideFromNarrow, narrowFromWide, wordsOf, Faced}
 use Rattle.promises.specs.Faced.{polarityWord, sizeWord, SettledFace}
 use Rattle.promises.proofs.DemandOne.{refused-above-0}
 use Rattle.promises.proofs.Calling.{accepted-settled}
@@ -33,6 +33,7 @@ words-by o P w s (vectorBack n vector p out) = w
 words-by o P w s (writeForm n vector p out) = w
 words-by o P w s (bestPolarity n vector) = w
 words-by o P w s (writeTree n vector out) = w
+words-by o P w s (writeKronecker n vector out) = w
 words-by o P w s (run n list script work) = w
 words-by o P w s (writeScript n list work script) = w
 words-by o P w s (compact n count script out) = w

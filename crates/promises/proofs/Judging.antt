@@ -24,12 +24,14 @@ use Rattle.polarity.specs.Vectors.{byteAt, isBit, checkVector}
 use Rattle.polarity.specs.Calls.{coefficientsOutcome, coefficientsAfter, backAfter, formOutcome, formAfter, bestOutcome}
 use Rattle.trees.specs.Least.{treeList}
 use Rattle.trees.specs.Calls.{treeOutcome, treeAfter}
+use Rattle.kronecker.specs.Choices.{kroneckerList}
+use Rattle.kronecker.specs.Calls.{kroneckerVariables, kroneckerOutcome, kroneckerAfter}
 use Rattle.script.specs.Scripts.{stepRecords, stepWidth, mostSteps, fits}
 use Rattle.script.specs.Calls.{checkScript, checkRun, runOf, runOutcome, workAfter, runAfter}
 use Rattle.writer.specs.Calls.{writeOutcome, writeWork, writeSteps}
 use Rattle.compactor.specs.Calls.{compactOutcome, compactAfter}
 use Rattle.settling.specs.Calls.{checkSettle, settleOutcome, settleWorkBy, settleWork, settleOutBy, settleOut}
-use Rattle.promises.specs.Calls.{Call, check, value, reasons, truthVector, coefficients, vectorBack, writeForm, bestPolarity, writeTree, run, writeScript, compact, settle, wideFromNarrow, narrowFromWide, answers, lent, leaves}
+use Rattle.promises.specs.Calls.{Call, check, value, reasons, truthVector, coefficients, vectorBack, writeForm, bestPolarity, writeTree, writeKronecker, run, writeScript, compact, settle, wideFromNarrow, narrowFromWide, answers, lent, leaves}
 use Rattle.promises.specs.Refusals.{Fault, at, NoneWrong, FirstWrong, recordFaults, listFaults, atFaults, scriptFaults, vectorFaults, faults}
 use Rattle.promises.specs.Accepted.{goesOn, goesOnLeaving}
 use Rattle.promises.proofs.Chains.{Judged, judge-end, judge-unless, judge-lowest, judge-and}
@@ -113,7 +115,7 @@ one-buffer : {b d : List ℕ} → b ≡ d → b ∷ [] ≡ d ∷ []
 one-buffer e = ap (λ (x : List ℕ). x ∷ []) e
 
 pub judged : (c : Call) → Outcomes c
-unfolding answers lent leaves faults goesOn goesOnLeaving valueOutcome reasonsOutcome reasonsAfter vectorOutcome vectorAfter coefficientsOutcome coefficientsAfter backAfter formOutcome formAfter bestOutcome treeOutcome treeAfter runOutcome runAfter checkRun writeOutcome writeWork writeSteps compactOutcome compactAfter checkSettle settleOutcome settleWork settleOut wideOutcome wideAfter narrowOutcome narrowAfter
+unfolding answers lent leaves faults goesOn goesOnLeaving valueOutcome reasonsOutcome reasonsAfter vectorOutcome vectorAfter coefficientsOutcome coefficientsAfter backAfter formOutcome formAfter bestOutcome treeOutcome treeAfter kroneckerOutcome kroneckerAfter runOutcome runAfter checkRun writeOutcome writeWork writeSteps compactOutcome compactAfter checkSettle settleOutcome settleWork settleOut wideOutcome wideAfter narrowOutcome narrowAfter
 judged (check n list) = by-tests (check n list) (checkList mostVariables n list) _ (by-list cubes mostVariables n list) (λ r e. (e, refl)) (λ e. (e, refl))
 judged (value n list a) =
     by-tests (value n list a) (checkAt n list a) _ (by-at n list a) (λ r e. (and-not _ _ r e, refl)) (λ e. (and-then _ _ _ e, refl))
@@ -142,6 +144,12 @@ judged (bestPolarity n l) =
 judged (writeTree n l out) =
     by-tests (writeTree n l out) (treeOutcome n l (length out)) _
     (after-vector n l _ _ _ (unless-le (judge-end _) (length (treeList n (byteAt l))) (cubeCapacity (length out)) 5 0))
+    (λ r e. (e, one-buffer (after-refused _ _ out r e))) (λ e. (e, one-buffer (after-accepted _ _ out _ e)))
+judged (writeKronecker n l out) =
+    by-tests (writeKronecker n l out) (kroneckerOutcome n l (length out)) _
+    (unless-le
+    (after-vector n l _ _ _ (unless-le (judge-end _) (length (kroneckerList n (byteAt l))) (cubeCapacity (length out)) 5 0))
+    n kroneckerVariables 1 0)
     (λ r e. (e, one-buffer (after-refused _ _ out r e))) (λ e. (e, one-buffer (after-accepted _ _ out _ e)))
 judged (run n list script work) =
     by-tests (run n list script work) (checkRun n list script (length work)) _

@@ -17,6 +17,8 @@ pub mod ShortScript
 pub mod TakingOut
 pub mod PlainSteps
 pub mod DemandTwoCalls
+pub mod WrittenList
 pub mod CheapestTree
+pub mod OneChoice
 pub mod Faces
 pub mod Examples

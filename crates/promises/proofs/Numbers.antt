@@ -5,7 +5,7 @@ use mathlib.Core.List.{List}
 use Prim.Native.Nat.{ℕ}
 use Rattle.records.specs.Records.{Codec}
 use Rattle.cube.specs.declared.Cube.{Cube}
-use Rattle.promises.specs.Calls.{Call, check, value, reasons, truthVector, coefficients, vectorBack, writeForm, bestPolarity, writeTree, run, writeScript, compact, settle, wideFromNarrow, narrowFromWide}
+use Rattle.promises.specs.Calls.{Call, check, value, reasons, truthVector, coefficients, vectorBack, writeForm, bestPolarity, writeTree, writeKronecker, run, writeScript, compact, settle, wideFromNarrow, narrowFromWide}
 use Rattle.promises.specs.Refusals.{recordFaults, listFaults, atFaults, scriptFaults, vectorFaults, faults}
 use Rattle.promises.proofs.Chains.{Numbered, numbered-both}
 
@@ -40,6 +40,7 @@ numbered (vectorBack n vector p out) = numbered-both (vectorFaults n vector) _ (
 numbered (writeForm n vector p out) = numbered-both (vectorFaults n vector) _ (vector-numbered n vector) (refl, (refl, tt))
 numbered (bestPolarity n vector) = vector-numbered n vector
 numbered (writeTree n vector out) = numbered-both (vectorFaults n vector) _ (vector-numbered n vector) (refl, tt)
+numbered (writeKronecker n vector out) = (refl, numbered-both (vectorFaults n vector) _ (vector-numbered n vector) (refl, tt))
 numbered (run n list script work) = numbered-both (listFaults _ _ n list) _ (list-numbered _ _ n list) (refl, script-numbered n script)
 numbered (writeScript n list work script) = numbered-both (listFaults _ _ n list) _ (list-numbered _ _ n list) (refl, (refl, tt))
 numbered (compact n count script out) = (refl, (refl, numbered-both (scriptFaults n script) _ (script-numbered n script) (refl, tt)))

@@ -1,8 +1,8 @@
 -- What each call answers and leaves where nothing before the first step is wrong. Document 01, "Refusal numbers and places": "Accepted, a check answers
 -- the record count; value, the bit; truth vector and coefficients, either way, 2^n; writing a form, its count; best polarity, p and the size; run, count
 -- and peak; settle, the counts that the program prints." With document 02, One: value answers "the number of true products" too, and reasons "their number and the
--- bit"; Three: the writer "answers the number of steps and which"; Six: the list of a tree is written, "answering its products and cost"; Eleven: the compactor
--- "answers the steps left". The converters answer the count.
+-- bit"; Three: the writer "answers the number of steps and which"; Six: the list of a tree is written, "answering its products and cost"; Ten: of a choice, "the least
+-- cost and, among those, the smallest choice", then the products; Eleven: the compactor "answers the steps left". The converters answer the count.
 -- Assumes nothing.
 use mathlib.Core.Path.{_≡_}
 use mathlib.Core.List.{List, [], _∷_, _++_, map}
@@ -20,6 +20,7 @@ use Rattle.polarity.specs.Cost.{cost}
 use Rattle.polarity.specs.Forms.{formFrom, size, bestPolarity}
 use Rattle.polarity.specs.Vectors.{byteAt, coefficientVector, vectorBack}
 use Rattle.trees.specs.Least.{treeList}
+use Rattle.kronecker.specs.Choices.{bestChoice, kroneckerList}
 use Rattle.script.specs.Run.{ended}
 use Rattle.script.specs.Scripts.{stepRecords, mostSteps, recordOf, stepsOf}
 use Rattle.script.specs.Calls.{runOf, ranOutcome, ranWork}
@@ -41,6 +42,8 @@ goesOn (call.vectorBack n vector p out) = accepted (2 ^ n ∷ [])
 goesOn (call.writeForm n vector p out) = accepted (length (formFrom n p (byteAt vector)) ∷ [])
 goesOn (call.bestPolarity n vector) = accepted (bestPolarity n (byteAt vector) ∷ size n (bestPolarity n (byteAt vector)) (byteAt vector) ∷ [])
 goesOn (call.writeTree n vector out) = accepted (length (treeList n (byteAt vector)) ∷ cost (treeList n (byteAt vector)) ∷ [])
+goesOn (call.writeKronecker n vector out) =
+    accepted (cost (kroneckerList n (byteAt vector)) ∷ bestChoice n (byteAt vector) ∷ length (kroneckerList n (byteAt vector)) ∷ [])
 goesOn (call.run n list script work) = ranOutcome (runOf n list script (length work))
 goesOn (call.writeScript n list work script) =
     accepted (length (easySteps n mostSteps (cubesOf list)) ∷ oneIf (easyFinished n mostSteps (cubesOf list)) ∷ [])
@@ -60,6 +63,7 @@ goesOnLeaving (call.vectorBack n vector p out) = (vectorBack n p vector ++ drop 
 goesOnLeaving (call.writeForm n vector p out) = written cubes 0 (formFrom n p (byteAt vector)) out ∷ []
 goesOnLeaving (call.bestPolarity n vector) = []
 goesOnLeaving (call.writeTree n vector out) = written cubes 0 (treeList n (byteAt vector)) out ∷ []
+goesOnLeaving (call.writeKronecker n vector out) = written cubes 0 (kroneckerList n (byteAt vector)) out ∷ []
 goesOnLeaving (call.run n list script work) = ranWork (length work) (runOf n list script (length work)) ∷ []
 goesOnLeaving (call.writeScript n list work script) =
     image cubes (length work) (easyEnd n mostSteps (cubesOf list)) ∷ written stepRecords 0 (map recordOf (easySteps n mostSteps (cubesOf list))) script ∷ []
@@ -90,6 +94,7 @@ ScriptEnds (call.vectorBack n vector p out) = Unit {0}
 ScriptEnds (call.writeForm n vector p out) = Unit {0}
 ScriptEnds (call.bestPolarity n vector) = Unit {0}
 ScriptEnds (call.writeTree n vector out) = Unit {0}
+ScriptEnds (call.writeKronecker n vector out) = Unit {0}
 ScriptEnds (call.run n list script work) = EndOfScript n list script work
 ScriptEnds (call.writeScript n list work script) = Unit {0}
 ScriptEnds (call.compact n count script out) = Unit {0}

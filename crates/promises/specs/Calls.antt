@@ -11,6 +11,7 @@ use Rattle.reasons.specs.Calls.{reasonsOutcome, reasonsAfter}
 use Rattle.converters.specs.Calls.{wideOutcome, wideAfter, narrowOutcome, narrowAfter}
 use Rattle.polarity.specs.Calls.{coefficientsOutcome, coefficientsAfter, backAfter, formOutcome, formAfter, bestOutcome}
 use Rattle.trees.specs.Calls.{treeOutcome, treeAfter}
+use Rattle.kronecker.specs.Calls.{kroneckerOutcome, kroneckerAfter}
 use Rattle.script.specs.Calls.{runOutcome, runAfter}
 use Rattle.writer.specs.Calls.{writeOutcome, writeWork, writeSteps}
 use Rattle.compactor.specs.Calls.{compactOutcome, compactAfter}
@@ -36,6 +37,8 @@ pub data Call : Type 0 where
   bestPolarity : ℕ → List ℕ → Call
   -- "Add source document 002's pseudo-Kronecker form of a truth vector", "Write its list" (document 02, Six): n, the vector, out
   writeTree : ℕ → List ℕ → List ℕ → Call
+  -- "Add the Kronecker form of source document 002", "write that list" (document 02, Ten): n, the vector, out
+  writeKronecker : ℕ → List ℕ → List ℕ → Call
   -- "Run": n, the list, the script, work
   run : ℕ → List ℕ → List ℕ → List ℕ → Call
   -- "Add a writer of scripts" (document 02, Three): n, the list, work, the script buffer
@@ -59,6 +62,7 @@ answers (vectorBack n vector p out) = coefficientsOutcome n vector p (length out
 answers (writeForm n vector p out) = formOutcome n vector p (length out)
 answers (bestPolarity n vector) = bestOutcome n vector
 answers (writeTree n vector out) = treeOutcome n vector (length out)
+answers (writeKronecker n vector out) = kroneckerOutcome n vector (length out)
 answers (run n list script work) = runOutcome n list script (length work)
 answers (writeScript n list work script) = writeOutcome n list (length work) (length script)
 answers (compact n count script out) = compactOutcome n count script (length out)
@@ -77,6 +81,7 @@ lent (vectorBack n vector p out) = out ∷ []
 lent (writeForm n vector p out) = out ∷ []
 lent (bestPolarity n vector) = []
 lent (writeTree n vector out) = out ∷ []
+lent (writeKronecker n vector out) = out ∷ []
 lent (run n list script work) = work ∷ []
 lent (writeScript n list work script) = work ∷ script ∷ []
 lent (compact n count script out) = out ∷ []
@@ -95,6 +100,7 @@ leaves (vectorBack n vector p out) = backAfter n vector p out ∷ []
 leaves (writeForm n vector p out) = formAfter n vector p out ∷ []
 leaves (bestPolarity n vector) = []
 leaves (writeTree n vector out) = treeAfter n vector out ∷ []
+leaves (writeKronecker n vector out) = kroneckerAfter n vector out ∷ []
 leaves (run n list script work) = runAfter n list script work ∷ []
 leaves (writeScript n list work script) = writeWork n list work (length script) ∷ writeSteps n list (length work) script ∷ []
 leaves (compact n count script out) = compactAfter n count script out ∷ []
@@ -118,6 +124,7 @@ wordsOf (vectorBack n vector p out) o = words o
 wordsOf (writeForm n vector p out) o = words o
 wordsOf (bestPolarity n vector) o = words o
 wordsOf (writeTree n vector out) o = words o
+wordsOf (writeKronecker n vector out) o = words o
 wordsOf (run n list script work) o = words o
 wordsOf (writeScript n list work script) o = words o
 wordsOf (compact n count script out) o = words o

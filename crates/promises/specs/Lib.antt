@@ -8,6 +8,7 @@ pub mod OtherScript
 pub mod EasyScript
 pub mod ShortScript
 pub mod CheapestTree
+pub mod OneChoice
 pub mod PlainSteps
 pub mod Faced
 pub mod Marked

@@ -19,13 +19,15 @@ use Rattle.converters.specs.NarrowRecord.{narrowWidth, narrowCubes, narrowCubes
 use Rattle.polarity.specs.Forms.{formFrom}
 use Rattle.polarity.specs.Vectors.{byteAt, isBit}
 use Rattle.trees.specs.Least.{treeList}
+use Rattle.kronecker.specs.Choices.{kroneckerList}
+use Rattle.kronecker.specs.Calls.{kroneckerVariables}
 use Rattle.steps.specs.declared.StepRefusal.{StepRefusal}
 use Rattle.steps.specs.Steps.{drop}
 use Rattle.steps.specs.Effects.{StepRefused, byStep, thirdAnswer}
 use Rattle.script.specs.Run.{Refused}
 use Rattle.script.specs.Scripts.{stepRecords, stepWidth, mostSteps, fits, stepsOf}
 use Rattle.script.specs.Calls.{ofStep}
-use Rattle.promises.specs.Calls.{Call, check, value, reasons, truthVector, coefficients, vectorBack, writeForm, bestPolarity, writeTree, run, writeScript, compact, settle, wideFromNarrow, narrowFromWide, lent}
+use Rattle.promises.specs.Calls.{Call, check, value, reasons, truthVector, coefficients, vectorBack, writeForm, bestPolarity, writeTree, writeKronecker, run, writeScript, compact, settle, wideFromNarrow, narrowFromWide, lent}
 
 -- ---- a fault
 
@@ -112,6 +114,9 @@ faults (writeForm n vector p out) =
 faults (bestPolarity n vector) = vectorFaults n vector
 -- "those of writing a form's list, without 15" (document 02, Six)
 faults (writeTree n vector out) = vectorFaults n vector ++ (at 5 0 (cubeCapacity (length out) < length (treeList n (byteAt vector))) ∷ [])
+-- "those of Six, with 1 at n above 6" (document 02, Ten)
+faults (writeKronecker n vector out) =
+    at 1 0 (kroneckerVariables < n) ∷ (vectorFaults n vector ++ (at 5 0 (cubeCapacity (length out) < length (kroneckerList n (byteAt vector))) ∷ []))
 -- "Run: 1 to 5, 7, 8, 9, then steps in turn": "the work capacity must be at least the given count"
 faults (run n list script work) =
     listFaults cubes mostVariables n list ++ (at 5 0 (cubeCapacity (length work) < length (cubesOf list)) ∷ scriptFaults n script)
