@@ -2,6 +2,7 @@
 use cube::Cube;
 use cube::Valued;
 use cube::list;
+use kronecker::KroneckerList;
 use libc::STDOUT_FILENO;
 use polarity::Best;
 use reasons::Reasoned;
@@ -206,6 +207,21 @@ pub fn tree(n: usize, answer: TreeList, b: &[u8]) {
             list(n, products, b);
         }
         TreeList::Refused(r) => {
+            refused(r);
+            bytes(b);
+        }
+    }
+}
+
+// The same of a Kronecker list: its cost, its choice and its products.
+pub fn kronecker(n: usize, answer: KroneckerList, b: &[u8]) {
+    match answer {
+        KroneckerList::Written(cost, choice, products) => {
+            two(cost, choice);
+            number(b" ", products);
+            list(n, products, b);
+        }
+        KroneckerList::Refused(r) => {
             refused(r);
             bytes(b);
         }

@@ -1,5 +1,6 @@
 // The rows whose calls take a vector or coefficients: the call made, and its answer printed.
 use answers::print;
+use kronecker::choice;
 use polarity::choose;
 use polarity::form;
 use polarity::transform;
@@ -18,6 +19,10 @@ fn best(n: usize, bits: &[u8]) {
 
 fn tree(n: usize, bits: &[u8], out: &mut [u8]) {
     print::tree(n, tree::write_tree(n, bits, out), out);
+}
+
+fn kronecker(n: usize, bits: &[u8], out: &mut [u8]) {
+    print::kronecker(n, choice::write_kronecker(n, bits, out), out);
 }
 
 fn form(n: usize, bits: &[u8], p: u64, out: &mut [u8]) {
@@ -59,6 +64,10 @@ pub fn on_bits(name: usize, h: Head, bits: &[u8], out: &mut [u8]) {
     }
     if name == head::TREE {
         tree(h.n, bits, out);
+        return;
+    }
+    if name == head::KRONECKER {
+        kronecker(h.n, bits, out);
         return;
     }
     under(name, h.n, bits, h.given as u64, out);

@@ -34,6 +34,8 @@ pub const BACK: usize = 14;
 
 pub const TREE: usize = 15;
 
+pub const KRONECKER: usize = 16;
+
 // A number and the place after it; 0 and the same place where there is none.
 pub struct Numeral {
     pub x: usize,
@@ -102,6 +104,9 @@ pub fn name(row: &[u8], first: u8) -> ReadNumber {
     }
     if first == b'f' {
         return place::word_at(row, 0, b"form ", FORM);
+    }
+    if first == b'k' {
+        return place::word_at(row, 0, b"kronecker ", KRONECKER);
     }
     name_by_v(row, first)
 }
