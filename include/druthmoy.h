@@ -1,4 +1,4 @@
-/* Druthmoy: cube lists, scripts, fixed-polarity forms, expansion trees, and settling a map.
+/* Druthmoy: cube lists, scripts, fixed-polarity forms, expansion trees, Kronecker forms, and settling a map.
  *
  * A number of variables n, a count of records, an assignment a and a polarity p are uint64_t; bit k of a and of p stands for
  * variable k.
@@ -22,7 +22,7 @@
  * the set of variables. A set bit k of a polarity means that variable k appears only complemented.
  *
  * The limit of n is 32 for check, value, reasons, run, settle, write script, compact and narrow from wide, 16 for wide from
- * narrow, and 8 for the other calls.
+ * narrow, 6 for write kronecker, and 8 for the other calls.
  *
  * A buffer is passed as a pointer and a length in bytes. Pointers are not null, even where a length is 0, need no
  * alignment (but answer, which is aligned as uint64_t is), and no buffer that a call writes overlaps another argument.
@@ -185,6 +185,19 @@ void dm_write_tree(uint64_t n,
                    const uint8_t *vector, size_t vector_length,
                    uint8_t *out, size_t out_length,
                    uint64_t *answer);
+
+/* The list of the cheapest Kronecker form of a truth vector: one expansion for each variable. A choice is a number below 3^n
+ * whose digits to the base 3 are the expansions, variable 0 the lowest digit: 0 Shannon, 1 positive Davio, 2 negative Davio. Its
+ * list is that of the tree which has a variable's expansion at every node of that variable, with branches, products and order as
+ * dm_write_tree says. Of all 3^n choices the one whose list costs least is taken, of several such the smallest. It costs no more
+ * than the form of any polarity, and no less than the list that dm_write_tree writes. answer[2]: its cost, as dm_best_polarity
+ * says; answer[3]: the choice; answer[4]: its products.
+ * Writes the first 8 * products bytes of out, and no other byte; a refusal writes none.
+ * Refuses, in this order: 1, 14, 5 (capacity of out below the products). */
+void dm_write_kronecker(uint64_t n,
+                        const uint8_t *vector, size_t vector_length,
+                        uint8_t *out, size_t out_length,
+                        uint64_t *answer);
 
 /* Runs a script on a list. answer[2]: the count of the result; answer[3]: the peak, the greatest count met.
  * Accepted: the result fills the front of work, and every other byte of work is zero.

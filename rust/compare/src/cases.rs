@@ -11,10 +11,10 @@ use crate::random::Random;
 use crate::scripts;
 use crate::tree_vectors;
 use crate::undoings::with_undoings;
+use crate::vector_calls::{list, most_variables};
 use model::cube::{Cube, NARROW_RECORD, PLACE, RECORD, encoded_list, encoded_narrow_list};
 use model::polarity::coefficients;
 use model::script::{self, STEP, STEPS, Step, encoded_script};
-use model::trees;
 
 const VARIABLES: usize = 32;
 const NARROW_VARIABLES: usize = 16;
@@ -25,7 +25,7 @@ pub fn case(random: &mut Random, call: Call) -> Case {
     match call {
         Call::Check | Call::Value | Call::Reasons | Call::TruthVector => list_case(random, faults, call),
         Call::Coefficients | Call::Vector | Call::WriteForm | Call::BestPolarity => bits_case(random, faults, call),
-        Call::WriteTree => tree_case(random, faults),
+        Call::WriteTree | Call::WriteKronecker => tree_case(random, faults, call),
         Call::Run | Call::Settle => script_case(random, faults, call),
         Call::WriteScript => writer_case(random, faults),
         Call::Compact => compact_case(random, faults),
@@ -67,15 +67,17 @@ fn bits_case(random: &mut Random, faults: &Faults, call: Call) -> Case {
     Case { call, n, input, number, script: vec![], work: vec![], out }
 }
 
-fn tree_case(random: &mut Random, faults: &Faults) -> Case {
-    let width = few_variables(random);
-    let n = variables(random, faults, width, 8);
+fn tree_case(random: &mut Random, faults: &Faults, call: Call) -> Case {
+    let limit = most_variables(call);
+    let width = if call == Call::WriteTree { few_variables(random) } else { fewer_variables(random) };
+    let n = variables(random, faults, width, limit as usize);
     let vector = tree_vectors::vector(random, width, faults.has(5));
-    let out = lent(random, RECORD * trees::list(&vector).len(), faults.has(5));
-    // A variable more than there may be, and as many values as it makes.
-    let vector = if n == 9 && random.one_in(2) { random.bits(512) } else { vector };
+    let out = lent(random, RECORD * list(call, &vector).len(), faults.has(5));
+    // A variable or two more than there may be, and as many values as they make.
+    let beyond = limit < n && n <= limit + 2;
+    let vector = if beyond && random.one_in(2) { random.bits(1 << n) } else { vector };
     let input = damaged_bits(random, faults, vector);
-    Case { call: Call::WriteTree, n, input, number: 0, script: vec![], work: vec![], out }
+    Case { call, n, input, number: 0, script: vec![], work: vec![], out }
 }
 
 fn script_case(random: &mut Random, faults: &Faults, call: Call) -> Case {
@@ -204,6 +206,15 @@ fn few_variables(random: &mut Random) -> usize {
         1 | 2 => 7,
         3..=10 => 6,
         11..=40 => 5,
+        _ => random.below(5),
+    }
+}
+
+/// From 0 to 6, the large ones rarely: the model writes 3^n lists for a choice.
+fn fewer_variables(random: &mut Random) -> usize {
+    match random.below(200) {
+        0 => 6,
+        1..=4 => 5,
         _ => random.below(5),
     }
 }

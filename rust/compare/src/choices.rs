@@ -2,7 +2,8 @@
 //! document 02's: such a rule would be seen in the comparison.
 
 use crate::counts::{Counts, unmet, write_lines};
-use crate::differ::Case;
+use crate::differ::{Call, Case};
+use crate::vector_calls;
 use model::cost::standing;
 use model::cube::{Cube, RECORD, truth_vector};
 use model::polarity;
@@ -17,6 +18,8 @@ struct Candidates {
     before_the_undoing: Vec<Cube>,
     /// The script's result, the given list and, for at most 8 variables, the form and the tree's list.
     lists: Vec<Vec<Cube>>,
+    /// For at most 6 variables, the Kronecker form's list, which is no candidate.
+    kronecker: Option<Vec<Cube>>,
 }
 
 impl Candidates {
@@ -31,12 +34,14 @@ impl Candidates {
         }
         let result = script::run(&given, &steps, capacity).expect("the same").list;
         let mut lists = vec![result, given];
+        let mut kronecker = None;
         if n <= 8 {
             let vector = truth_vector(n, &lists[1]);
             lists.push(polarity::form(n, &polarity::coefficients(&vector, best), best));
             lists.push(trees::list(&vector));
+            kronecker = (n <= 6).then(|| vector_calls::list(Call::WriteKronecker, &vector));
         }
-        Candidates { before_the_undoing, lists }
+        Candidates { before_the_undoing, lists, kronecker }
     }
 
     /// The candidate that a rule takes: the least, and of several such the first.
@@ -87,12 +92,16 @@ const BURNED: [&str; 4] = ["the script's result", "the given list", "the form", 
 /// How the tree's list stands beside the form, by cost and then products.
 const BESIDE: [&str; 4] = ["lower", "as high with other products", "the same list", "higher"];
 
-/// Settled maps by what was burned, those of at most 8 variables by how the tree's list stands beside the form, and the rules
-/// that would have burned another list.
+/// Document 02, Ten: "settling ignores it".
+const FIFTH: [&str; 2] = ["not burned", "burned"];
+
+/// Settled maps by what was burned, those of at most 8 variables by how the tree's list stands beside the form, those of at most 6
+/// by whether the Kronecker form's list would be burned if it were a candidate, and the rules that would have burned another list.
 #[derive(Default)]
 pub struct Choices {
     burned: [u64; BURNED.len()],
     beside: [u64; BESIDE.len()],
+    fifth: [u64; FIFTH.len()],
     another: [u64; OTHERS.len()],
 }
 
@@ -109,6 +118,9 @@ impl Choices {
                 Ordering::Greater => 3,
             }] += 1;
         }
+        if let Some(list) = &candidates.kronecker {
+            self.fifth[usize::from(standing(list) < standing(&candidates.lists[burned]))] += 1;
+        }
         for (count, (_, rule)) in self.another.iter_mut().zip(OTHERS) {
             let taken = candidates.taken(rule);
             *count += u64::from(candidates.lists[taken] != candidates.lists[burned]);
@@ -120,11 +132,12 @@ impl Choices {
         unmet(&self.counts())
     }
 
-    fn counts(&self) -> [Counts; 3] {
+    fn counts(&self) -> [Counts; 4] {
         let rules = OTHERS.map(|(name, _)| name);
         [
             ("burned", BURNED.into_iter().zip(self.burned).collect()),
             ("the tree's list stands beside the form", BESIDE.into_iter().zip(self.beside).collect()),
+            ("the Kronecker form, as a fifth candidate", FIFTH.into_iter().zip(self.fifth).collect()),
             ("another list burned by other rules", rules.into_iter().zip(self.another).collect()),
         ]
     }

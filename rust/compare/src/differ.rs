@@ -1,9 +1,10 @@
 //! One call of the library beside the same call of the model: answers, and every byte of every buffer.
 
 use crate::compacted::once_more;
+use crate::kronecker_lists::beside_choices;
 use crate::replays::replay;
 use crate::tree_lists::beside_vector;
-use druthmoy::{Fixed, Refusal, Run, Settled, Tree, Value, Written, words};
+use druthmoy::{Fixed, Kronecker, Refusal, Run, Settled, Tree, Value, Written, words};
 use model::calls;
 use model::cube::{Cube, RECORD, decoded};
 use std::fmt;
@@ -20,6 +21,7 @@ pub enum Call {
     WriteForm,
     BestPolarity,
     WriteTree,
+    WriteKronecker,
     Run,
     Settle,
     WriteScript,
@@ -29,7 +31,7 @@ pub enum Call {
 }
 
 impl Call {
-    pub const ALL: [Call; 15] = [
+    pub const ALL: [Call; 16] = [
         Call::Check,
         Call::Value,
         Call::Reasons,
@@ -39,6 +41,7 @@ impl Call {
         Call::WriteForm,
         Call::BestPolarity,
         Call::WriteTree,
+        Call::WriteKronecker,
         Call::Run,
         Call::Settle,
         Call::WriteScript,
@@ -81,7 +84,7 @@ pub struct After {
 }
 
 /// Compares one case three ways: the library's words, its named answers, the model; reasons with value; a tree's list with its
-/// vector and with the best polarity; a written script with its run; and a compacted one with the given one and with itself
+/// vector and with the best polarity; a Kronecker form's with these and with all choices; a written script with its run; and a compacted one with the given one and with itself
 /// compacted. Answers the words.
 pub fn compare(case: &Case) -> Result<[u64; 8], String> {
     compared(case).map(|after| after.answer)
@@ -101,6 +104,7 @@ pub fn compared(case: &Case) -> Result<After, String> {
     match case.call {
         Call::Reasons => beside_value(case, &expected.answer)?,
         Call::WriteTree => beside_vector(case, &expected)?,
+        Call::WriteKronecker => beside_choices(case, &expected)?,
         Call::WriteScript => replay(case, &expected)?,
         Call::Compact => once_more(case, &expected)?,
         _ => {}
@@ -133,6 +137,7 @@ fn by_model(case: &Case) -> After {
         Call::WriteForm => calls::write_form(n, input, number, &mut out),
         Call::BestPolarity => calls::best_polarity(n, input),
         Call::WriteTree => calls::write_tree(n, input, &mut out),
+        Call::WriteKronecker => calls::write_kronecker(n, input, &mut out),
         Call::Run => calls::run(n, input, &script, &mut work),
         Call::Settle => calls::settle(n, input, &script, &mut work, &mut out),
         Call::WriteScript => calls::write_script(n, input, &mut work, &mut script),
@@ -161,6 +166,7 @@ pub fn by_words(case: &Case) -> Result<After, String> {
             Call::WriteForm => words::write_form(n, input, number, out),
             Call::BestPolarity => words::best_polarity(n, input),
             Call::WriteTree => words::write_tree(n, input, out),
+            Call::WriteKronecker => words::write_kronecker(n, input, out),
             Call::Run => words::run(n, input, script, work),
             Call::Settle => words::settle(n, input, script, work, out),
             Call::WriteScript => words::write_script(n, input, work, script),
@@ -198,6 +204,8 @@ fn by_names(case: &Case) -> After {
         Call::WriteForm => druthmoy::write_form(n, input, number, &mut out).map(one),
         Call::BestPolarity => druthmoy::best_polarity(n, input).map(|Fixed { polarity, size }| vec![polarity, size]),
         Call::WriteTree => druthmoy::write_tree(n, input, &mut out).map(|Tree { products, cost }| vec![products, cost]),
+        Call::WriteKronecker => druthmoy::write_kronecker(n, input, &mut out)
+            .map(|Kronecker { cost, choice, products }| vec![cost, choice, products]),
         Call::Run => druthmoy::run(n, input, &script, &mut work).map(|Run { count, peak }| vec![count, peak]),
         Call::Settle => druthmoy::settle(n, input, &script, &mut work, &mut out).map(
             |Settled { given, peak, script, fixed, burned }| {

@@ -3,6 +3,7 @@
 use crate::compact_examples;
 use crate::differ::{Call, Case, compare};
 use crate::easy_examples;
+use crate::kronecker_examples;
 use crate::tree_examples;
 use model::cube::{RECORD, encoded_list, encoded_narrow_list, read};
 use model::script::Step::{self, Drop, Join, L, Split, Turn};
@@ -18,6 +19,7 @@ pub fn all() -> Result<(), String> {
         settled(),
         costs(),
         tree_examples::all(),
+        kronecker_examples::all(),
         easy_examples::all(),
         compact_examples::all(),
         limits(),
@@ -207,13 +209,22 @@ fn limits() -> Vec<Example> {
     limits
 }
 
-/// n = 9 gives 1 with a truth vector, a polarity or a tree, and n = 33 everywhere.
+/// n = 9 gives 1 with a truth vector, a polarity, a tree or a choice, where 7 and 8 do too, and n = 33 everywhere.
 fn too_many_variables() -> Vec<Example> {
-    let of_vectors =
-        [Call::TruthVector, Call::Coefficients, Call::Vector, Call::WriteForm, Call::BestPolarity, Call::WriteTree];
-    let nine = of_vectors.map(|call| (Case { input: vec![0; 512], ..empty(call, 9) }, vec![1, 0]));
+    let of_vectors = [
+        Call::TruthVector,
+        Call::Coefficients,
+        Call::Vector,
+        Call::WriteForm,
+        Call::BestPolarity,
+        Call::WriteTree,
+        Call::WriteKronecker,
+    ];
+    let refused = |call, n| (Case { input: vec![0; 1usize << n], ..empty(call, n) }, vec![1, 0]);
+    let nine = of_vectors.map(|call| refused(call, 9));
+    let seven_and_eight = [7, 8].map(|n| refused(Call::WriteKronecker, n));
     let thirty_three = Call::ALL.map(|call| (empty(call, 33), vec![1, 0]));
-    nine.into_iter().chain(thirty_three).collect()
+    nine.into_iter().chain(seven_and_eight).chain(thirty_three).collect()
 }
 
 /// The last of 32 variables: in a record, in an assignment, in a step.
@@ -274,6 +285,16 @@ fn value(n: u64, list: &[&str]) -> Case {
 
 pub fn on_bits(call: Call, n: u64, bits: &[u8], p: u64) -> Case {
     Case { input: bits.to_vec(), number: p, out: vec![7; 1024], ..empty(call, n) }
+}
+
+/// A vector, and an output of so many bytes.
+pub fn in_room(call: Call, n: u64, vector: &[u8], room: usize) -> Case {
+    Case { input: vector.to_vec(), out: vec![7; room], ..empty(call, n) }
+}
+
+/// Whether an odd number of n variables is 1.
+pub fn parity(n: u32) -> Vec<u8> {
+    (0..1u32 << n).map(|a| (a.count_ones() % 2) as u8).collect()
 }
 
 /// A run or a settling in buffers for so many records, with three bytes more.

@@ -21,6 +21,12 @@ mod exhaustive;
 mod figures;
 mod given_and_short;
 mod idle_scripts;
+mod kronecker_examples;
+mod kronecker_lists;
+mod kronecker_rules;
+mod kronecker_search;
+mod kronecker_writer;
+mod kroneckers;
 mod labels;
 mod lengths;
 mod near_lists;
@@ -28,6 +34,7 @@ mod pair_rules;
 mod paths;
 mod per_record;
 mod plain_steps;
+mod products;
 mod random;
 mod random_calls;
 mod reasons;
@@ -44,6 +51,8 @@ mod tree_vectors;
 mod tree_writer;
 mod trees;
 mod undoings;
+mod vector_calls;
+mod vector_lists;
 mod writer;
 
 use std::process::ExitCode;
@@ -59,7 +68,7 @@ fn main() -> ExitCode {
     if cfg!(feature = "standin") {
         println!("STAND-IN: the calls are answered by the model itself; nothing below speaks of the library.\n");
     }
-    let parts: [Part; 16] = [
+    let parts: [Part; 18] = [
         ("the documents' examples and limits", &examples::all),
         ("the wrapper's records", &|| records::all(seed)),
         ("random calls", &|| random_calls::all(calls as usize, seed)),
@@ -70,11 +79,16 @@ fn main() -> ExitCode {
         ("all steps on two cubes over up to 3 variables, and over 3 of 32", &exhaustive::steps_on_two_cubes),
         ("reasons: faults together, short lists at every label", &reasons::all),
         ("write tree: faults together, all trees of up to 3 variables, all functions of 4", &tree_writer::all),
+        (
+            "write kronecker: faults together, all choices of up to 3 variables, all functions of 4",
+            &kronecker_writer::all,
+        ),
         ("write script: faults together, short lists in every buffer", &writer::all),
         ("compact: faults together, short scripts", &compactor::all),
         ("the converters: faults together, short lists there and back", &converters::all),
         ("published average of 5-variable functions", &|| figures::average_of_five(seed)),
         ("published averages of 5-variable functions, and their trees", &|| figures::trees_of_five(seed)),
+        ("published average of 5-variable functions, by choices", &|| figures::choices_of_five(seed)),
         ("published sizes of rd53, rd73, rd84", &figures::ones_counters),
     ];
     for (name, part) in parts {

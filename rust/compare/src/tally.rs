@@ -4,9 +4,10 @@ use crate::choices::Choices;
 use crate::compactions::Compactions;
 use crate::differ::{Call, Case};
 use crate::easy_scripts::EasyScripts;
+use crate::kroneckers::Kroneckers;
 use crate::labels::Labels;
 use crate::refused_steps::RefusedSteps;
-use crate::together::Together;
+use crate::together::{self, Together};
 use crate::trees::Trees;
 use model::cube::RECORD;
 use model::refusal::ORDERS;
@@ -23,6 +24,7 @@ pub struct Tally {
     choices: Choices,
     labels: Labels,
     trees: Trees,
+    kroneckers: Kroneckers,
     easy_scripts: EasyScripts,
     compactions: Compactions,
     together: Together,
@@ -42,16 +44,14 @@ impl Tally {
         }
         match case.call {
             Call::Reasons => self.labels.add(case, answer),
-            Call::WriteTree => {
-                self.trees.add(case, answer);
-                self.together.add(case, answer);
-            }
+            Call::WriteTree => self.trees.add(case, answer),
+            Call::WriteKronecker => self.kroneckers.add(case, answer),
             Call::WriteScript => self.easy_scripts.add(case, answer),
-            Call::Compact => {
-                self.compactions.add(case, answer);
-                self.together.add(case, answer);
-            }
+            Call::Compact => self.compactions.add(case, answer),
             _ => {}
+        }
+        if together::CALLS.contains(&case.call) {
+            self.together.add(case, answer);
         }
         let has_script = matches!(case.call, Call::Run | Call::Settle);
         match number {
@@ -72,7 +72,7 @@ impl Tally {
     }
 
     /// The refusals that the documents give a call and that were not met, and those met that they do not give; and what
-    /// is amiss with refused steps, with choices, with labels, with trees, with easy scripts and with compacted ones.
+    /// is amiss with refused steps, with choices, with labels, with trees and Kronecker forms, with easy scripts and with compacted ones.
     pub fn amiss(&self) -> Vec<String> {
         let mut amiss = Vec::new();
         for ((name, numbers), answers) in ORDERS.iter().zip(&self.answers) {
@@ -90,6 +90,7 @@ impl Tally {
         amiss.extend(self.choices.amiss());
         amiss.extend(self.labels.amiss());
         amiss.extend(self.trees.amiss());
+        amiss.extend(self.kroneckers.amiss());
         amiss.extend(self.easy_scripts.amiss());
         amiss.extend(self.compactions.amiss());
         amiss.extend(self.together.amiss());
@@ -122,6 +123,7 @@ impl fmt::Display for Tally {
         write!(f, "{}", self.choices)?;
         write!(f, "{}", self.labels)?;
         write!(f, "{}", self.trees)?;
+        write!(f, "{}", self.kroneckers)?;
         write!(f, "{}", self.easy_scripts)?;
         write!(f, "{}", self.compactions)?;
         write!(f, "{}", self.together)?;

@@ -1,16 +1,16 @@
-//! The refusals of write tree and of compact whose rules are broken together, each looked at by itself: the first of them is
-//! answered.
+//! The refusals of write tree, of write kronecker and of compact whose rules are broken together, each looked at by itself: the
+//! first of them is answered.
 
 use crate::differ::{Call, Case};
+use crate::vector_calls::{list, most_variables};
 use model::cube::RECORD;
 use model::refusal::ORDERS;
 use model::script::{STEP, STEPS, decoded};
-use model::trees;
 use std::collections::BTreeMap;
 use std::fmt;
 
 /// The calls whose refusals are looked at.
-const CALLS: [Call; 2] = [Call::WriteTree, Call::Compact];
+pub const CALLS: [Call; 3] = [Call::WriteTree, Call::WriteKronecker, Call::Compact];
 
 #[derive(Default)]
 pub struct Together {
@@ -26,23 +26,24 @@ fn order(call: Call) -> &'static [u64] {
 
 fn is_broken(case: &Case, number: u64) -> bool {
     match case.call {
-        Call::WriteTree => is_broken_by_vector(case, number),
-        _ => is_broken_by_script(case, number),
+        Call::Compact => is_broken_by_script(case, number),
+        _ => is_broken_by_vector(case, number),
     }
 }
 
 fn is_broken_by_vector(case: &Case, number: u64) -> bool {
     match number {
-        1 => case.n > 8,
+        1 => case.n > most_variables(case.call),
         14 => case.n > 63 || case.input.len() != 1 << case.n || case.input.iter().any(|&byte| byte > 1),
-        _ => (case.out.len() / RECORD).min(4096) < trees::list(&made_good(case)).len(),
+        _ => (case.out.len() / RECORD).min(4096) < list(case.call, &made_good(case)).len(),
     }
 }
 
 /// The vector's lowest bits, as many as n variables have, or, where these are too many, as few as there are values for.
 fn made_good(case: &Case) -> Vec<u8> {
-    let most = case.input.len().max(1).ilog2().min(8);
-    let length = 1 << if case.n > 8 { most.into() } else { case.n };
+    let limit = most_variables(case.call);
+    let most = u64::from(case.input.len().max(1).ilog2()).min(limit);
+    let length = 1 << if case.n > limit { most } else { case.n };
     let bits = case.input.iter().map(|byte| byte & 1);
     bits.chain([0; 256]).take(length).collect()
 }

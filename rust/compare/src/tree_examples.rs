@@ -1,8 +1,8 @@
 //! Document 02, Six: vectors, and the products and the cost of their trees; maps, and how many products are burned. Which ones is
 //! compared with the model.
 
-use crate::differ::{Call, Case};
-use crate::examples::{Example, empty, on_bits, on_script, records};
+use crate::differ::Call;
+use crate::examples::{Example, in_room, on_bits, on_script, parity, records};
 use model::cube::RECORD;
 
 pub fn all() -> Vec<Example> {
@@ -11,14 +11,6 @@ pub fn all() -> Vec<Example> {
 
 fn tree(n: u64, vector: &[u8], products: u64, cost: u64) -> Example {
     (on_bits(Call::WriteTree, n, vector, 0), vec![0, 0, products, cost, 0, 0, 0, 0])
-}
-
-fn in_room(n: u64, vector: &[u8], room: usize) -> Case {
-    Case { input: vector.to_vec(), out: vec![7; room], ..empty(Call::WriteTree, n) }
-}
-
-fn parity(n: u32) -> Vec<u8> {
-    (0..1u32 << n).map(|a| (a.count_ones() % 2) as u8).collect()
 }
 
 fn few_variables() -> Vec<Example> {
@@ -57,8 +49,8 @@ fn many_variables() -> Vec<Example> {
         tree(8, &last, 1, 1),
         tree(8, &all_but_the_last, 2, 1),
         // Room for what is written is enough.
-        (in_room(8, &all_but_the_last, 2 * RECORD), vec![0, 0, 2, 1]),
-        (in_room(8, &[0; 256], 0), vec![0, 0, 0, 0]),
+        (in_room(Call::WriteTree, 8, &all_but_the_last, 2 * RECORD), vec![0, 0, 2, 1]),
+        (in_room(Call::WriteTree, 8, &[0; 256], 0), vec![0, 0, 0, 0]),
     ]
 }
 
@@ -82,7 +74,7 @@ fn settled() -> Vec<Example> {
 
 fn refused() -> Vec<Example> {
     let refused = |n, vector: &[u8], room, number: u64, place: u64| {
-        (in_room(n, vector, room), vec![number, place, 0, 0, 0, 0, 0, 0])
+        (in_room(Call::WriteTree, n, vector, room), vec![number, place, 0, 0, 0, 0, 0, 0])
     };
     vec![
         refused(9, &[1; 512], 4096, 1, 0),

@@ -1,9 +1,9 @@
 //! A tree's list by document 02's rule, found by the costs of nodes, and what other rules would have written.
 
 use crate::differ::Case;
+use crate::products::{Product, breadth_first, cubes, left_in_out, second_first, upper_first};
 use model::cost::cost;
-use model::cube::{Cube, RECORD, encoded_list};
-use std::cmp::Reverse;
+use model::cube::Cube;
 use std::collections::HashMap;
 
 /// How a tree is found, how its list is written, and what is answered.
@@ -31,13 +31,6 @@ pub struct Rule {
     clears: bool,
 }
 
-/// The codes of a product, and at each node the number of the branch that leads to it.
-#[derive(Clone)]
-struct Product {
-    cube: Cube,
-    branches: Vec<usize>,
-}
-
 pub const DOCUMENT: Rule = Rule {
     name: "document 02's",
     leads: |_, code| code != 2,
@@ -63,17 +56,8 @@ pub const OTHERS: [Rule; 16] = [
     Rule { name: "negative Davio that keeps the lower function", negative_of_lower: true, ..DOCUMENT },
     Rule { name: "the last variable expanded first", from_the_last: true, ..DOCUMENT },
     Rule { name: "Shannon's upper function first", order: upper_first, ..DOCUMENT },
-    Rule {
-        name: "the second branch first",
-        order: |products| products.sort_by_key(|product| Reverse(product.branches.clone())),
-        ..DOCUMENT
-    },
-    Rule {
-        // At each level the first branches of all nodes, then their second ones.
-        name: "breadth first",
-        order: |products| products.sort_by_key(|product| product.branches.iter().rev().copied().collect::<Vec<_>>()),
-        ..DOCUMENT
-    },
+    Rule { name: "the second branch first", order: second_first, ..DOCUMENT },
+    Rule { name: "breadth first", order: breadth_first, ..DOCUMENT },
     Rule { name: "products answered for the cost", answered: |list| list.len(), ..DOCUMENT },
     Rule { name: "room by the cost", room: |list, _| cost(list), ..DOCUMENT },
     Rule { name: "room for a record of every assignment", room: |_, assignments| assignments, ..DOCUMENT },
@@ -85,14 +69,6 @@ fn first_least<T: Ord + Copy>(three: [T; 3]) -> usize {
     (0..3).min_by_key(|&k| three[k]).expect("there are three")
 }
 
-/// At a node by Shannon, and there alone, the first branch has a literal.
-fn upper_first(products: &mut [Product]) {
-    products.sort_by_key(|Product { cube, branches }| {
-        let number = |(&code, &branch)| if (code, branch) == (0, 0) { 2 } else { branch };
-        cube.iter().zip(branches).map(number).collect::<Vec<_>>()
-    });
-}
-
 /// The bytes of the output, the number of products and their cost; nothing where there is no room.
 pub type Outcome = Option<(Vec<u8>, usize, usize)>;
 
@@ -101,29 +77,19 @@ impl Rule {
     pub fn list(&self, vector: &[u8]) -> Vec<Cube> {
         let function = if self.from_the_last { turned_round(vector) } else { vector.to_vec() };
         let mut products = Vec::new();
-        let path = Product { cube: vec![], branches: vec![] };
-        Search { rule: self, known: Default::default() }.write(&function, false, path, &mut products);
+        Search { rule: self, known: Default::default() }.write(&function, false, Product::default(), &mut products);
         (self.order)(&mut products);
         if self.from_the_last {
             products.iter_mut().for_each(|product| product.cube.reverse());
         }
-        products.into_iter().map(|product| product.cube).collect()
+        cubes(products)
     }
 
     /// What comes of a call that came as far as its buffer.
     pub fn outcome(&self, case: &Case) -> Outcome {
         let list = self.list(&case.input);
-        let capacity = (case.out.len() / RECORD).min(4096);
-        (capacity >= (self.room)(&list, case.input.len())).then(|| {
-            let records = encoded_list(&list);
-            let mut out = case.out.clone();
-            let (written, rest) = out.split_at_mut(records.len().min(case.out.len()));
-            written.copy_from_slice(&records[..written.len()]);
-            if self.clears {
-                rest.fill(0);
-            }
-            (out, list.len(), (self.answered)(&list))
-        })
+        let out = left_in_out(case, &list, (self.room)(&list, case.input.len()), self.clears)?;
+        Some((out, list.len(), (self.answered)(&list)))
     }
 }
 
@@ -176,10 +142,7 @@ impl Search<'_> {
         }
         let expansion = self.find(function, literal_leads).expansion;
         for (number, branch) in self.branches(expansion, function, literal_leads).into_iter().enumerate() {
-            let mut path = path.clone();
-            path.cube.push(branch.code);
-            path.branches.push(number);
-            self.write(&branch.function, branch.literal_leads, path, products);
+            self.write(&branch.function, branch.literal_leads, path.by(number, branch.code), products);
         }
     }
 

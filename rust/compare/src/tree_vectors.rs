@@ -1,5 +1,5 @@
-//! Truth vectors for trees, by chance: of random functions, and of functions that have few ones, few coefficients under a
-//! polarity, few products in a tree, or as many values as there are numbers of ones among the variables.
+//! Truth vectors for trees and Kronecker forms, by chance: of random functions, and of functions that have few ones, few coefficients
+//! under a polarity, few products in a tree or of a choice, or as many values as there are numbers of ones among the variables.
 
 use crate::random::Random;
 use model::cube::truth_vector;
@@ -17,9 +17,10 @@ pub fn vector(random: &mut Random, width: usize, not_zero: bool) -> Vec<u8> {
             let p = random.below(length);
             polarity::vector(&few_ones(random, length), p)
         }
-        7 | 8 => {
-            let ones = random.between(2, 6);
-            truth_vector(width, &tree(random, width, ones).list(&[]))
+        7 | 8 => few_products(random, &vec![&Expansion::ALL[..]; width]),
+        9 => {
+            let choice: Vec<[Expansion; 1]> = (0..width).map(|_| [random.pick(&Expansion::ALL)]).collect();
+            few_products(random, &choice.iter().map(|one| &one[..]).collect::<Vec<_>>())
         }
         _ => random.bits(length),
     };
@@ -42,12 +43,18 @@ fn symmetric(random: &mut Random, length: usize) -> Vec<u8> {
     (0..length).map(|a| values[a.count_ones() as usize]).collect()
 }
 
-/// A tree of any expansions, in which one constant of so many is 1.
-fn tree(random: &mut Random, width: usize, one_in: usize) -> Tree {
-    if width == 0 {
+/// The vector of a tree that has, at every node of a variable, one of the variable's expansions.
+fn few_products(random: &mut Random, expansions: &[&[Expansion]]) -> Vec<u8> {
+    let ones = random.between(2, 6);
+    truth_vector(expansions.len(), &tree(random, expansions, ones).list(&[]))
+}
+
+/// Such a tree, in which one constant of so many is 1.
+fn tree(random: &mut Random, expansions: &[&[Expansion]], one_in: usize) -> Tree {
+    let Some((here, below)) = expansions.split_first() else {
         return Tree::Constant(u8::from(random.one_in(one_in)));
-    }
-    let by = random.pick(&Expansion::ALL);
-    let (first, second) = (tree(random, width - 1, one_in), tree(random, width - 1, one_in));
+    };
+    let by = random.pick(here);
+    let (first, second) = (tree(random, below, one_in), tree(random, below, one_in));
     Tree::node(by, [&first, &second])
 }

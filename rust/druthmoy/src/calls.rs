@@ -24,6 +24,15 @@ pub struct Tree {
     pub cost: u64,
 }
 
+/// The Kronecker form of a truth vector that costs least: what it costs, as a tree's list does, the choice that it is of, and its products.
+#[derive(Clone, Copy, Debug, PartialEq, Eq)]
+pub struct Kronecker {
+    pub cost: u64,
+    /// A digit to the base 3 for each variable, variable 0 the lowest: 0 Shannon, 1 positive Davio, 2 negative Davio.
+    pub choice: u64,
+    pub products: u64,
+}
+
 /// The counts of a run: of its result, and the greatest that it met.
 #[derive(Clone, Copy, Debug, PartialEq, Eq)]
 pub struct Run {
@@ -96,6 +105,13 @@ pub fn best_polarity(n: u64, vector: &[u8]) -> Result<Fixed, Refusal> {
 /// each node by Shannon, positive Davio or negative Davio; of several that cost least the first of these is taken, at each node.
 pub fn write_tree(n: u64, vector: &[u8], out: &mut [u8]) -> Result<Tree, Refusal> {
     accepted(words::write_tree(n, vector, out)).map(|[products, cost, ..]| Tree { products, cost })
+}
+
+/// Writes the list of a truth vector's cheapest Kronecker form to the front of `out`, for at most 6 variables. Such a form has one expansion for each
+/// variable, at every node of the tree; of several choices that cost least the smallest is taken.
+pub fn write_kronecker(n: u64, vector: &[u8], out: &mut [u8]) -> Result<Kronecker, Refusal> {
+    let [cost, choice, products, ..] = accepted(words::write_kronecker(n, vector, out))?;
+    Ok(Kronecker { cost, choice, products })
 }
 
 /// Runs a script on a list; the result stands at the front of `work`, with zeros after it.

@@ -57,6 +57,19 @@
 //! assert_eq!(cubes.take(tree.products as usize).collect::<Vec<_>>(), ["000", "111"]);
 //! ```
 //!
+//! Where there must be one expansion for each variable, the list of the cheapest such form is written, here of positive Davio for variable 0 and
+//! Shannon for the others:
+//!
+//! ```
+//! use druthmoy::{Cube, Kronecker, write_kronecker};
+//!
+//! let mut out = vec![0; 64];
+//! let form = write_kronecker(3, &[1, 1, 0, 0, 0, 0, 0, 1], &mut out).unwrap();
+//! assert_eq!(form, Kronecker { cost: 2, choice: 1, products: 2 });
+//! let cubes = out.as_chunks().0.iter().map(|&record| Cube::from_record(record).written(3));
+//! assert_eq!(cubes.take(form.products as usize).collect::<Vec<_>>(), ["-00", "111"]);
+//! ```
+//!
 //! The products that are true at a label, by their places, say why it has its bit:
 //!
 //! ```
@@ -99,8 +112,9 @@ mod refusal;
 pub mod words;
 
 pub use calls::{
-    Fixed, Run, Settled, Tree, Value, Written, best_polarity, check, coefficients, compact, narrow_from_wide, reasons,
-    run, settle, truth_vector, value, vector, wide_from_narrow, write_form, write_script, write_tree,
+    Fixed, Kronecker, Run, Settled, Tree, Value, Written, best_polarity, check, coefficients, compact,
+    narrow_from_wide, reasons, run, settle, truth_vector, value, vector, wide_from_narrow, write_form, write_kronecker,
+    write_script, write_tree,
 };
 pub use records::{Cube, NARROW_RECORD, NotACube, PLACE, RECORD, STEP, Step};
 pub use refusal::{Fault, Refusal};

@@ -56,6 +56,14 @@ unsafe extern "C" {
         out_length: usize,
         answer: *mut u64,
     );
+    pub fn dm_write_kronecker(
+        n: u64,
+        vector: *const u8,
+        vector_length: usize,
+        out: *mut u8,
+        out_length: usize,
+        answer: *mut u64,
+    );
     pub fn dm_run(
         n: u64,
         list: *const u8,

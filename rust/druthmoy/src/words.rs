@@ -87,6 +87,15 @@ pub fn write_tree(n: u64, vector: &[u8], out: &mut [u8]) -> Words {
 }
 
 #[inline]
+pub fn write_kronecker(n: u64, vector: &[u8], out: &mut [u8]) -> Words {
+    let mut answer = UNANSWERED;
+    unsafe {
+        raw::dm_write_kronecker(n, vector.as_ptr(), vector.len(), out.as_mut_ptr(), out.len(), answer.as_mut_ptr());
+    }
+    answer
+}
+
+#[inline]
 pub fn run(n: u64, list: &[u8], script: &[u8], work: &mut [u8]) -> Words {
     let mut answer = UNANSWERED;
     unsafe {

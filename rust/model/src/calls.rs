@@ -3,6 +3,7 @@
 use crate::compactor;
 use crate::cost::cost;
 use crate::cube::{self, Cube, NARROW_RECORD, PLACE, RECORD, encoded_list, encoded_narrow_list, encoded_places};
+use crate::kronecker;
 use crate::polarity;
 use crate::refusal::{Refusal, refuse_at_if, refuse_if};
 use crate::script::{self, STEP, STEPS, Step, encoded_script};
@@ -26,6 +27,9 @@ pub fn words(outcome: &Outcome) -> [u64; 8] {
 /// Document 02, Seven: "lists hold n up to 32", and "the limits of 8 variables stay".
 const MOST_VARIABLES: u64 = 32;
 const VECTOR_VARIABLES: u64 = 8;
+
+/// Document 02, Ten: "for at most 6 variables".
+const KRONECKER_VARIABLES: u64 = 6;
 
 /// The variables that an old list's records have bits for.
 const NARROW_VARIABLES: u64 = 16;
@@ -58,7 +62,7 @@ pub fn truth_vector(n: u64, list: &[u8], out: &mut [u8]) -> Outcome {
 }
 
 pub fn coefficients(n: u64, vector: &[u8], p: u64, out: &mut [u8]) -> Outcome {
-    check_bits(n, vector)?;
+    check_bits(n, VECTOR_VARIABLES, vector)?;
     refuse_if(has_bit_from(n, p), 15)?;
     refuse_if(out.len() < 1 << n, 5)?;
     write_front(out, &polarity::coefficients(vector, p as usize));
@@ -66,7 +70,7 @@ pub fn coefficients(n: u64, vector: &[u8], p: u64, out: &mut [u8]) -> Outcome {
 }
 
 pub fn vector(n: u64, coefficients: &[u8], p: u64, out: &mut [u8]) -> Outcome {
-    check_bits(n, coefficients)?;
+    check_bits(n, VECTOR_VARIABLES, coefficients)?;
     refuse_if(has_bit_from(n, p), 15)?;
     refuse_if(out.len() < 1 << n, 5)?;
     write_front(out, &polarity::vector(coefficients, p as usize));
@@ -74,7 +78,7 @@ pub fn vector(n: u64, coefficients: &[u8], p: u64, out: &mut [u8]) -> Outcome {
 }
 
 pub fn write_form(n: u64, coefficients: &[u8], p: u64, out: &mut [u8]) -> Outcome {
-    check_bits(n, coefficients)?;
+    check_bits(n, VECTOR_VARIABLES, coefficients)?;
     refuse_if(has_bit_from(n, p), 15)?;
     let form = polarity::form(n as usize, coefficients, p as usize);
     refuse_if(capacity(out) < form.len(), 5)?;
@@ -83,18 +87,28 @@ pub fn write_form(n: u64, coefficients: &[u8], p: u64, out: &mut [u8]) -> Outcom
 }
 
 pub fn best_polarity(n: u64, vector: &[u8]) -> Outcome {
-    check_bits(n, vector)?;
+    check_bits(n, VECTOR_VARIABLES, vector)?;
     let best = polarity::best(n as usize, vector);
     Ok(vec![best.polarity as u64, best.size as u64])
 }
 
 /// Document 02, Six: "write its list, answering its products and cost"; "refusals: those of writing a form's list, without 15".
 pub fn write_tree(n: u64, vector: &[u8], out: &mut [u8]) -> Outcome {
-    check_bits(n, vector)?;
+    check_bits(n, VECTOR_VARIABLES, vector)?;
     let list = trees::list(vector);
     refuse_if(capacity(out) < list.len(), 5)?;
     write_front(out, &encoded_list(&list));
     Ok(vec![list.len() as u64, cost(&list) as u64])
+}
+
+/// Document 02, Ten: "answer the least cost and, among those, the smallest choice, and write that list in Six's order"; "refusals:
+/// those of Six, with 1 at n above 6".
+pub fn write_kronecker(n: u64, vector: &[u8], out: &mut [u8]) -> Outcome {
+    check_bits(n, KRONECKER_VARIABLES, vector)?;
+    let form = kronecker::cheapest(n as usize, vector);
+    refuse_if(capacity(out) < form.list.len(), 5)?;
+    write_front(out, &encoded_list(&form.list));
+    Ok([cost(&form.list), form.choice, form.list.len()].map(|value| value as u64).to_vec())
 }
 
 pub fn run(n: u64, list: &[u8], script: &[u8], work: &mut [u8]) -> Outcome {
@@ -203,8 +217,8 @@ fn checked_script(n: u64, script: &[u8]) -> Result<Vec<Step>, Refusal> {
 }
 
 /// Rules 1 and 14.
-fn check_bits(n: u64, bits: &[u8]) -> Result<(), Refusal> {
-    refuse_if(n > VECTOR_VARIABLES, 1)?;
+fn check_bits(n: u64, limit: u64, bits: &[u8]) -> Result<(), Refusal> {
+    refuse_if(n > limit, 1)?;
     refuse_at_if(bits.len() != 1 << n, 14, 1 << n)?;
     let bad = bits.iter().position(|&byte| byte > 1);
     refuse_at_if(bad.is_some(), 14, bad.unwrap_or(0))

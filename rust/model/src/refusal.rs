@@ -25,7 +25,7 @@ pub fn refuse_cubes_if(broken: bool, number: u64, place: usize, differing: &[usi
 }
 
 /// The numbers that each call can answer, in the order in which it tests them.
-pub const ORDERS: [(&str, &[u64]); 15] = [
+pub const ORDERS: [(&str, &[u64]); 16] = [
     ("check", &[1, 2, 3, 4]),
     ("value", &[1, 2, 3, 4, 6]),
     ("reasons", &[1, 2, 3, 4, 6, 5]),
@@ -35,6 +35,7 @@ pub const ORDERS: [(&str, &[u64]); 15] = [
     ("write_form", &[1, 14, 15, 5]),
     ("best_polarity", &[1, 14]),
     ("write_tree", &[1, 14, 5]),
+    ("write_kronecker", &[1, 14, 5]),
     ("run", &[1, 2, 3, 4, 5, 7, 8, 9, 10, 11, 16, 17, 18, 19, 13]),
     ("settle", &[1, 2, 3, 4, 5, 7, 8, 9, 10, 11, 16, 17, 18, 19, 13]),
     // 5 of the work buffer, then of the script buffer.

@@ -12,6 +12,8 @@ use model::script::{self, encoded_script};
 
 #[path = "examples/compact.rs"]
 mod compact;
+#[path = "examples/write_kronecker.rs"]
+mod write_kronecker;
 #[path = "examples/write_script.rs"]
 mod write_script;
 #[path = "examples/write_tree.rs"]
@@ -23,6 +25,16 @@ fn list(cubes: &[&str]) -> Vec<Cube> {
 
 fn records(cubes: &[&str]) -> Vec<u8> {
     encoded_list(&list(cubes))
+}
+
+/// The vectors of all functions of n variables.
+fn all_functions(n: usize) -> impl Iterator<Item = Vec<u8>> {
+    (0..1u32 << (1 << n)).map(move |function| (0..1 << n).map(|a| (function >> a & 1) as u8).collect())
+}
+
+/// Whether an odd number of n variables is 1.
+fn parity(n: u32) -> Vec<u8> {
+    (0..1u32 << n).map(|a| (a.count_ones() % 2) as u8).collect()
 }
 
 /// The list after one step, before any L step is undone.
@@ -221,6 +233,7 @@ fn limits() {
     assert_eq!(calls::write_form(33, &[], 0, &mut out), refused(1, 0));
     assert_eq!(calls::best_polarity(33, &[]), refused(1, 0));
     assert_eq!(calls::write_tree(33, &[], &mut out), refused(1, 0));
+    assert_eq!(calls::write_kronecker(33, &[], &mut out), refused(1, 0));
     assert_eq!(calls::run(33, &[], &[], &mut work), refused(1, 0));
     assert_eq!(calls::settle(33, &[], &[], &mut work, &mut out), refused(1, 0));
     assert_eq!(calls::write_script(33, &[], &mut work, &mut out), refused(1, 0));

@@ -123,6 +123,21 @@ pub unsafe extern "C" fn dm_write_tree(
 }
 
 #[unsafe(no_mangle)]
+pub unsafe extern "C" fn dm_write_kronecker(
+    n: u64,
+    vector: *const u8,
+    vector_length: usize,
+    out: *mut u8,
+    out_length: usize,
+    answer: *mut u64,
+) {
+    unsafe {
+        let out = from_raw_parts_mut(out, out_length);
+        give(calls::write_kronecker(n, from_raw_parts(vector, vector_length), out), answer)
+    }
+}
+
+#[unsafe(no_mangle)]
 pub unsafe extern "C" fn dm_run(
     n: u64,
     list: *const u8,

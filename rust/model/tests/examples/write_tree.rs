@@ -1,6 +1,6 @@
 //! Document 02, Six.
 
-use super::{list, records, refused};
+use super::{all_functions, list, parity, records, refused};
 use model::calls::{self, Outcome};
 use model::cost::{cost, standing};
 use model::cube::{RECORD, truth_vector};
@@ -13,14 +13,6 @@ use model::trees::{self, Tree, cheapest};
 fn writes(vector: &[u8], cubes: &[&str], cost: usize) {
     let written = trees::list(vector);
     assert_eq!((written, standing(&list(cubes))), (list(cubes), (cost, cubes.len())), "{vector:?}");
-}
-
-fn all_functions(n: usize) -> impl Iterator<Item = Vec<u8>> {
-    (0..1u32 << (1 << n)).map(move |function| (0..1 << n).map(|a| (function >> a & 1) as u8).collect())
-}
-
-fn parity(n: u32) -> Vec<u8> {
-    (0..1u32 << n).map(|a| (a.count_ones() % 2) as u8).collect()
 }
 
 #[test]
