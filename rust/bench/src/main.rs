@@ -197,20 +197,35 @@ fn polarities(highest: &mut f64) {
 }
 
 fn trees(highest: &mut f64) {
-    for (n, size) in [(0, "n = 0"), (1, "n = 1"), (2, "n = 2"), (3, "n = 3"), (8, "n = 8")] {
-        let vector = &bits(n);
-        let n = u64::from(n);
-        row(
-            highest,
-            "write tree",
-            size,
-            |_, out| words::write_tree(n, black_box(vector), out),
-            |_, out| answered(|answer| plain::write_tree::<ByWords>(n, black_box(vector), out, answer)),
-            Another(|_: &mut [u8], out: &mut [u8]| {
-                answered(|answer| plain::write_tree::<ByBytes>(n, black_box(vector), out, answer))
-            }),
-        );
+    use plain::{write_kronecker, write_tree};
+    let few = [(0, "n = 0"), (1, "n = 1"), (2, "n = 2"), (3, "n = 3")];
+    for (n, size) in few.into_iter().chain([(8, "n = 8")]) {
+        list_row(highest, ("write tree", n, size), words::write_tree, write_tree::<ByWords>, write_tree::<ByBytes>);
     }
+    for (n, size) in few.into_iter().chain([(6, "n = 6")]) {
+        let (same_way, straightforward) = (write_kronecker::<ByWords>, write_kronecker::<ByBytes>);
+        list_row(highest, ("write kronecker", n, size), words::write_kronecker, same_way, straightforward);
+    }
+}
+
+/// A call that writes a list for a vector.
+fn list_row(
+    highest: &mut f64,
+    (call, n, size): (&str, u32, &str),
+    library: impl Fn(u64, &[u8], &mut [u8]) -> plain::Words,
+    same_way: impl Fn(u64, &[u8], &mut [u8], &mut plain::Words),
+    straightforward: impl Fn(u64, &[u8], &mut [u8], &mut plain::Words),
+) {
+    let vector = &bits(n);
+    let n = u64::from(n);
+    row(
+        highest,
+        call,
+        size,
+        |_, out| library(n, black_box(vector), out),
+        |_, out| answered(|answer| same_way(n, black_box(vector), out, answer)),
+        Another(|_: &mut [u8], out: &mut [u8]| answered(|answer| straightforward(n, black_box(vector), out, answer))),
+    );
 }
 
 /// Plain Rust's refusals at a step: each number with its place and its number of differing variables.

@@ -6,6 +6,8 @@ mod bytes;
 mod compactor;
 mod converters;
 mod cube;
+mod kronecker_choices;
+mod kronecker_tables;
 mod lists;
 mod orders;
 mod script;
@@ -22,7 +24,7 @@ pub use converters::{narrow_from_wide, wide_from_narrow};
 pub use lists::{check, reasons, truth_vector, value};
 pub use script::run;
 pub use settling::settle;
-pub use trees::write_tree;
+pub use trees::{write_kronecker, write_tree};
 pub use vectors::{ByBytes, ByWords, best_polarity, coefficients, vector, write_form};
 pub use writer::{ByMarks, FromTheFront, pass, write_script};
 

@@ -6,8 +6,8 @@ use super::trees::{ONE, Tree};
 /// A function's list, and what it costs.
 #[derive(Clone)]
 pub struct ByLists {
-    cost: usize,
-    list: Vec<Cube>,
+    pub cost: usize,
+    pub list: Vec<Cube>,
 }
 
 impl ByLists {

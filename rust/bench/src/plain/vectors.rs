@@ -1,6 +1,8 @@
 //! The calls on vectors of at most 8 variables, in either of two ways.
 
 use super::cube::{Cube, RECORD, records};
+use super::kronecker_choices;
+use super::kronecker_tables::ByTable;
 use super::tree_costs::ByCosts;
 use super::tree_lists::ByLists;
 use super::trees::Tree;
@@ -17,7 +19,12 @@ pub trait Way {
     /// The polarity with the least cost, then the fewest products, then the smallest p, and how many products it has.
     fn best(n: u64, vector: &[u8]) -> (usize, usize);
     fn tree(n: u64, vector: &[u8]) -> impl Tree;
+    /// For at most 6 variables, the choice that costs least, then the smallest, and its tree.
+    fn kronecker(n: u64, vector: &[u8]) -> (usize, impl Tree);
 }
+
+/// Variables of a vector, at most.
+pub const VECTOR_VARIABLES: u64 = 8;
 
 /// The library's way: four words, or one where that is enough.
 pub struct ByWords;
@@ -58,6 +65,11 @@ impl Way for ByWords {
     fn tree(n: u64, vector: &[u8]) -> impl Tree {
         ByCosts::of(n, vector)
     }
+
+    fn kronecker(n: u64, vector: &[u8]) -> (usize, impl Tree) {
+        let form = ByTable::of(n, vector);
+        (form.choice(), form)
+    }
 }
 
 impl Way for ByBytes {
@@ -84,6 +96,10 @@ impl Way for ByBytes {
     fn tree(_: u64, vector: &[u8]) -> impl Tree {
         ByLists::of(vector)
     }
+
+    fn kronecker(_: u64, vector: &[u8]) -> (usize, impl Tree) {
+        kronecker_choices::cheapest(vector)
+    }
 }
 
 #[inline(never)]
@@ -104,7 +120,7 @@ pub fn vector<W: Way>(n: u64, coefficients: &[u8], p: u64, out: &mut [u8], answe
 
 #[inline(never)]
 pub fn best_polarity<W: Way>(n: u64, vector: &[u8], answer: &mut Words) {
-    *answer = words(check_bits::<W>(n, vector).map(|()| {
+    *answer = words(check_bits::<W>(n, VECTOR_VARIABLES, vector).map(|()| {
         let (p, size) = W::best(n, vector);
         [p as u64, size as u64]
     }));
@@ -123,8 +139,8 @@ pub fn write_cubes(coefficients: &[u8], p: usize, out: &mut [u8]) {
 }
 
 /// Rules 1 and 14.
-pub fn check_bits<W: Way>(n: u64, bits: &[u8]) -> Result<(), Refusal> {
-    refuse_if(n > 8, 1)?;
+pub fn check_bits<W: Way>(n: u64, limit: u64, bits: &[u8]) -> Result<(), Refusal> {
+    refuse_if(n > limit, 1)?;
     if bits.len() != 1 << n {
         return refusal(14, 1 << n);
     }
@@ -136,14 +152,14 @@ pub fn check_bits<W: Way>(n: u64, bits: &[u8]) -> Result<(), Refusal> {
 
 /// Rules 1, 14, 15 and 5; the length.
 fn checked<W: Way>(n: u64, bits: &[u8], p: u64, room: usize) -> Result<usize, Refusal> {
-    check_bits::<W>(n, bits)?;
+    check_bits::<W>(n, VECTOR_VARIABLES, bits)?;
     refuse_if(p >> n != 0, 15)?;
     refuse_if(room < bits.len(), 5)?;
     Ok(bits.len())
 }
 
 fn try_write_form(n: u64, coefficients: &[u8], p: u64, out: &mut [u8]) -> Result<[u64; 1], Refusal> {
-    check_bits::<ByWords>(n, coefficients)?;
+    check_bits::<ByWords>(n, VECTOR_VARIABLES, coefficients)?;
     refuse_if(p >> n != 0, 15)?;
     let count = coefficients.iter().filter(|&&coefficient| coefficient != 0).count();
     refuse_if(records(out).len() < count, 5)?;

@@ -210,8 +210,25 @@ impl Word {
     }
 
     #[inline]
-    fn lowered(self, k: usize) -> Word {
+    pub fn lowered(self, k: usize) -> Word {
         Word(self.0 ^ self.0 >> (1 << k) & WITHOUT[k])
+    }
+
+    /// The half with variable k, at the places of the half without it.
+    #[inline]
+    pub fn upper(self, k: usize) -> Word {
+        Word(self.0 ^ self.lowered(k).0)
+    }
+
+    /// The first bit.
+    #[inline]
+    pub fn first(self) -> usize {
+        (self.0 & 1) as usize
+    }
+
+    #[inline]
+    pub fn bits(self) -> u64 {
+        self.0
     }
 
     pub fn transformed(self, n: u64) -> Word {
