@@ -64,6 +64,10 @@ pub record LeastEntry (l : List ℕ) (r : Found) : Type 0 where
   pub cost-is : r .cost ≡ getD l (r .choice) 0
   pub products-are : r .products ≡ getD l (r .choice) 0
 
+-- with no variable left, of an entry and the function's value x there: the product is free where x is 1
+abbrev pub lowestOf : ℕ → ℕ → Found
+lowestOf entry x = record { cost = entry - x; choice = 0; products = entry }
+
 -- of two that are each found in a range, where y's choices count from `from` on: y where it costs less, else x
 unfoldable pub lesserFrom : Found → Found → ℕ → Found
 lesserFrom x y from = cond (ltb (y .cost) (x .cost)) (record { cost = y .cost; choice = from + y .choice; products = y .products }) x

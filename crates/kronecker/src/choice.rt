@@ -87,6 +87,10 @@ fn put_choice(
     let v = second_half(by, k, w);
     let x = node::first_cube(by, k, c);
     let y = node::second_cube(by, k, c);
+    if m == 0 {
+        let next = tree::put_leaf(u, x, out, at);
+        return tree::put_leaf(v, y, out, next);
+    }
     let next = put_choice(j, m, rest, u, x, out, at);
     put_choice(j, m, rest, v, y, out, next)
 }

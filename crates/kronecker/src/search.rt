@@ -3,10 +3,10 @@
 use crate::Found;
 use crate::table;
 ghost use mathlib.Core.Path.{_≡_};
-ghost use Prim.Native.Nat.{_^_, _≤_, _<_};
+ghost use Prim.Native.Nat.{_%_, _^_, _≤_, _<_};
 ghost use lib.ListN.{length};
 ghost use Rattle.bits.specs.Bits.{bit};
-ghost use Rattle.kronecker.specs.Words.{lesserFrom, Covers, LeastEntry, FoundIn, FoundIs};
+ghost use Rattle.kronecker.specs.Words.{lowestOf, lesserFrom, Covers, LeastEntry, FoundIn, FoundIs};
 
 // The least entry, and of several such the first: a choice that has no free product costs what it has of products.
 fn least_entry(table: &[u8]) -> Found
@@ -47,18 +47,40 @@ fn lesser_from(x: Found, y: Found, from: usize) -> Found
     x
 }
 
-// The cheapest of the choices whose entry these are. By the highest variable: below Shannon no product is free, below a Davio expansion those of its first branch.
+// With no variable left: the one entry, of which the product is free where the function, the lowest bit of w, is 1.
+fn lowest(entry: u8, w: u64) -> Found
+    requires { ⌜ w % 2 ≤ entry ⌝ }
+    ensures { λ r. ⌜ r ≡ lowestOf entry (w % 2) ⌝ }
+{
+    let products = entry as usize;
+    Found {
+        cost: products - (w % 2) as usize,
+        choice: 0,
+        products,
+    }
+}
+
+// With one variable left: three entries. Below Shannon no product is free.
+fn least_of_one(w: u64, table: &[u8]) -> Found
+    requires { ⌜ Covers 1 (bit w) (now table) ⌝ }
+    ensures { λ r. ⌜ FoundIn 1 (bit w) (now (table .entry)) r ⌝ }
+{
+    let shannon = lowest(table[0], 0);
+    let positive = lowest(table[1], w);
+    let negative = lowest(table[2], w >> 1);
+    lesser_from(lesser_from(shannon, positive, 1), negative, 2)
+}
+
+// The cheapest of the choices whose entries these are. By the highest variable: below Shannon no product is free, below a Davio expansion those of its first branch.
 fn least_of(left: usize, w: u64, table: &[u8]) -> Found
     requires { ⌜ (left ≤ 6) × Covers left (bit w) (now table) ⌝ }
     ensures { λ r. ⌜ FoundIn left (bit w) (now (table .entry)) r ⌝ }
 {
     if left == 0 {
-        let products = table[0] as usize;
-        return Found {
-            cost: products - (w % 2) as usize,
-            choice: 0,
-            products,
-        };
+        return lowest(table[0], w);
+    }
+    if left == 1 {
+        return least_of_one(w, table);
     }
     let m = left - 1;
     let half: usize = 1 << m;

@@ -2,7 +2,7 @@
 -- Assumes nothing.
 use mathlib.Core.Path.{_≡_, refl, sym, ap, _∙_, subst}
 use mathlib.Core.Bool.{Bool, true, false}
-use mathlib.Core.List.{List}
+use mathlib.Core.List.{List, [], _∷_}
 use Prim.Native.Nat.{ℕ, suc, _+_, _-_, _*_, _/_, _%_, _^_, _≤_, _<_}
 use native.Mathlib.Nat.{pow-suc}
 use native.Mathlib.Omega.{arith}
@@ -15,10 +15,10 @@ use Rattle.bits.proofs.Least.{in-one}
 use Rattle.trees.specs.Trees.{treeCost}
 use Rattle.kronecker.specs.declared.Found.{Found}
 use Rattle.kronecker.specs.Choices.{choiceTree}
-use Rattle.kronecker.specs.Words.{highHalf, sumHalf, highest, productsOf, saved, LeastEntry, lesserFrom, Covers, costIn, FoundIn}
+use Rattle.kronecker.specs.Words.{highHalf, sumHalf, highest, productsOf, saved, LeastEntry, lowestOf, lesserFrom, Covers, costIn, FoundIn}
 use Rattle.kronecker.proofs.Highest.{lowest-products, lowest-free, shannon-digit, positive-digit, negative-digit, upper-word}
 use Rattle.kronecker.proofs.table.Filling as filled
-use Rattle.kronecker.proofs.search.Ranges.{Cheapest, cheapest-is, is-cheapest, cheapest-alike, cheapest-both, entry, entry-cheapest, power-some, power-most}
+use Rattle.kronecker.proofs.search.Ranges.{Cheapest, cheapest-is, is-cheapest, cheapest-alike, cheapest-both, entry, entry-cheapest, passed-one, passed-all, power-some, power-most}
 
 -- ---- what is found, as the cheapest
 
@@ -137,25 +137,49 @@ module _ {left w : ℕ} {l : List ℕ} (P : Parted left w l) where
 
 -- ---- with no variable left: one entry, and its product is free
 
-abbrev pub lowest : ℕ → List ℕ → Found
-lowest w l = record { cost = getD l 0 0 - w % 2; choice = 0; products = getD l 0 0 }
-
-module _ (left w : ℕ) (l : List ℕ) (none : left ≡ 0) (C : Covers left (bit w) l) where
-  only : Covers 0 (bit w) l
-  only = subst (λ (x : ℕ). Covers x (bit w) l) none C
-
+module _ (w : ℕ) (l : List ℕ) (C : Covers 0 (bit w) l) where
   lowest-saved : saved 0 (bit w) 0 ≡ w % 2
   lowest-saved = omega (arith, lowest-products w 0, lowest-free (bit w) 0)
 
   pub lowest-some : 0 < length l
-  lowest-some = omega (arith, only .long)
+  lowest-some = omega (arith, C .long)
 
   pub lowest-most : w % 2 ≤ getD l 0 0
-  lowest-most = omega (arith, lowest-saved, only .at 0 (omega arith))
+  lowest-most = omega (arith, lowest-saved, C .at 0 (omega arith))
 
-  pub lowest-found : FoundIn left (bit w) l (lowest w l)
-  lowest-found = subst (λ (x : ℕ). FoundIn x (bit w) l (lowest w l)) (sym none) (cheapest-found 0 (bit w) l (lowest w l) record {
+  pub lowest-found : FoundIn 0 (bit w) l (lowestOf (getD l 0 0) (w % 2))
+  lowest-found = cheapest-found 0 (bit w) l (lowestOf (getD l 0 0) (w % 2)) record {
     least = in-one (costIn 0 (bit w) l) 0 1 refl;
     cost-is = ap (λ (x : ℕ). getD l 0 0 - x) (sym lowest-saved);
     products-are = refl;
-  })
+  }
+
+-- ---- with one left: three parts of one entry each
+
+one-parted : (w : ℕ) (l : List ℕ) → Covers 1 (bit w) l → Parted 1 w l
+one-parted w l C = record { few = omega arith; more = λ e. omega arith; covers = C }
+
+-- no entry is below the bit that is taken off
+pub one-most : (w : ℕ) (l : List ℕ) → Covers 1 (bit w) l → (w % 2 ≤ getD l 1 0) × (w / 2 ^ 1 % 2 ≤ getD l 2 0)
+one-most w [] C = absurd (omega (arith, C .long))
+one-most w (a ∷ []) C = absurd (omega (arith, C .long))
+one-most w (a ∷ b ∷ []) C = absurd (omega (arith, C .long))
+one-most w (a ∷ b ∷ c ∷ []) C =
+    let P = one-parted w (a ∷ b ∷ c ∷ []) C in (lowest-most w (b ∷ []) (middle P .covers), lowest-most (w / 2 ^ 1) (c ∷ []) (last P .covers))
+one-most w (a ∷ b ∷ c ∷ d ∷ l) C = absurd (omega (arith, C .long))
+
+pub one-found : (w : ℕ) (l : List ℕ) → Covers 1 (bit w) l
+    → (x y z q r : Found) → x ≡ lowestOf (getD l 0 0) 0 → y ≡ lowestOf (getD l 1 0) (w % 2) → z ≡ lowestOf (getD l 2 0) (w / 2 ^ 1 % 2)
+    → q ≡ lesserFrom x y 1 → r ≡ lesserFrom q z 2 → FoundIn 1 (bit w) l r
+one-found w [] C x y z q r ex ey ez eq er = absurd (omega (arith, C .long))
+one-found w (a ∷ []) C x y z q r ex ey ez eq er = absurd (omega (arith, C .long))
+one-found w (a ∷ b ∷ []) C x y z q r ex ey ez eq er = absurd (omega (arith, C .long))
+one-found w (a ∷ b ∷ c ∷ []) C x y z q r ex ey ez eq er =
+    let P = one-parted w (a ∷ b ∷ c ∷ []) C in
+    let all : a - 0 ≡ a = omega arith in
+    parts-found P x y z q r
+    (subst (LeastEntry (a ∷ [])) (sym (ex ∙ ap (λ (k : ℕ). record { cost = k; choice = 0; products = a }) all)) (passed-all (a ∷ []) 1 a 0 (passed-one (a ∷ [])) refl))
+    (subst (FoundIn 0 (bit w) (b ∷ [])) (sym ey) (lowest-found w (b ∷ []) (middle P .covers)))
+    (subst (FoundIn 0 (bit (w / 2 ^ 1)) (c ∷ [])) (sym ez) (lowest-found (w / 2 ^ 1) (c ∷ []) (last P .covers)))
+    eq er
+one-found w (a ∷ b ∷ c ∷ d ∷ l) C x y z q r ex ey ez eq er = absurd (omega (arith, C .long))

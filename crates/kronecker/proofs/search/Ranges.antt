@@ -65,7 +65,7 @@ cheapest-both cost products t m x y X Y end e r er =
       products-are = X .products-are;
     }
 
--- ---- of a table's entry, where each is its choice's cost and its products
+-- ---- of a table's entries, where each is its choice's cost and its products
 
 abbrev pub entry : List ℕ → ℕ → ℕ
 entry l i = getD l i 0

@@ -38,7 +38,7 @@ module _ (n : ℕ) (f : ℕ → ℕ) (l : List ℕ) (e : l ≡ productsOfAll n f
         products-are = C .products-are ∙ ap (λ (x : ℕ). length (choiceList n x f)) is;
       }
 
--- in front of other entry
+-- in front of other entries
 module _ (n m : ℕ) (f : ℕ → ℕ) (x y : List ℕ) (em : m ≡ 3 ^ n) (ex : x ≡ productsOfAll n f) where
   long : length x ≡ m
   long = all-covers n f x ex .long ∙ sym em

@@ -1,13 +1,18 @@
 -- The proof of the cycle of calls {least_of}. The measure is the number of variables that are left.
 -- Assumes nothing.
-use mathlib.Core.Path.{sym}
+use mathlib.Core.Path.{sym, subst, subst₂}
 use Prim.Native.Nat.{ℕ, _<_}
 use native.Mathlib.Omega.{arith}
 use borrow.Author.Needs.{needs}
 use borrow.Fn.Kinds.{In}
 use borrow.Fn.PlainCycle.{Measures, is, falls, and}
 use lib.Seq.{length-take-le}
+use Rattle.bits.specs.Bits.{bit}
+use Rattle.kronecker.specs.declared.Found.{Found}
+use Rattle.kronecker.specs.Words.{Covers, FoundIn}
 use Rattle.kronecker.proofs.search.Parts.{found-few, Parted, table-few, half-few, first-some, middle, last, parts-found, lowest-some, lowest-most, lowest-found}
+use Rattle.kronecker.proofs.search.least_of_one.Reads as least-of-one-reads
+use Rattle.kronecker.proofs.search.lowest.Reads as lowest-reads
 use Rattle.kronecker.proofs.search.least_of.Reads as least-of
 use Rattle.kronecker.proofs.search.least_of.Kinds as least-of-kinds
 use Rattle.kronecker.proofs.search.+least_of.Lts-least_of as lts
@@ -28,23 +33,37 @@ module _ (t : ℕ) where
 
   -- the contracts of what it calls
   abbrev calls : lts.Claims
-  calls = (least-entry-reads.Asked, least-entry-reads.Learnt, below, least-of.Post, lesser-from-reads.Asked, lesser-from-reads.Learnt)
+  calls = (lowest-reads.Asked, lowest-reads.Learnt, least-of-one-reads.Asked, least-of-one-reads.Learnt, least-entry-reads.Asked, least-entry-reads.Learnt, below, least-of.Post, lesser-from-reads.Asked, lesser-from-reads.Learnt)
 
-  shared-slice-read-products : lts.Need-shared-slice-read-products calls at least-of.Post
-  shared-slice-read-products c = let s = c .before .before .before in lowest-some _ _ _ (c .before .if1 .taken) (s .pre .1 .1)
+  -- with no variable left
+  none : (e : lts.Then1 calls at least-of.Post) → let s = e .before .before in Covers 0 (bit (s .args .w)) (s .args .table .now)
+  none e = let s = e .before .before in subst (λ (k : ℕ). Covers k (bit (s .args .w)) (s .args .table .now)) (e .if1 .taken) (s .pre .1 .1)
 
-  cast-products : lts.Need-cast-products calls at least-of.Post
-  cast-products c = omega (arith, c .shared-slice-known2 .given 0)
+  shared-slice-read-lowest : lts.Need-shared-slice-read-lowest calls at least-of.Post
+  shared-slice-read-lowest c = lowest-some _ _ (none (c .before))
 
-  sub-t17 : lts.Need-sub-t17 calls at least-of.Post
-  sub-t17 c = let s = c .before .before .before in lowest-most _ _ _ (c .before .if1 .taken) (s .pre .1 .1)
+  lowest-requires : lts.Need-lowest-requires calls at least-of.Post
+  lowest-requires c κs = lowest-most _ _ (none (c .before))
 
   returns : lts.Need-returns calls at least-of.Post
-  returns c = let s = c .before .before .before in lowest-found _ _ _ (c .before .if1 .taken) (s .pre .1 .1)
+  returns c =
+      let e = c .before .before in
+      let s = e .before .before in
+      subst₂ (λ (k : ℕ) (r : Found). FoundIn k (bit (s .args .w)) (s .args .table .now) r) (sym (e .if1 .taken)) (sym (c .lowest .ensures)) (lowest-found _ _ (none e))
 
-  -- where a variable is left
-  parted : (e : lts.Else1 calls at least-of.Post) → let s = e .before .before in Parted (s .args .left) (s .args .w) (s .args .table .now)
-  parted e = let s = e .before .before in record { few = s .pre .1 .0; more = e .if1 .left; covers = s .pre .1 .1 }
+  -- with one
+  least-of-one-requires : lts.Need-least-of-one-requires calls at least-of.Post
+  least-of-one-requires c κs = let s = c .before .before .before in subst (λ (k : ℕ). Covers k (bit (s .args .w)) (s .args .table .now)) (c .if2 .taken) (s .pre .1 .1)
+
+  returns-2 : lts.Need-returns-2 calls at least-of.Post
+  returns-2 c =
+      let e = c .before in
+      let s = e .before .before .before in
+      subst (λ (k : ℕ). FoundIn k (bit (s .args .w)) (s .args .table .now) (c .least-of-one .result)) (sym (e .if2 .taken)) (c .least-of-one .ensures)
+
+  -- with more
+  parted : (e : lts.Else2 calls at least-of.Post) → let s = e .before .before .before in Parted (s .args .left) (s .args .w) (s .args .table .now)
+  parted e = let s = e .before .before .before in record { few = s .pre .1 .0; more = e .before .if1 .left; covers = s .pre .1 .1 }
 
   sub-m : lts.Need-sub-m calls at least-of.Post
   sub-m c = search needs
@@ -94,8 +113,8 @@ module _ (t : ℕ) where
   lesser-from-requires-2 : lts.Need-lesser-from-requires-2 calls at least-of.Post
   lesser-from-requires-2 c κs = let e = c .before .before .before .before .before .before .before in (omega (arith, table-few (parted e)), found-few _ _ _ _ (omega arith) (c .before .least-of2 .ensures))
 
-  returns-2 : lts.Need-returns-2 calls at least-of.Post
-  returns-2 c =
+  returns-3 : lts.Need-returns-3 calls at least-of.Post
+  returns-3 c =
       let d = c .before .before .before .before .before .before in
       parts-found (parted (d .before .before)) _ _ _ _ _ (d .least-entry .ensures) (c .before .before .before .before .least-of .ensures) (c .before .before .least-of2 .ensures)
       (c .before .lesser-from .ensures) (c .lesser-from2 .ensures)
@@ -108,10 +127,11 @@ pub +least-of-spec : {M : Type 1} → statement M
     (calls t)
     (at t)
     least-of.Post
-    (shared-slice-read-products t)
-    (cast-products t)
-    (sub-t17 t)
+    (shared-slice-read-lowest t)
+    (lowest-requires t)
     (returns t)
+    (least-of-one-requires t)
+    (returns-2 t)
     (sub-m t)
     (shl-half t)
     (mul-end t)
@@ -128,4 +148,4 @@ pub +least-of-spec : {M : Type 1} → statement M
     (least-of-requires-2 t)
     (lesser-from-requires t)
     (lesser-from-requires-2 t)
-    (returns-2 t)
+    (returns-3 t)

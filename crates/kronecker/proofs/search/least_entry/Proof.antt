@@ -1,4 +1,4 @@
--- `search::least_entry` meets its contract. The loop's invariant: of the entry passed, the least so far and its place.
+-- `search::least_entry` meets its contract. The loop's invariant: of the entries passed, the least so far and its place.
 -- Assumes nothing.
 use mathlib.Core.Path.{_≡_, subst₂}
 use mathlib.Core.Logic.{⊎-elim}
