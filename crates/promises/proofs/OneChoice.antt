@@ -12,7 +12,6 @@ use Rattle.bits.specs.Below.{sumBelow}
 use Rattle.bits.specs.Sums.{All}
 use Rattle.records.specs.Answers.{Outcome, accepted}
 use Rattle.records.proofs.Answers.{accepted-values}
-use Rattle.cube.specs.declared.Cube.{Cube}
 use Rattle.cube.specs.Cubes.{Good}
 use Rattle.cube.specs.Lists.{recordWidth, cubesOf, cubeCapacity, mostVariables, listValue, trues}
 use Rattle.polarity.specs.Cost.{cost}
@@ -23,7 +22,6 @@ use Rattle.trees.specs.declared.Expansion.the-variants.{Shannon, Positive, Nega
 use Rattle.trees.specs.Trees.{Tree, leaf, node}
 use Rattle.trees.proofs.Values.{list-value, list-good}
 use Rattle.kronecker.specs.Choices.{expansionOf, choiceTree, choiceList, bestChoice, kroneckerList, polarityChoice}
-use Rattle.kronecker.specs.Calls.{kroneckerVariables}
 use Rattle.kronecker.proofs.Theorems as kronecker
 use Rattle.promises.specs.Calls.{value, bestPolarity, writeTree, writeKronecker, Called}
 use Rattle.promises.specs.Refusals.{NoneWrong, vectorFaults, faults}

@@ -7,7 +7,7 @@ use Rattle.bits.specs.Packed.{alone, loweredWord, lowered, summed}
 use Rattle.bits.proofs.packed.Alone.{lowered-alone}
 use Rattle.trees.specs.declared.Expansion.{Expansion}
 use Rattle.trees.specs.declared.Expansion.the-variants.{Negative}
-use Rattle.trees.specs.Trees.{Tree, node}
+use Rattle.trees.specs.Trees.{node}
 use Rattle.trees.specs.Words.{upperHalf}
 use Rattle.kronecker.specs.Choices.{expansionOf, choiceTree}
 

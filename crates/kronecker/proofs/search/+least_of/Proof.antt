@@ -93,7 +93,7 @@ module _ (t : ℕ) where
   least-of-requires c κs = let e = c .before .before .before in (omega arith, (omega arith, middle (parted e) .covers))
 
   shr-least-of : lts.Need-shr-least-of calls at least-of.Post
-  shr-least-of c = half-few (parted (c .before .before .before .before))
+  shr-least-of c = omega (arith, half-few (parted (c .before .before .before .before)))
 
   sub-least-of-2 : lts.Need-sub-least-of-2 calls at least-of.Post
   sub-least-of-2 c = omega arith

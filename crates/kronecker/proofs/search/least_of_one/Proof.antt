@@ -1,7 +1,6 @@
 -- `search::least_of_one` meets its contract.
 -- Assumes nothing.
 use mathlib.Core.Path.{ap}
-use Prim.Native.Nat.{ℕ}
 use native.Mathlib.Omega.{arith}
 use Rattle.kronecker.specs.declared.Found.{Found}
 use Rattle.kronecker.proofs.search.Parts.{one-most, one-found}
