@@ -8,6 +8,9 @@ ghost use lib.ListN.{length};
 ghost use Rattle.bits.specs.Bits.{bit};
 ghost use Rattle.kronecker.specs.Words.{lowestOf, lesserFrom, Covers, LeastEntry, FoundIn, FoundIs};
 
+// How many choices 6 variables have.
+const MOST_CHOICES: usize = 729;
+
 // The least entry, and of several such the first: a choice that has no free product costs what it has of products.
 fn least_entry(table: &[u8]) -> Found
     requires { ⌜ 0 < length (now table) ⌝ }
@@ -111,7 +114,7 @@ pub(crate) fn find(n: usize, w: u64) -> Found
     requires { ⌜ n ≤ 6 ⌝ }
     ensures { λ r. ⌜ FoundIs n (bit w) r ⌝ }
 {
-    let mut all = [0u8; 729];
+    let mut all = [0u8; MOST_CHOICES];
     let m = choices(n);
     table::fill(n, w, &mut all[..m]);
     least_of(n, w, &all[..m])
