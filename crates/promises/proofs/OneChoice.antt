@@ -168,8 +168,8 @@ module _ (n : ℕ) (vector out : List ℕ) (price choice products : ℕ) (out′
   smaller-costs-more x h = rw price-is (kronecker.best-is-least n f .smallest x zero-le (rw choice-is at h))
 
   -- Of all that are compared the list has good cubes, and the vector's value at every assignment.
-  pub each-choice : (x : ℕ) → All (Good n) (choiceList n x (byteAt vector)) × ((a : ℕ) → a < 2 ^ n → listValue n (choiceList n x (byteAt vector)) a ≡ byteAt vector a)
-  each-choice x = (list-good (choiceTree n x) f few, list-value (choiceTree n x) f few (is-one .bits))
+  pub lists-compared : (x : ℕ) → All (Good n) (choiceList n x (byteAt vector)) × ((a : ℕ) → a < 2 ^ n → listValue n (choiceList n x (byteAt vector)) a ≡ byteAt vector a)
+  lists-compared x = (list-good (choiceTree n x) f few, list-value (choiceTree n x) f few (is-one .bits))
 
   -- Every polarity's form is among them, by a choice of Davio expansions alone: it has the products of the choice's list, each as often, in another order; ..
   pub form-is-such-a-choice : (p : ℕ) → p < 2 ^ n
