@@ -213,7 +213,7 @@ unfolding sumBelow
 sum-none zero f h = refl
 sum-none (suc m) f h = omega (arith, sum-none m f (λ t l. h t (omega arith)), h m (le-refl (suc m)))
 
--- sums compared: term by term, over more terms, and with a bound of each term; Eight and Ten wait for them
+-- sums compared: term by term, over more terms, and with a bound of each term
 pub sum-each : (m : ℕ) (f g : ℕ → ℕ) → ((t : ℕ) → t < m → f t ≤ g t) → sumBelow m f ≤ sumBelow m g
 unfolding sumBelow
 sum-each zero f g h = zero-le
