@@ -1,7 +1,7 @@
 -- Laws of the tests, sums and lists over the numbers below a bound, and of the set bits of a number.
 -- Assumes nothing.
 use mathlib.Core.Path.{_≡_, refl, sym, ap, ap₂, _∙_, subst}
-use mathlib.Core.Logic.{inl, inr}
+use mathlib.Core.Logic.{inl, inr, _≢_}
 use mathlib.Core.Bool.{Bool, true, false, not, cond}
 use mathlib.Core.List.{List, [], _∷_, _++_, map, List·Memᴰ, List·Memᴰ·head, List·Memᴰ·tail, List·Memᴰ·not-nil, List·Memᴰ·cases-cons}
 use Prim.Native.Nat.{ℕ, zero, suc, _+_, _-_, _*_, _/_, _%_, _^_, _≤_, _<_, zero-le, suc-le-suc}
@@ -13,8 +13,8 @@ use borrow.Author.Tests.{eqb-true, eq-eqb}
 use lib.Arith.{lt-one}
 use lib.Count.{ones, ones-step, trailingZeros, under}
 use lib.Dec.{eqb}
-use lib.ListN.{length, getD, length-map}
-use lib.Seq.{ext-getD}
+use lib.ListN.{length, getD, set, length-map, length-set}
+use lib.Seq.{ext-getD, getD-set-same, getD-set-other}
 use Rattle.bits.specs.Bits.{bit}
 use Rattle.bits.specs.Below.{allBelow, those, Ascending, sumBelow, listBelow}
 use Rattle.bits.specs.Sums.{tally, oneIf}
@@ -92,6 +92,22 @@ those-same f g (suc m) k h = ap₂ (λ (b : Bool) (l : List ℕ). cond b (k ∷ 
 pub those-cong : (f g : ℕ → Bool) → ((k : ℕ) → f k ≡ g k) → (m k : ℕ) → those f m k ≡ those g m k
 those-cong f g h m k = those-same f g m k (λ s l u. h s)
 
+-- one more number is tried: it comes last
+abbrev pub onlyIf : Bool → ℕ → List ℕ
+onlyIf b k = cond b (k ∷ []) []
+
+pub those-more : (f : ℕ → Bool) (m k : ℕ) → those f (suc m) k ≡ those f m k ++ onlyIf (f (k + m)) (k + m)
+unfolding those
+those-more f zero k = ap (λ (x : ℕ). onlyIf (f x) x) (sym (add-zero k))
+those-more f (suc m) k =
+    let at : suc k + m ≡ k + suc m = suc-add k m ∙ sym (add-suc k m) in
+    go (f k) (those f (suc m) (suc k)) (those f m (suc k)) (onlyIf (f (k + suc m)) (k + suc m))
+    (those-more f m (suc k) ∙ ap (λ (x : ℕ). those f m (suc k) ++ onlyIf (f x) x) at)
+  where
+    go : (b : Bool) (l r z : List ℕ) → l ≡ r ++ z → cond b (k ∷ l) l ≡ cond b (k ∷ r) r ++ z
+    go true l r z e = ap (λ (t : List ℕ). k ∷ t) e
+    go false l r z e = e
+
 -- from the front of those below m, one by one
 module _ (f : ℕ → Bool) (m k : ℕ) where
   -- the next one is one of them, or not
@@ -147,6 +163,19 @@ count-setBits (suc n) x h =
     go zero h l = omega (arith, length-map l suc)
     go (suc zero) h l = omega (arith, length-map l suc)
     go (suc (suc y)) h l = absurd (omega arith)
+
+-- two numbers whose bits agree but at v: the one has at most one set bit more
+pub ones-near : (n x y v : ℕ) → x < 2 ^ n → y < 2 ^ n → ((k : ℕ) → k < n → k ≢ v → bit x k ≡ bit y k) → ones x ≤ ones y + 1
+ones-near zero x y v hx hy e = omega (arith, ap ones (lt-one hx ∙ sym (lt-one hy)))
+ones-near (suc n) x y zero hx hy e =
+    let half : x / 2 ≡ y / 2 = bit-ext-below n (x / 2) (y / 2) (half-lt n x hx) (half-lt n y hy)
+    (λ k l. sym (bit-suc x k) ∙ e (suc k) (suc-le-suc l) (λ z. omega (arith, z)) ∙ bit-suc y k) in
+    omega (arith, ones-step x, ones-step y, ap ones half, mod-lt x (zero-lt-suc 1))
+ones-near (suc n) x y (suc v) hx hy e =
+    let low : x % 2 ≡ y % 2 = sym (bit-zero x) ∙ e 0 (zero-lt-suc n) (λ z. omega (arith, z)) ∙ bit-zero y in
+    let rest : ones (x / 2) ≤ ones (y / 2) + 1 = ones-near n (x / 2) (y / 2) v (half-lt n x hx) (half-lt n y hy)
+    (λ k l d. sym (bit-suc x k) ∙ e (suc k) (suc-le-suc l) (λ z. d (omega (arith, z))) ∙ bit-suc y k) in
+    omega (arith, ones-step x, ones-step y, low, rest)
 
 -- the first element, or d where there is none
 abbrev pub headOr : ℕ → List ℕ → ℕ
@@ -255,6 +284,15 @@ module _ {A : Type 0} where
   listBelow-cong zero f g h = refl
   listBelow-cong (suc m) f g h =
       ap₂ (λ (x : A) (l : List A). x ∷ l) (h 0 (zero-lt-suc m)) (listBelow-cong m (λ k. f (suc k)) (λ k. g (suc k)) (λ i b. h (suc i) (suc-le-suc b)))
+
+  -- with one element replaced
+  pub set-listBelow : (m : ℕ) (f g : ℕ → A) (i : ℕ) (x : A) → i < m → ((j : ℕ) → j < m → j ≢ i → f j ≡ g j) → x ≡ g i → set (listBelow m f) i x ≡ listBelow m g
+  set-listBelow m f g i x h other e =
+      let long : length (listBelow m f) ≡ m = length-listBelow m f in
+      is-listBelow x (set (listBelow m f) i x) m g (length-set (listBelow m f) i x ∙ long) (λ j l. elim (ℕ-discrete j i) [
+        | yes p ↦ ap (λ (k : ℕ). getD (set (listBelow m f) i x) k x) p ∙ getD-set-same (listBelow m f) i x x (subst (λ (k : ℕ). i < k) (sym long) h) ∙ e ∙ ap g (sym p)
+        | no d ↦ getD-set-other (listBelow m f) i j x x d ∙ getD-listBelow m f j x l ∙ other j l d
+      ])
 
   pub listBelow-more : (m : ℕ) (f : ℕ → A) → listBelow (suc m) f ≡ listBelow m f ++ (f m ∷ [])
   unfolding listBelow

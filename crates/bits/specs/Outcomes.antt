@@ -15,3 +15,11 @@ Determined n ps r Learnt =
     Learnt κs a z (atExit (endedOf n ps r) κs a ws) →
     Learnt κs a z′ (atExit (endedOf n ps r) κs a ws′) →
     (z ≡ z′) × (ws ≡ ws′)
+
+-- the same of a contract that hands back a reference: what is read of the result, as the bytes of a part of a lent slice, is determined. Its address is not.
+abbrev pub DeterminedBy : (n : ℕ) (ps : List (PK n)) (r : RK n) {W : Type 0} → ((κs : Lfts n) → resT r κs .Denot → W) → Out n ps r → Type 0
+DeterminedBy n ps r read Learnt =
+    (κs : Lfts n) (a : Dens κs ps) (z z′ : resT r κs .Denot) (ws ws′ : Lasts (endedOf n ps r) κs a) →
+    Learnt κs a z (atExit (endedOf n ps r) κs a ws) →
+    Learnt κs a z′ (atExit (endedOf n ps r) κs a ws′) →
+    (read κs z ≡ read κs z′) × (ws ≡ ws′)

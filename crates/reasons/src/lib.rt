@@ -3,12 +3,13 @@ use cube::list;
 use cube::value;
 use records::Counted;
 use records::Refusal;
-use records::numbers;
+pub use records::place::PLACE_WIDTH;
+use records::place::put_place;
 ghost use mathlib.Core.Path.{_≡_};
 ghost use Prim.Native.Nat.{_*_, _/_, _^_, _≤_, _<_};
 ghost use lib.ListN.{length};
 ghost use Rattle.bits.specs.Sums.{All};
-ghost use Rattle.records.specs.Records.{stored, written};
+ghost use Rattle.records.specs.Records.{written};
 ghost use Rattle.records.specs.Places.{placeWidth, places};
 ghost use Rattle.cube.specs.Cubes.{Good};
 ghost use Rattle.cube.specs.Lists.{recordWidth, mostRecords, cubesOf};
@@ -18,19 +19,6 @@ ghost use Rattle.reasons.specs.Calls.{truePlaces, reasoned, reasonsOutco
 pub enum Reasoned {
     Shown(usize, u8),
     Refused(Refusal),
-}
-
-// Bytes of a place.
-pub const PLACE_WIDTH: usize = 2;
-
-// The place i stored as the k-th of a buffer that has room for it.
-fn put_place(out: &mut [u8], k: usize, i: u16)
-    requires { ⌜ k < length (now out) / placeWidth ⌝ }
-    ensures { λ _. ⌜ now (out .exit) ≡ stored places (now (out .entry)) k i ⌝ }
-{
-    let at = PLACE_WIDTH * k;
-    let end = at + PLACE_WIDTH;
-    numbers::put_number2(&mut out[at..end], 0, i);
 }
 
 // The places of the true products of a list of good cubes, to the front of a buffer that has room for every place. Answers how many they are.

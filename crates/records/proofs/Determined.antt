@@ -21,6 +21,10 @@ use Rattle.records.proofs.numbers.put_number2.Kinds as put-number2-kind
 use Rattle.records.proofs.numbers.put_number2.Reads as put-number2-reads
 use Rattle.records.proofs.numbers.put_number4.Kinds as put-number4-kinds
 use Rattle.records.proofs.numbers.put_number4.Reads as put-number4-reads
+use Rattle.records.proofs.place.place_at.Kinds as place-at-kinds
+use Rattle.records.proofs.place.place_at.Reads as place-at-reads
+use Rattle.records.proofs.place.put_place.Kinds as put-place-kinds
+use Rattle.records.proofs.place.put_place.Reads as put-place-reads
 
 pub new-determined : Determined 0 new-kinds.ps new-kinds.r new-reads.Learnt
 new-determined κs a z z′ ws ws′ p q = (same p q, refl)
@@ -45,3 +49,9 @@ put-number2-determined κs a z z′ ws ws′ p q = (refl, ap (λ (b : List ℕ).
 
 pub put-number4-determined : Determined 1 put-number4-kinds.ps put-number4-kinds.r put-number4-reads.Learnt
 put-number4-determined κs a z z′ ws ws′ p q = (refl, ap (λ (b : List ℕ). (b, (tt, (tt, tt)))) (same p q))
+
+pub place-at-determined : Determined 1 place-at-kinds.ps place-at-kinds.r place-at-reads.Learnt
+place-at-determined κs a z z′ ws ws′ p q = (same p q, refl)
+
+pub put-place-determined : Determined 1 put-place-kinds.ps put-place-kinds.r put-place-reads.Learnt
+put-place-determined κs a z z′ ws ws′ p q = (refl, ap (λ (b : List ℕ). (b, (tt, (tt, tt)))) (same p q))

@@ -8,6 +8,8 @@ pub mod Looking
 pub mod Striding
 pub mod Counting
 pub mod Picking
+pub mod Scattering
+pub mod Behind
 pub mod Answers
 pub mod Checks
 pub mod Determined

@@ -3,11 +3,12 @@
 use mathlib.Core.Path.{_≡_, refl, sym, ap, _∙_}
 use mathlib.Core.List.{List, [], _∷_, append-nil}
 use Prim.Native.Nat.{ℕ, _+_, _-_, _*_, _/_, _≤_, _<_}
+use native.Mathlib.Nat.{add-zero}
 use borrow.Rule.Slice.PartMut.{putMid}
 use lib.Dec.{lit<}
 use lib.ListN.{length, getD, take, drop}
 use lib.Seq.{sets}
-use Rattle.records.specs.Numbers.{bytesOf}
+use Rattle.records.specs.Numbers.{bytesOf, numberAt}
 use Rattle.records.specs.Records.{records, stored, written}
 use Rattle.records.specs.Places.{placeWidth, places}
 use Rattle.records.proofs.Fields.{Fields, fields-lawful, fields-front}
@@ -18,6 +19,10 @@ place-field = record { wide = refl; some = lit< tt; many = λ i. refl; back = λ
 
 pub places-lawful : Lawful places
 places-lawful = fields-lawful (placeWidth ∷ []) (λ i. i ∷ []) (λ xs. getD xs 0 0) place-field
+
+-- a place read by its two bytes
+pub place-read : (b : List ℕ) (k x : ℕ) → x ≡ numberAt placeWidth b (placeWidth * k) → x ≡ places .read b k
+place-read b k x e = e ∙ ap (numberAt placeWidth b) (sym (add-zero (placeWidth * k)))
 
 -- the two bytes of a place stored over its part of a buffer
 pub place-stored : (b : List ℕ) (k i : ℕ) → k < length b / placeWidth

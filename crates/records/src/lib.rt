@@ -1,5 +1,6 @@
-// Records of fixed width end to end in a lent buffer: their numbers, clearing and filling; and the refusal that every call answers with.
+// Records of fixed width end to end in a lent buffer: their numbers, places, clearing and filling; and the refusal that every call answers with.
 pub mod numbers;
+pub mod place;
 
 ghost use mathlib.Core.Path.{_≡_};
 ghost use lib.ListN.{length};

@@ -19,8 +19,10 @@ use Rattle.script.proofs.check.check_script.Kinds as check-script-kinds
 use Rattle.script.proofs.check.check_script.Reads as check-script-reads
 use Rattle.script.proofs.run.pended.Kinds as pended-kinds
 use Rattle.script.proofs.run.pended.Reads as pended-reads
-use Rattle.script.proofs.run.advance.Kinds as advance-kinds
-use Rattle.script.proofs.run.advance.Reads as advance-reads
+use Rattle.script.proofs.run.halted.Kinds as halted-kinds
+use Rattle.script.proofs.run.halted.Reads as halted-reads
+use Rattle.script.proofs.run.run_steps.Kinds as run-steps-kinds
+use Rattle.script.proofs.run.run_steps.Reads as run-steps-reads
 use Rattle.script.proofs.run.undo.Kinds as undo-kinds
 use Rattle.script.proofs.run.undo.Reads as undo-reads
 use Rattle.script.proofs.run.run_checked.Kinds as run-checked-kinds
@@ -50,8 +52,12 @@ check-script-determined κs a z z′ ws ws′ p q = (same-told counted counted-b
 pub pended-determined : Determined 0 pended-kinds.ps pended-kinds.r pended-reads.Learnt
 pended-determined κs a z z′ ws ws′ p q = (same p q, refl)
 
-pub advance-determined : Determined 1 advance-kinds.ps advance-kinds.r advance-reads.Learnt
-advance-determined κs a z z′ ws ws′ p q = (same (p .0) (q .0), ap (λ (b : List ℕ). (b, (tt, (tt, (tt, (tt, tt)))))) (same (p .1) (q .1)))
+pub halted-determined : Determined 0 halted-kinds.ps halted-kinds.r halted-reads.Learnt
+halted-determined κs a z z′ ws ws′ p q = (same p q, refl)
+
+pub run-steps-determined : Determined 2 run-steps-kinds.ps run-steps-kinds.r run-steps-reads.Learnt
+run-steps-determined κs a z z′ ws ws′ p q =
+    (same (p .answer) (q .answer), ap (λ (b : List ℕ). (b, (tt, (tt, (tt, (tt, tt)))))) (same (p .buffer) (q .buffer)))
 
 pub undo-determined : Determined 1 undo-kinds.ps undo-kinds.r undo-reads.Learnt
 undo-determined κs a z z′ ws ws′ p q = (refl, ap (λ (b : List ℕ). (b, (tt, (tt, (tt, tt))))) (same p q))

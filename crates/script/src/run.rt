@@ -52,7 +52,7 @@ pub fn pended(pending: [u8; MOST_VARIABLES], x: StepRecord) -> [u8; MOST_VARIABL
 
 // The step x done from where the run stands; a refusal clears the work buffer.
 // What is pending after it, `pended` says.
-pub fn advance(work: &mut [u8], n: usize, cap: usize, x: StepRecord, at: Standing) -> Standing
+fn advance(work: &mut [u8], n: usize, cap: usize, x: StepRecord, at: Standing) -> Standing
     requires { ⌜ Ready n (at .count) cap (now work) ⌝ }
     requires { ⌜ Known n x ⌝ }
     ensures { λ r. ⌜ r ≡ advanced at (step n cap (meaning x) (records cubes (at .count) (now (work .entry)))) ⌝ }
@@ -81,7 +81,7 @@ pub fn advance(work: &mut [u8], n: usize, cap: usize, x: StepRecord, at: Standin
 }
 
 // How far a run went that was refused at step k.
-fn halted(why: StepRefusal, k: usize) -> Progress
+pub fn halted(why: StepRefusal, k: usize) -> Progress
     ensures { λ r. ⌜ r ≡ Progress·halted why k ⌝ }
 {
     Progress {
@@ -96,7 +96,7 @@ fn halted(why: StepRefusal, k: usize) -> Progress
 
 // The steps of a script in turn, on the first records of the work buffer; a refusal clears it. What is pending is carried by value, and
 // looked at only where a step is an L step: a copy at every step shows in the time of a run.
-fn run_steps(work: &mut [u8], n: usize, first: usize, cap: usize, script: &[u8]) -> Progress
+pub fn run_steps(work: &mut [u8], n: usize, first: usize, cap: usize, script: &[u8]) -> Progress
     requires { ⌜ Ready n first cap (now work) ⌝ }
     requires { ⌜ All (λ r. fits n r ≡ true) (listOf stepRecords (now script)) ⌝ }
     ensures { λ r. ⌜ Stepping n cap first (stepsOf (now (script .entry))) (now (work .entry)) (now (work .exit)) r ⌝ }

@@ -1,9 +1,9 @@
--- `put_place` meets its contract: what is stored over a place's part of the buffer is the place stored.
+-- `place::put_place` meets its contract: what is stored over a place's part of the buffer is the place stored.
 -- Assumes nothing.
 use Rattle.records.proofs.Places.{place-stored}
 use borrow.Author.Needs.{needs}
-use Rattle.reasons.proofs.put_place.Statement.{statement}
-use Rattle.reasons.proofs.put_place.Tie as tie
+use Rattle.records.proofs.place.put_place.Statement.{statement}
+use Rattle.records.proofs.place.put_place.Tie as tie
 
 mul-at : tie.Need-mul-at
 mul-at c = search needs
