@@ -1,0 +1,10 @@
+pub mod Order
+pub mod Entries
+pub mod Tables
+pub mod Apart
+pub mod Accepted
+pub mod Determined
+pub mod Groups
+pub mod Round
+pub mod Ordered
+pub mod Near

@@ -1,0 +1,4 @@
+-- The laws that only the functions of `build` need.
+pub mod Placing
+pub mod Rebuilding
+pub mod Building

@@ -1,0 +1,4 @@
+pub mod Index
+pub mod Ordered
+pub mod Calls
+pub mod Counting
