@@ -27,6 +27,12 @@ use Rattle.druthmoy.proofs.dm_write_kronecker.Kinds as dm-write-kroneck
 use Rattle.druthmoy.proofs.dm_write_kronecker.Reads as dm-write-kronecker-reads
 use Rattle.druthmoy.proofs.dm_run.Kinds as dm-run-kinds
 use Rattle.druthmoy.proofs.dm_run.Reads as dm-run-reads
+use Rattle.druthmoy.proofs.dm_index.Kinds as dm-index-kinds
+use Rattle.druthmoy.proofs.dm_index.Reads as dm-index-reads
+use Rattle.druthmoy.proofs.dm_group.Kinds as dm-group-kinds
+use Rattle.druthmoy.proofs.dm_group.Reads as dm-group-reads
+use Rattle.druthmoy.proofs.dm_run_indexed.Kinds as dm-run-indexed-kinds
+use Rattle.druthmoy.proofs.dm_run_indexed.Reads as dm-run-indexed-reads
 use Rattle.druthmoy.proofs.dm_write_script.Kinds as dm-write-script-kinds
 use Rattle.druthmoy.proofs.dm_write_script.Reads as dm-write-script-reads
 use Rattle.druthmoy.proofs.dm_compact.Kinds as dm-compact-kinds
@@ -70,6 +76,25 @@ dm-write-kronecker-determined κs a z z′ ws ws′ p q = (refl, ap₂ (λ (w b 
 
 pub dm-run-determined : Determined 4 dm-run-kinds.ps dm-run-kinds.r dm-run-reads.Learnt
 dm-run-determined κs a z z′ ws ws′ p q = (refl, ap₂ (λ (w b : List ℕ). (tt, (tt, (tt, (b, (w, tt)))))) (same (p .0) (q .0)) (same (p .1) (q .1)))
+
+pub dm-index-determined : Determined 4 dm-index-kinds.ps dm-index-kinds.r dm-index-reads.Learnt
+dm-index-determined κs a z z′ ws ws′ p q = (
+  refl,
+  ap₂ (λ (w : List ℕ) (bs : List ℕ × List ℕ). (tt, (tt, (bs .0, (bs .1, (w, tt))))))
+      (same (p .0) (q .0))
+      (ap₂ (λ (b d : List ℕ). (b, d)) (same (p .1 .0) (q .1 .0)) (same (p .1 .1) (q .1 .1))),
+)
+
+pub dm-group-determined : Determined 4 dm-group-kinds.ps dm-group-kinds.r dm-group-reads.Learnt
+dm-group-determined κs a z z′ ws ws′ p q = (refl, ap (λ (w : List ℕ). (tt, (tt, (tt, (tt, (tt, (w, tt))))))) (same p q))
+
+pub dm-run-indexed-determined : Determined 6 dm-run-indexed-kinds.ps dm-run-indexed-kinds.r dm-run-indexed-reads.Learnt
+dm-run-indexed-determined κs a z z′ ws ws′ p q = (
+  refl,
+  ap₂ (λ (ws bs : List ℕ × List ℕ). (tt, (tt, (tt, (ws .1, (bs .0, (bs .1, (ws .0, tt))))))))
+      (ap₂ (λ (w b : List ℕ). (w, b)) (same (p .0) (q .0)) (same (p .1 .0) (q .1 .0)))
+      (ap₂ (λ (b d : List ℕ). (b, d)) (same (p .1 .1 .0) (q .1 .1 .0)) (same (p .1 .1 .1) (q .1 .1 .1))),
+)
 
 pub dm-write-script-determined : Determined 4 dm-write-script-kinds.ps dm-write-script-kinds.r dm-write-script-reads.Learnt
 dm-write-script-determined κs a z z′ ws ws′ p q = (

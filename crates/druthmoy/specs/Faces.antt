@@ -2,7 +2,7 @@
 -- its third answer (document 02, Four).
 -- Assumes nothing.
 use Prim.Native.Nat.{ℕ}
-use mathlib.Core.Bool.{cond}
+use mathlib.Core.Bool.{Bool, cond}
 use mathlib.Core.List.{List, [], _∷_, _++_}
 use lib.Dec.{eqb}
 use lib.ListN.{length, take, drop, getD}
@@ -28,3 +28,14 @@ withAbsent v = cond (eqb (length v) 4) (take 3 v ++ (allOnes ∷ allOnes ∷ dro
 unfoldable pub settledWords : Outcome → List ℕ
 settledWords (accepted values) = words (accepted (withAbsent values))
 settledWords (refused r) = words (refused r)
+
+-- ---- an index's starts, 33 words
+
+-- a group's answer has the entry that it begins at after the number of its entries
+abbrev pub withStart : ℕ → Outcome → Outcome
+withStart start (accepted values) = accepted (values ++ (start ∷ []))
+withStart start (refused r) = refused r
+
+-- the starts after a run with an index: as they were where it is refused before the first step; "a refusal at a step zeroes it" (document 02, Eight)
+abbrev pub startsIf : Bool → List ℕ → List ℕ → List ℕ
+startsIf begun new old = cond begun new old

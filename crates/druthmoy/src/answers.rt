@@ -1,5 +1,7 @@
 // Answers as eight words: the number of a refusal, its place, and six values; of a refusal the first value is its number of differing variables.
 use cube::Valued;
+use index::GROUPS;
+use index::Indexed;
 use kronecker::KroneckerList;
 use polarity::Best;
 use reasons::Reasoned;
@@ -13,7 +15,8 @@ use trees::TreeList;
 use writer::Wrote;
 ghost use mathlib.Core.Path.{_≡_};
 ghost use mathlib.Core.List.{[], _∷_};
-ghost use Rattle.records.specs.Answers.{accepted, refused, counted};
+ghost use Rattle.records.specs.Answers.{accepted, refused, counted, afterCall};
+ghost use lib.ListN.{getD};
 ghost use Rattle.cube.specs.Calls.{valued};
 ghost use Rattle.reasons.specs.Calls.{reasoned};
 ghost use Rattle.polarity.specs.Calls.{found};
@@ -23,7 +26,7 @@ ghost use Rattle.script.specs.Calls.{finished};
 ghost use Rattle.writer.specs.Calls.{wrote};
 ghost use Rattle.settling.specs.declared.Settled.the-variants.{Burned};
 ghost use Rattle.settling.specs.Calls.{settled};
-ghost use Rattle.druthmoy.specs.Faces.{words, settledWords};
+ghost use Rattle.druthmoy.specs.Faces.{words, settledWords, withStart};
 
 // What stands for the best polarity and for its size where there is none.
 const ABSENT: u64 = u64::MAX;
@@ -114,6 +117,42 @@ pub(crate) fn put_finished(answer: &mut [u64; 8], r: Finished)
     match r {
         Finished::Done(count, peak) => put_values(answer, count, peak),
         Finished::Refused(why) => put_refusal(answer, why),
+    }
+}
+
+// The count of an index, with the start of each group; or a refusal, and then the starts are as they were.
+pub(crate) fn put_indexed(answer: &mut [u64; 8], starts: &mut [u64; GROUPS], r: Indexed)
+    ensures { λ _. ⌜ now (answer .exit) ≡ words (counted (r .answer)) ⌝ }
+    ensures { λ _. ⌜ now (starts .exit) ≡ afterCall (counted (r .answer)) (r .starts) (now (starts .entry)) ⌝ }
+{
+    let built = r.starts;
+    let told = r.answer;
+    match told {
+        Counted::Count(count) => {
+            *starts = built;
+            put_values(answer, count, 0);
+        }
+        Counted::Refused(why) => put_refusal(answer, why),
+    }
+}
+
+// The start of group m, or 0 where there is no such group.
+pub(crate) fn start_at(starts: [u64; GROUPS], m: usize) -> usize
+    ensures { λ r. ⌜ r ≡ getD starts m 0 ⌝ }
+{
+    if GROUPS <= m {
+        return 0;
+    }
+    starts[m] as usize
+}
+
+// How many entries a group has, and the one that it begins at; or a refusal.
+pub(crate) fn put_group(answer: &mut [u64; 8], r: Counted, start: usize)
+    ensures { λ _. ⌜ now (answer .exit) ≡ words (withStart start (counted r)) ⌝ }
+{
+    match r {
+        Counted::Count(size) => put_values(answer, size, start),
+        Counted::Refused(why) => put_refusal(answer, why),
     }
 }
 

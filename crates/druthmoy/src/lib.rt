@@ -1,9 +1,11 @@
 // The calls for C and Rust: a slice passes as a pointer and a length, and every answer is eight words.
 mod answers;
 
+use index::GROUPS;
 ghost use mathlib.Core.Path.{_≡_};
-ghost use lib.ListN.{length};
-ghost use Rattle.cube.specs.Lists.{mostVariables};
+ghost use lib.ListN.{length, getD};
+ghost use Rattle.records.specs.Answers.{afterCall};
+ghost use Rattle.cube.specs.Lists.{cubesOf, mostVariables};
 ghost use Rattle.cube.specs.Calls.{checkList, valueOutcome, vectorOutcome, vectorAfter};
 ghost use Rattle.reasons.specs.Calls.{reasonsOutcome, reasonsAfter};
 ghost use Rattle.converters.specs.Calls.{wideOutcome, wideAfter, narrowOutcome, narrowAfter};
@@ -11,10 +13,13 @@ ghost use Rattle.polarity.specs.Calls.{coefficientsOutcome, coefficientsAfter, 
 ghost use Rattle.trees.specs.Calls.{treeOutcome, treeAfter};
 ghost use Rattle.kronecker.specs.Calls.{kroneckerOutcome, kroneckerAfter};
 ghost use Rattle.script.specs.Calls.{runOutcome, runAfter};
+ghost use Rattle.index.specs.Index.{listStarts};
+ghost use Rattle.index.specs.Calls.{buildOutcome, buildAfter, groupOutcome};
+ghost use Rattle.indexed.specs.Calls.{begun, indexedOutcome, indexedStarts, indexedWork, indexedIndex};
 ghost use Rattle.writer.specs.Calls.{writeOutcome, writeWork, writeSteps};
 ghost use Rattle.compactor.specs.Calls.{compactOutcome, compactAfter};
 ghost use Rattle.settling.specs.Calls.{settleOutcome, settleWork, settleOut};
-ghost use Rattle.druthmoy.specs.Faces.{words, settledWords};
+ghost use Rattle.druthmoy.specs.Faces.{words, settledWords, withStart, startsIf};
 
 // Checking a list. Values: its count.
 #[no_mangle]
@@ -138,6 +143,67 @@ pub extern "C" fn dm_run(n: u64, list: &[u8], script: &[u8], work: &mut [u8], an
     ensures { λ _. ⌜ now (work .exit) ≡ runAfter n (now (list .entry)) (now (script .entry)) (now (work .entry)) ⌝ }
 {
     let finished = script::run::run(n as usize, list, script, work);
+    answers::put_finished(answer, finished);
+}
+
+// The index of a list by number of literals. Values: its count. The starts are written where it is accepted.
+#[no_mangle]
+pub extern "C" fn dm_index(
+    n: u64,
+    list: &[u8],
+    index: &mut [u8],
+    starts: &mut [u64; GROUPS],
+    answer: &mut [u64; 8],
+)
+    ensures { λ _. ⌜ now (answer .exit) ≡ words (buildOutcome n (now (list .entry)) (length (now (index .entry)))) ⌝ }
+    ensures { λ _. ⌜ now (index .exit) ≡ buildAfter n (now (list .entry)) (now (index .entry)) ⌝ }
+    ensures { λ _. ⌜ now (starts .exit) ≡ afterCall (buildOutcome n (now (list .entry)) (length (now (index .entry)))) (listStarts (cubesOf (now (list .entry)))) (now (starts .entry)) ⌝ }
+{
+    let indexed = index::build::build(n as usize, list, index);
+    answers::put_indexed(answer, starts, indexed);
+}
+
+// The group of a number in a lent index. Values: how many entries its run has, and the entry that it begins at.
+#[no_mangle]
+pub extern "C" fn dm_group(
+    n: u64,
+    list: &[u8],
+    index: &[u8],
+    starts: &[u64; GROUPS],
+    number: u64,
+    answer: &mut [u64; 8],
+)
+    ensures { λ _. ⌜ now (answer .exit) ≡ words (withStart (getD (now (starts .entry)) number 0) (groupOutcome n (now (list .entry)) (now (index .entry)) (now (starts .entry)) number)) ⌝ }
+{
+    let s = *starts;
+    let counted = index::group::group_count(n as usize, list, index, s, number as usize);
+    let start = answers::start_at(s, number as usize);
+    answers::put_group(answer, counted, start);
+}
+
+// Runs a script on a list and keeps an index for the work list. Values: the count and the peak. The starts are written where the run came to the steps.
+#[no_mangle]
+pub extern "C" fn dm_run_indexed(
+    n: u64,
+    list: &[u8],
+    script: &[u8],
+    work: &mut [u8],
+    index: &mut [u8],
+    starts: &mut [u64; GROUPS],
+    answer: &mut [u64; 8],
+)
+    ensures { λ _. ⌜ now (answer .exit) ≡ words (indexedOutcome n (now (list .entry)) (now (script .entry)) (length (now (work .entry))) (length (now (index .entry)))) ⌝ }
+    ensures { λ _. ⌜ now (work .exit) ≡ indexedWork n (now (list .entry)) (now (script .entry)) (now (work .entry)) (length (now (index .entry))) ⌝ }
+    ensures { λ _. ⌜ now (index .exit) ≡ indexedIndex n (now (list .entry)) (now (script .entry)) (length (now (work .entry))) (now (index .entry)) ⌝ }
+    ensures { λ _. ⌜ now (starts .exit) ≡ startsIf (begun n (now (list .entry)) (now (script .entry)) (length (now (work .entry))) (length (now (index .entry)))) (indexedStarts n (now (list .entry)) (now (script .entry)) (length (now (work .entry))) (length (now (index .entry)))) (now (starts .entry)) ⌝ }
+{
+    let run = indexed::run_indexed(n as usize, list, script, work, index);
+    let begun = run.begun;
+    let kept = run.starts;
+    let finished = run.answer;
+    if begun {
+        *starts = kept;
+    }
     answers::put_finished(answer, finished);
 }
 

@@ -1,17 +1,22 @@
 -- Every outcome that the contract of a call allows, from Rattle or from C and Rust, is a `Called` or a `Faced`: the promises are of these.
 -- Assumes nothing.
-use mathlib.Core.Path.{_≡_, refl, ap, ap₂}
+use mathlib.Core.Path.{_≡_, refl, ap, ap₂, _∙_}
 use mathlib.Core.List.{List, [], _∷_}
 use Prim.Native.Nat.{ℕ}
-use Rattle.records.specs.Answers.{counted}
+use lib.ListN.{replicate}
+use Rattle.records.specs.Answers.{Outcome, accepted, refused, counted}
 use Rattle.cube.specs.Calls.{valued}
 use Rattle.reasons.specs.Calls.{reasoned}
 use Rattle.polarity.specs.Calls.{found}
 use Rattle.trees.specs.Calls.{listed}
 use Rattle.kronecker.specs.Calls.{kroneckerListed}
-use Rattle.script.specs.Calls.{finished}
+use Rattle.script.specs.Calls.{runOf, finished}
+use Rattle.index.specs.Index.{groupCount}
+use Rattle.index.specs.Calls.{buildStarts}
+use Rattle.indexed.specs.Calls.{checkIndexed, indexedStarts, startsAfter, accepts, begun}
 use Rattle.writer.specs.Calls.{wrote}
 use Rattle.settling.specs.Calls.{settled}
+use Rattle.druthmoy.specs.Faces.{startsIf}
 use Rattle.cube.proofs.list.check.Kinds as check-kinds
 use Rattle.cube.proofs.list.check.Reads as check-reads
 use Rattle.cube.proofs.value.value.Kinds as value-kinds
@@ -38,6 +43,12 @@ use Rattle.kronecker.proofs.choice.write_kronecker.Kinds as write-kronecker-kin
 use Rattle.kronecker.proofs.choice.write_kronecker.Reads as write-kronecker-reads
 use Rattle.script.proofs.run.run.Kinds as run-kinds
 use Rattle.script.proofs.run.run.Reads as run-reads
+use Rattle.index.proofs.build.build.Kinds as build-kinds
+use Rattle.index.proofs.build.build.Reads as build-reads
+use Rattle.index.proofs.group.group_count.Kinds as group-count-kinds
+use Rattle.index.proofs.group.group_count.Reads as group-count-reads
+use Rattle.indexed.proofs.run_indexed.Kinds as run-indexed-kinds
+use Rattle.indexed.proofs.run_indexed.Reads as run-indexed-reads
 use Rattle.writer.proofs.write.write_script.Kinds as write-script-kinds
 use Rattle.writer.proofs.write.write_script.Reads as write-script-reads
 use Rattle.compactor.proofs.compact.compact.Kinds as compact-kinds
@@ -66,6 +77,12 @@ use Rattle.druthmoy.proofs.dm_write_kronecker.Kinds as dm-write-kronecker-kinds
 use Rattle.druthmoy.proofs.dm_write_kronecker.Reads as dm-write-kronecker-reads
 use Rattle.druthmoy.proofs.dm_run.Kinds as dm-run-kinds
 use Rattle.druthmoy.proofs.dm_run.Reads as dm-run-reads
+use Rattle.druthmoy.proofs.dm_index.Kinds as dm-index-kinds
+use Rattle.druthmoy.proofs.dm_index.Reads as dm-index-reads
+use Rattle.druthmoy.proofs.dm_group.Kinds as dm-group-kinds
+use Rattle.druthmoy.proofs.dm_group.Reads as dm-group-reads
+use Rattle.druthmoy.proofs.dm_run_indexed.Kinds as dm-run-indexed-kinds
+use Rattle.druthmoy.proofs.dm_run_indexed.Reads as dm-run-indexed-reads
 use Rattle.druthmoy.proofs.dm_write_script.Kinds as dm-write-script-kinds
 use Rattle.druthmoy.proofs.dm_write_script.Reads as dm-write-script-reads
 use Rattle.druthmoy.proofs.dm_compact.Kinds as dm-compact-kinds
@@ -76,10 +93,20 @@ use Rattle.druthmoy.proofs.dm_wide_from_narrow.Kinds as dm-wide-from-narrow-kin
 use Rattle.druthmoy.proofs.dm_wide_from_narrow.Reads as dm-wide-from-narrow-reads
 use Rattle.druthmoy.proofs.dm_narrow_from_wide.Kinds as dm-narrow-from-wide-kinds
 use Rattle.druthmoy.proofs.dm_narrow_from_wide.Reads as dm-narrow-from-wide-reads
-use Rattle.promises.specs.Calls.{Call, check, value, reasons, truthVector, coefficients, vectorBack, writeForm, bestPolarity, writeTree, writeKronecker, run, writeScript, compact, settle, wideFromNarrow, narrowFromWide, answers, leaves, wordsOf, Faced}
-use Rattle.promises.specs.Contracts.{IsCalled, IsFaced}
+use Rattle.promises.specs.Calls.{Call, check, value, reasons, truthVector, coefficients, vectorBack, writeForm, bestPolarity, writeTree, writeKronecker, run, buildIndex, group, runIndexed, writeScript, compact, settle, wideFromNarrow, narrowFromWide, answers, leaves, wordsOf, Faced}
+use Rattle.promises.specs.Contracts.{IsCalled, IsCalledBy, IsFaced}
 
 -- ---- from Rattle
+
+-- to a caller who is answered the starts of a run with an index they were all 0
+no-starts : (n : ℕ) (list script : List ℕ) (room indexRoom : ℕ)
+    → indexedStarts n list script room indexRoom ≡ startsIf (begun n list script room indexRoom) (indexedStarts n list script room indexRoom) (replicate groupCount 0)
+unfolding indexedStarts begun
+no-starts n list script room indexRoom = go (checkIndexed n list script room indexRoom)
+  where
+    go : (o : Outcome) → startsAfter o (runOf n list script room) ≡ startsIf (accepts o) (startsAfter o (runOf n list script room)) (replicate groupCount 0)
+    go (accepted v) = refl
+    go (refused r) = refl
 
 pub check-called : IsCalled 1 check-kinds.ps check-kinds.r check-reads.Learnt
     (λ κs a. check (a .0) (a .1 .0 .now))
@@ -146,6 +173,28 @@ pub run-called : IsCalled 3 run-kinds.ps run-kinds.r run-reads.Learnt
     (λ κs a ws. ws .1 .1 .1 .0 ∷ []) (λ κs z. finished z)
 unfolding answers leaves
 run-called κs a z ws p = record { answer = p .0; left = ap (λ (b : List ℕ). b ∷ []) (p .1) }
+
+pub build-called : IsCalledBy 2 build-kinds.ps build-kinds.r build-reads.Learnt
+    (λ κs a. buildIndex (a .0) (a .1 .0 .now) (a .1 .1 .0 .now) (replicate groupCount 0))
+    (λ κs a z ws. ws .1 .1 .0 ∷ z .starts ∷ []) (λ κs z. counted (z .answer))
+unfolding answers leaves buildStarts
+build-called κs a z ws p = record { answer = p .0; left = ap₂ (λ (b d : List ℕ). b ∷ d ∷ []) (p .1 .1) (p .1 .0) }
+
+pub group-called : IsCalled 2 group-count-kinds.ps group-count-kinds.r group-count-reads.Learnt
+    (λ κs a. group (a .0) (a .1 .0 .now) (a .1 .1 .0 .now) (a .1 .1 .1 .0) (a .1 .1 .1 .1 .0))
+    (λ κs a ws. []) (λ κs z. counted z)
+unfolding answers leaves
+group-called κs a z ws p = record { answer = p; left = refl }
+
+pub run-indexed-called : IsCalledBy 4 run-indexed-kinds.ps run-indexed-kinds.r run-indexed-reads.Learnt
+    (λ κs a. runIndexed (a .0) (a .1 .0 .now) (a .1 .1 .0 .now) (a .1 .1 .1 .0 .now) (a .1 .1 .1 .1 .0 .now) (replicate groupCount 0))
+    (λ κs a z ws. ws .1 .1 .1 .0 ∷ ws .1 .1 .1 .1 .0 ∷ z .starts ∷ []) (λ κs z. finished (z .answer))
+unfolding answers leaves
+run-indexed-called κs a z ws p = record {
+  answer = p .1 .0;
+  left = ap₂ (λ (bs : List ℕ × List ℕ) (d : List ℕ). bs .0 ∷ bs .1 ∷ d ∷ []) (ap₂ (λ (b d : List ℕ). (b, d)) (p .1 .1 .1 .0) (p .1 .1 .1 .1))
+      (p .1 .1 .0 ∙ no-starts _ _ _ _ _);
+}
 
 pub write-script-called : IsCalled 3 write-script-kinds.ps write-script-kinds.r write-script-reads.Learnt
     (λ κs a. writeScript (a .0) (a .1 .0 .now) (a .1 .1 .0 .now) (a .1 .1 .1 .0 .now))
@@ -247,6 +296,25 @@ pub dm-run-faced : IsFaced 4 dm-run-kinds.ps dm-run-kinds.r dm-run-reads.Learnt
     (λ κs a ws. ws .1 .1 .1 .0 ∷ []) (λ κs a ws. ws .1 .1 .1 .1 .0)
 unfolding answers leaves wordsOf
 dm-run-faced κs a z ws p = faced _ _ _ (p .0) (ap (λ (b : List ℕ). b ∷ []) (p .1))
+
+pub dm-index-faced : IsFaced 4 dm-index-kinds.ps dm-index-kinds.r dm-index-reads.Learnt
+    (λ κs a. buildIndex (a .0) (a .1 .0 .now) (a .1 .1 .0 .now) (a .1 .1 .1 .0 .now))
+    (λ κs a ws. ws .1 .1 .0 ∷ ws .1 .1 .1 .0 ∷ []) (λ κs a ws. ws .1 .1 .1 .1 .0)
+unfolding answers leaves wordsOf
+dm-index-faced κs a z ws p = faced _ _ _ (p .0) (ap₂ (λ (b d : List ℕ). b ∷ d ∷ []) (p .1 .0) (p .1 .1))
+
+pub dm-group-faced : IsFaced 4 dm-group-kinds.ps dm-group-kinds.r dm-group-reads.Learnt
+    (λ κs a. group (a .0) (a .1 .0 .now) (a .1 .1 .0 .now) (a .1 .1 .1 .0 .now) (a .1 .1 .1 .1 .0))
+    (λ κs a ws. []) (λ κs a ws. ws .1 .1 .1 .1 .1 .0)
+unfolding answers leaves wordsOf
+dm-group-faced κs a z ws p = faced _ _ _ p refl
+
+pub dm-run-indexed-faced : IsFaced 6 dm-run-indexed-kinds.ps dm-run-indexed-kinds.r dm-run-indexed-reads.Learnt
+    (λ κs a. runIndexed (a .0) (a .1 .0 .now) (a .1 .1 .0 .now) (a .1 .1 .1 .0 .now) (a .1 .1 .1 .1 .0 .now) (a .1 .1 .1 .1 .1 .0 .now))
+    (λ κs a ws. ws .1 .1 .1 .0 ∷ ws .1 .1 .1 .1 .0 ∷ ws .1 .1 .1 .1 .1 .0 ∷ []) (λ κs a ws. ws .1 .1 .1 .1 .1 .1 .0)
+unfolding answers leaves wordsOf
+dm-run-indexed-faced κs a z ws p =
+    faced _ _ _ (p .0) (ap₂ (λ (bs : List ℕ × List ℕ) (d : List ℕ). bs .0 ∷ bs .1 ∷ d ∷ []) (ap₂ (λ (b d : List ℕ). (b, d)) (p .1 .0) (p .1 .1 .0)) (p .1 .1 .1))
 
 pub dm-write-script-faced : IsFaced 4 dm-write-script-kinds.ps dm-write-script-kinds.r dm-write-script-reads.Learnt
     (λ κs a. writeScript (a .0) (a .1 .0 .now) (a .1 .1 .0 .now) (a .1 .1 .1 .0 .now))

@@ -22,11 +22,12 @@ use Rattle.steps.proofs.Inversion.{step-refused, step-number, step-third}
 use Rattle.script.specs.Run.{Ran, stopped, ended}
 use Rattle.script.specs.Scripts.{stepsOf}
 use Rattle.script.specs.Calls.{runOf, atStep, ofStep, ranOutcome, ranWork}
+use Rattle.indexed.specs.Calls.{ranIndex, ranStarts}
 use Rattle.script.proofs.Refusals.{stopped-steps, refused-stops}
 use Rattle.settling.specs.Calls.{ranSettled, ranBurned}
-use Rattle.promises.specs.Calls.{Call, check, value, reasons, truthVector, coefficients, vectorBack, writeForm, bestPolarity, writeTree, writeKronecker, run, writeScript, compact, settle, wideFromNarrow, narrowFromWide, answers, lent, leaves, Called}
-use Rattle.promises.specs.Refusals.{NoneWrong, FirstWrong, faults, beforeSteps, RefusedBefore, StepStops, Stopped, RefusedAtStep, in-run, in-settle}
-use Rattle.promises.specs.Accepted.{goesOn, goesOnLeaving, ScriptStops, run-stops, settle-stops, ScriptEnds}
+use Rattle.promises.specs.Calls.{Call, check, value, reasons, truthVector, coefficients, vectorBack, writeForm, bestPolarity, writeTree, writeKronecker, run, buildIndex, group, runIndexed, writeScript, compact, settle, wideFromNarrow, narrowFromWide, answers, lent, leaves, Called}
+use Rattle.promises.specs.Refusals.{NoneWrong, FirstWrong, faults, beforeSteps, RefusedBefore, StepStops, Stopped, RefusedAtStep, in-run, in-run-indexed, in-settle}
+use Rattle.promises.specs.Accepted.{goesOn, goesOnLeaving, ScriptStops, run-stops, run-indexed-stops, settle-stops, ScriptEnds}
 use Rattle.promises.proofs.Chains.{first-only, first-number, not-none}
 use Rattle.promises.proofs.Numbers.{numbered}
 use Rattle.promises.proofs.Judging.{Outcomes, judged}
@@ -60,6 +61,8 @@ at-step (writeForm n vector p out) r buffers none e f = absurd (not-both e)
 at-step (bestPolarity n vector) r buffers none e f = absurd (not-both e)
 at-step (writeTree n vector out) r buffers none e f = absurd (not-both e)
 at-step (writeKronecker n vector out) r buffers none e f = absurd (not-both e)
+at-step (buildIndex n list index starts) r buffers none e f = absurd (not-both e)
+at-step (group n list index starts number) r buffers none e f = absurd (not-both e)
 at-step (writeScript n list work script) r buffers none e f = absurd (not-both e)
 at-step (compact n count script out) r buffers none e f = absurd (not-both e)
 at-step (wideFromNarrow n list out) r buffers none e f = absurd (not-both e)
@@ -71,6 +74,14 @@ at-step (run n list script work) r buffers none e f = go (runOf n list script (l
     go (ended l peak) is e f = absurd (not-both e)
     go (stopped why step) is e f =
         in-run n list script work none (stops n list script work r (is ∙ ap (λ (q : Refusal). stopped (ofStep q) (q .place)) (refused-same e))) f
+at-step (runIndexed n list script work index starts) r buffers none e f = go (runOf n list script (length work)) refl e f
+  where
+    go : (ran : Ran Cube) → runOf n list script (length work) ≡ ran → ranOutcome ran ≡ refused r
+        → buffers ≡ ranWork (length work) ran ∷ ranIndex (length index) ran ∷ ranStarts ran ∷ []
+        → RefusedAtStep r buffers (runIndexed n list script work index starts)
+    go (ended l peak) is e f = absurd (not-both e)
+    go (stopped why step) is e f =
+        in-run-indexed n list script work index starts none (stops n list script work r (is ∙ ap (λ (q : Refusal). stopped (ofStep q) (q .place)) (refused-same e))) f
 at-step (settle n list script work out) r buffers none e f = go (runOf n list script (length work)) refl e f
   where
     go : (ran : Ran Cube) → runOf n list script (length work) ≡ ran → ranSettled n (cubesOf list) ran ≡ refused r
@@ -92,12 +103,15 @@ stop-told n list script work r s =
 
 step-told : {r : Refusal} {buffers : List (List ℕ)} {c : Call} → RefusedAtStep r buffers c → StepTold r
 step-told (in-run n list script work none s e) = stop-told n list script work _ s
+step-told (in-run-indexed n list script work index starts none s e) = stop-told n list script work _ s
 step-told (in-settle n list script work out none s e) = stop-told n list script work _ s
 
 -- where nothing is wrong and a step of the script is refused, the call is
 refuses : {c : Call} {why : StepRefusal} {k : ℕ} → ScriptStops why k c → goesOn c ≡ refused (atStep why k)
 unfolding goesOn runOf
 refuses (run-stops n list script work s) = ap ranOutcome (refused-stops n (cubeCapacity (length work)) (stepsOf script) (cubesOf list) _ _ s)
+refuses (run-indexed-stops n list script work index starts s) =
+    ap ranOutcome (refused-stops n (cubeCapacity (length work)) (stepsOf script) (cubesOf list) _ _ s)
 refuses (settle-stops n list script work out s) =
     ap (ranSettled n (cubesOf list)) (refused-stops n (cubeCapacity (length work)) (stepsOf script) (cubesOf list) _ _ s)
 
@@ -115,6 +129,9 @@ accepts (bestPolarity n vector) s = (_, refl)
 accepts (writeTree n vector out) s = (_, refl)
 accepts (writeKronecker n vector out) s = (_, refl)
 accepts (run n list script work) s = (_, ap ranOutcome (s .is))
+accepts (buildIndex n list index starts) s = (_, refl)
+accepts (group n list index starts number) s = (_, refl)
+accepts (runIndexed n list script work index starts) s = (_, ap ranOutcome (s .is))
 accepts (writeScript n list work script) s = (_, refl)
 accepts (compact n count script out) s = (_, refl)
 accepts (settle n list script work out) s = (_, ap (ranSettled n (cubesOf list)) (s .is))
@@ -139,7 +156,7 @@ module _ (c : Call) (o : Outcome) (buffers : List (List ℕ)) (called : Called c
       go (judging.right none e k) = absurd (not-none (faults c) number place f none)
 
   -- Nothing else is: what is refused was wrong, and the first in order, and nothing was written; or a step of the script was, where nothing
-  -- before the steps was wrong, and then every byte of the work buffer is zero, and no list is handed out.
+  -- before the steps was wrong, and then every byte of the work buffer is zero, of an index buffer and of its starts too, and no list is handed out.
   pub refused-call : (r : Refusal) → o ≡ refused r → RefusedBefore r buffers c ⊎ RefusedAtStep r buffers c
   refused-call r is = go (judged c)
     where
@@ -154,7 +171,7 @@ module _ (c : Call) (o : Outcome) (buffers : List (List ℕ)) (called : Called c
           })
       go (judging.right none e k) = inr (at-step c r buffers none (sym e ∙ sym (called .answer) ∙ is) (called .left ∙ k))
 
-  -- Every refusal is by 1 to 9, 14, 15 or 20, found before the first step, or by 10, 11, 13 or one of 16 to 19, found at a step. So none is 0.
+  -- Every refusal is by 1 to 9, 14, 15, 20, 21 or 25, found before the first step, or by 10, 11, 13 or one of 16 to 19, found at a step. So none is 0.
   pub refused-number : (r : Refusal) → o ≡ refused r → (beforeSteps (r .number) ≡ true) ⊎ (byStep (r .number) ≡ true)
   refused-number r is = go (refused-call r is)
     where

@@ -13,41 +13,44 @@ use Rattle.settling.specs.declared.Fixed.the-variants as fixed-is
 use Rattle.settling.specs.declared.Settled.the-variants as settled-is
 use Rattle.settling.specs.declared.Settlement.{Settlement}
 use Rattle.settling.specs.Calls.{settled}
-use Rattle.druthmoy.specs.Faces.{eight, words, settledWords}
-use Rattle.promises.specs.Calls.{Call, check, value, reasons, truthVector, coefficients, vectorBack, writeForm, bestPolarity, writeTree, writeKronecker, run, writeScript, compact, settle, wideFromNarrow, narrowFromWide, wordsOf, Faced}
+use Rattle.druthmoy.specs.Faces.{eight, words, settledWords, withStart}
+use Rattle.promises.specs.Calls.{Call, check, value, reasons, truthVector, coefficients, vectorBack, writeForm, bestPolarity, writeTree, writeKronecker, run, buildIndex, group, runIndexed, writeScript, compact, settle, wideFromNarrow, narrowFromWide, wordsOf, Faced}
 use Rattle.promises.specs.Faced.{polarityWord, sizeWord, SettledFace}
 use Rattle.promises.proofs.DemandOne.{refused-above-0}
 use Rattle.promises.proofs.Calling.{accepted-settled}
 
 -- ---- word 0, the place and the third answer
 
--- what holds of the words of an outcome, settle's and the others', holds of every call's
-words-by : (o : Outcome) (P : List ℕ → Type 0) → P (words o) → P (settledWords o) → (c : Call) → P (wordsOf c o)
+-- what holds of the words of an outcome, settle's, a group's and the others', holds of every call's
+words-by : (o : Outcome) (P : List ℕ → Type 0) → P (words o) → P (settledWords o) → ((start : ℕ) → P (words (withStart start o))) → (c : Call) → P (wordsOf c o)
 unfolding wordsOf
-words-by o P w s (check n list) = w
-words-by o P w s (value n list a) = w
-words-by o P w s (reasons n list a out) = w
-words-by o P w s (truthVector n list out) = w
-words-by o P w s (coefficients n vector p out) = w
-words-by o P w s (vectorBack n vector p out) = w
-words-by o P w s (writeForm n vector p out) = w
-words-by o P w s (bestPolarity n vector) = w
-words-by o P w s (writeTree n vector out) = w
-words-by o P w s (writeKronecker n vector out) = w
-words-by o P w s (run n list script work) = w
-words-by o P w s (writeScript n list work script) = w
-words-by o P w s (compact n count script out) = w
-words-by o P w s (settle n list script work out) = s
-words-by o P w s (wideFromNarrow n list out) = w
-words-by o P w s (narrowFromWide n list out) = w
+words-by o P w s g (check n list) = w
+words-by o P w s g (value n list a) = w
+words-by o P w s g (reasons n list a out) = w
+words-by o P w s g (truthVector n list out) = w
+words-by o P w s g (coefficients n vector p out) = w
+words-by o P w s g (vectorBack n vector p out) = w
+words-by o P w s g (writeForm n vector p out) = w
+words-by o P w s g (bestPolarity n vector) = w
+words-by o P w s g (writeTree n vector out) = w
+words-by o P w s g (writeKronecker n vector out) = w
+words-by o P w s g (run n list script work) = w
+words-by o P w s g (buildIndex n list index starts) = w
+words-by o P w s g (group n list index starts number) = g (getD starts number 0)
+words-by o P w s g (runIndexed n list script work index starts) = w
+words-by o P w s g (writeScript n list work script) = w
+words-by o P w s g (compact n count script out) = w
+words-by o P w s g (settle n list script work out) = s
+words-by o P w s g (wideFromNarrow n list out) = w
+words-by o P w s g (narrowFromWide n list out) = w
 
 words-refused : (c : Call) (r : Refusal) → wordsOf c (refused r) ≡ eight (r .number) (r .place) (r .differing ∷ [])
 unfolding words settledWords
-words-refused c r = words-by (refused r) (λ w. w ≡ eight (r .number) (r .place) (r .differing ∷ [])) refl refl c
+words-refused c r = words-by (refused r) (λ w. w ≡ eight (r .number) (r .place) (r .differing ∷ [])) refl refl (λ start. refl) c
 
 words-accepted : (c : Call) (v : List ℕ) → getD (wordsOf c (accepted v)) 0 0 ≡ 0
 unfolding words settledWords
-words-accepted c v = words-by (accepted v) (λ w. getD w 0 0 ≡ 0) refl refl c
+words-accepted c v = words-by (accepted v) (λ w. getD w 0 0 ≡ 0) refl refl (λ start. refl) c
 
 module _ (c : Call) (answer : List ℕ) (buffers : List (List ℕ)) (F : Faced c answer buffers) where
   -- Refused: word 0 is the number, which is not 0, word 1 the place, word 2 the third answer, and the others are 0.

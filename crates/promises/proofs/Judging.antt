@@ -1,15 +1,19 @@
 -- Every call by its faults: the first that is wrong is what it refuses, and then it leaves its buffers as they were; where none is, how it goes on.
 -- Assumes nothing.
-use mathlib.Core.Path.{_≡_, refl, ap, ap₂}
-use mathlib.Core.List.{List, [], _∷_, _++_}
-use Prim.Native.Nat.{ℕ, _*_, _/_, _%_, _^_, _≤_, _<_, min}
+use mathlib.Core.Path.{_≡_, refl, sym, ap, ap₂, _∙_, subst}
+use mathlib.Core.Logic.{inl, inr}
+use mathlib.Core.Bool.{Bool, true, false, true≢false}
+use mathlib.Core.List.{List, [], _∷_, _++_, append-assoc}
+use Prim.Native.Nat.{ℕ, _*_, _/_, _%_, _^_, _≤_, _<_, min, zero-le}
 use native.Mathlib.Omega.{arith}
-use borrow.Author.Tests.{leb-false, leb-true, ltb-true, ltb-false, eqb-false, eqb-true}
+use borrow.Author.Tests.{leb-false, leb-true, ltb-true, ltb-false, eqb-false, eqb-true, not-true, not-false}
 use lib.Dec.{leb, ltb, eqb}
-use lib.ListN.{length}
+use lib.ListN.{length, getD}
+use Rattle.bits.specs.Below.{listBelow}
+use Rattle.bits.proofs.Below.{length-listBelow, getD-listBelow}
 use Rattle.records.specs.declared.Refusal.{Refusal}
-use Rattle.records.specs.Records.{Codec, listOf}
-use Rattle.records.specs.Places.{placeWidth}
+use Rattle.records.specs.Records.{Codec, records, listOf}
+use Rattle.records.specs.Places.{placeWidth, places}
 use Rattle.records.specs.Answers.{Outcome, accepted, refused, refusal, unless, andThen}
 use Rattle.records.proofs.Answers.{and-then, and-not, after-refused, after-accepted}
 use Rattle.cube.specs.declared.Cube.{Cube}
@@ -28,11 +32,16 @@ use Rattle.kronecker.specs.Choices.{kroneckerList}
 use Rattle.kronecker.specs.Calls.{kroneckerVariables, kroneckerOutcome, kroneckerAfter}
 use Rattle.script.specs.Scripts.{stepRecords, stepWidth, mostSteps, fits}
 use Rattle.script.specs.Calls.{checkScript, checkRun, runOf, runOutcome, workAfter, runAfter}
+use Rattle.index.specs.Index.{groupCount, listIndex, listStarts, listGroup}
+use Rattle.index.specs.Calls.{firstApart, unlessRight, ownOutcome, buildOutcome, buildAfter, groupOutcome}
+use Rattle.index.proofs.Apart.{is-first}
+use Rattle.indexed.specs.Calls.{checkIndexed, indexedOutcome, indexedWork, indexedIndex, indexedStarts, indexAfter, startsAfter, accepts, begun}
 use Rattle.writer.specs.Calls.{writeOutcome, writeWork, writeSteps}
 use Rattle.compactor.specs.Calls.{compactOutcome, compactAfter}
+use Rattle.druthmoy.specs.Faces.{startsIf}
 use Rattle.settling.specs.Calls.{checkSettle, settleOutcome, settleWorkBy, settleWork, settleOutBy, settleOut}
-use Rattle.promises.specs.Calls.{Call, check, value, reasons, truthVector, coefficients, vectorBack, writeForm, bestPolarity, writeTree, writeKronecker, run, writeScript, compact, settle, wideFromNarrow, narrowFromWide, answers, lent, leaves}
-use Rattle.promises.specs.Refusals.{Fault, at, NoneWrong, FirstWrong, recordFaults, listFaults, atFaults, scriptFaults, vectorFaults, faults}
+use Rattle.promises.specs.Calls.{Call, check, value, reasons, truthVector, coefficients, vectorBack, writeForm, bestPolarity, writeTree, writeKronecker, run, buildIndex, group, runIndexed, writeScript, compact, settle, wideFromNarrow, narrowFromWide, answers, lent, leaves}
+use Rattle.promises.specs.Refusals.{Fault, at, Lowest, NoneWrong, FirstWrong, recordFaults, listFaults, atFaults, scriptFaults, vectorFaults, indexFaults, notRight, faults}
 use Rattle.promises.specs.Accepted.{goesOn, goesOnLeaving}
 use Rattle.promises.proofs.Chains.{Judged, judge-end, judge-unless, judge-lowest, judge-and}
 use Rattle.promises.proofs.Chains as chains
@@ -92,6 +101,55 @@ pub by-at : (n : ℕ) (list : List ℕ) (a : ℕ) → Judged (atFaults n list a)
 unfolding checkAt atFaults
 by-at n list a = after-list cubes mostVariables n list _ _ _ (unless-lt (judge-end _) a (2 ^ n) 6 0)
 
+-- of m numbers, the first that is not the right one
+module _ (m : ℕ) (l right : List ℕ) where
+  abbrev isRight : ℕ → Bool
+  isRight i = eqb (getD l i 0) (getD right i 0)
+
+  abbrev upTo : List ℕ
+  upTo = listBelow m (λ i. i)
+
+  at-place : (q : ℕ) → q < m → isRight (getD upTo q 0) ≡ isRight q
+  at-place q h = ap isRight (getD-listBelow m (λ i. i) q 0 h)
+
+  passed-before : (q : ℕ) → q < firstApart m l right → isRight q ≡ true
+  passed-before q h = not-false (isRight q) (is-first m l right .before .none q zero-le h)
+
+  none-apart : firstApart m l right ≡ m → (q : ℕ) → Lowest isRight 0 upTo q → ⊥
+  none-apart e q low =
+      let h : q < m = subst (λ (k : ℕ). q < k) (length-listBelow m (λ i. i)) (low .inside) in
+      true≢false (sym (passed-before q (subst (λ (k : ℕ). q < k) (sym e) h)) ∙ sym (at-place q h) ∙ low .fails)
+
+  by-right : {xs : List Fault} {o rest : Outcome} → Judged xs o rest → Judged (notRight m l right ∷ xs) (unlessRight m l right 25 o) rest
+  by-right {xs = xs} {o = o} {rest = rest} j = go (eqb (firstApart m l right) m) refl j
+    where
+      go : (t : Bool) → eqb (firstApart m l right) m ≡ t → Judged xs o rest → Judged (notRight m l right ∷ xs) (unless t 25 (firstApart m l right) o) rest
+      go true t (chains.wrong number q f e) = chains.wrong number q (inr (none-apart (eqb-true _ _ t), f)) e
+      go true t (chains.right n e) = chains.right (none-apart (eqb-true _ _ t), n) e
+      go false t k =
+          let ne : firstApart m l right ≡ m → ⊥ = eqb-false (firstApart m l right) m t in
+          let inside : firstApart m l right < m = omega (arith, is-first m l right .before .most, ne) in
+          chains.wrong 25 (firstApart m l right) (inl (
+            refl,
+            record {
+              inside = subst (λ (k : ℕ). firstApart m l right < k) (sym (length-listBelow m (λ i. i))) inside;
+              fails = at-place (firstApart m l right) inside ∙ not-true (isRight (firstApart m l right)) (is-first m l right .passes inside);
+              passed = λ i h. at-place i (omega (arith, inside)) ∙ passed-before i h;
+            },
+          )) refl
+
+by-group : (n : ℕ) (list index starts : List ℕ) (number : ℕ)
+    → Judged (faults (group n list index starts number)) (groupOutcome n list index starts number) (accepted (length (listGroup (cubesOf list) number) ∷ []))
+unfolding faults indexFaults groupOutcome ownOutcome
+by-group n list index starts number =
+    subst (λ (xs : List Fault). Judged xs (groupOutcome n list index starts number) (accepted (length (listGroup (cubesOf list) number) ∷ [])))
+    (sym (append-assoc (listFaults cubes mostVariables n list) _ _))
+    (after-list cubes mostVariables n list _ _ _
+    (unless-le
+    (by-right (length (cubesOf list)) (records places (length (cubesOf list)) index) (listIndex (cubesOf list))
+    (by-right groupCount starts (listStarts (cubesOf list)) (unless-lt (judge-end _) number groupCount 21 0)))
+    (placeWidth * length (cubesOf list)) (length index) 5 0))
+
 after-vector : (n : ℕ) (l : List ℕ) (ys : List Fault) (o rest : Outcome)
     → Judged ys o rest → Judged (vectorFaults n l ++ ys) (andThen (checkVector n l) o) rest
 after-vector n l ys o rest j = judge-and (vectorFaults n l) ys (checkVector n l) o rest _ (by-vector n l) j
@@ -115,7 +173,7 @@ one-buffer : {b d : List ℕ} → b ≡ d → b ∷ [] ≡ d ∷ []
 one-buffer e = ap (λ (x : List ℕ). x ∷ []) e
 
 pub judged : (c : Call) → Outcomes c
-unfolding answers lent leaves faults goesOn goesOnLeaving valueOutcome reasonsOutcome reasonsAfter vectorOutcome vectorAfter coefficientsOutcome coefficientsAfter backAfter formOutcome formAfter bestOutcome treeOutcome treeAfter kroneckerOutcome kroneckerAfter runOutcome runAfter checkRun writeOutcome writeWork writeSteps compactOutcome compactAfter checkSettle settleOutcome settleWork settleOut wideOutcome wideAfter narrowOutcome narrowAfter
+unfolding answers lent leaves faults goesOn goesOnLeaving valueOutcome reasonsOutcome reasonsAfter vectorOutcome vectorAfter coefficientsOutcome coefficientsAfter backAfter formOutcome formAfter bestOutcome treeOutcome treeAfter kroneckerOutcome kroneckerAfter runOutcome runAfter checkRun writeOutcome writeWork writeSteps compactOutcome compactAfter checkSettle settleOutcome settleWork settleOut wideOutcome wideAfter narrowOutcome narrowAfter buildOutcome buildAfter checkIndexed indexedOutcome indexedWork indexedIndex indexedStarts begun indexFaults
 judged (check n list) = by-tests (check n list) (checkList mostVariables n list) _ (by-list cubes mostVariables n list) (λ r e. (e, refl)) (λ e. (e, refl))
 judged (value n list a) =
     by-tests (value n list a) (checkAt n list a) _ (by-at n list a) (λ r e. (and-not _ _ r e, refl)) (λ e. (and-then _ _ _ e, refl))
@@ -156,6 +214,28 @@ judged (run n list script work) =
     (after-list cubes mostVariables n list _ _ _ (unless-le (by-script n script) (length (cubesOf list)) (cubeCapacity (length work)) 5 0))
     (λ r e. (and-not _ _ r e, one-buffer (ap (λ (o : Outcome). workAfter o work (runOf n list script (length work))) e)))
     (λ e. (and-then _ _ _ e, one-buffer (ap (λ (o : Outcome). workAfter o work (runOf n list script (length work))) e)))
+judged (buildIndex n list index starts) =
+    by-tests (buildIndex n list index starts) (buildOutcome n list (length index)) _
+    (after-list cubes mostVariables n list _ _ _ (unless-le (judge-end _) (placeWidth * length (cubesOf list)) (length index) 5 0))
+    (λ r e. (e, ap₂ (λ (b d : List ℕ). b ∷ d ∷ []) (after-refused _ _ index r e) (after-refused _ _ starts r e)))
+    (λ e. (e, ap₂ (λ (b d : List ℕ). b ∷ d ∷ []) (after-accepted _ _ index _ e) (after-accepted _ _ starts _ e)))
+judged (group n list index starts number) =
+    by-tests (group n list index starts number) (groupOutcome n list index starts number) _
+    (by-group n list index starts number)
+    (λ r e. (e, refl)) (λ e. (e, refl))
+judged (runIndexed n list script work index starts) =
+    by-tests (runIndexed n list script work index starts) (checkIndexed n list script (length work) (length index)) _
+    (after-list cubes mostVariables n list _ _ _
+    (unless-le (unless-le (by-script n script) (placeWidth * cubeCapacity (length work)) (length index) 5 0) (length (cubesOf list)) (cubeCapacity (length work)) 5 0))
+    (λ r e. (and-not _ _ r e, three-buffers e)) (λ e. (and-then _ _ _ e, three-buffers e))
+  where
+    three-buffers : {o : Outcome} → checkIndexed n list script (length work) (length index) ≡ o
+        → leaves (runIndexed n list script work index starts)
+        ≡ workAfter o work (runOf n list script (length work)) ∷ indexAfter o index (runOf n list script (length work))
+        ∷ startsIf (accepts o) (startsAfter o (runOf n list script (length work))) starts ∷ []
+    three-buffers e =
+        ap (λ (o : Outcome). workAfter o work (runOf n list script (length work)) ∷ indexAfter o index (runOf n list script (length work))
+        ∷ startsIf (accepts o) (startsAfter o (runOf n list script (length work))) starts ∷ []) e
 judged (writeScript n list work script) =
     by-tests (writeScript n list work script) (writeOutcome n list (length work) (length script)) _
     (after-list cubes mostVariables n list _ _ _

@@ -20,5 +20,6 @@ pub mod DemandTwoCalls
 pub mod WrittenList
 pub mod CheapestTree
 pub mod OneChoice
+pub mod ByLiterals
 pub mod Faces
 pub mod Examples

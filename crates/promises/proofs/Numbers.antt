@@ -5,8 +5,8 @@ use mathlib.Core.List.{List}
 use Prim.Native.Nat.{ℕ}
 use Rattle.records.specs.Records.{Codec}
 use Rattle.cube.specs.declared.Cube.{Cube}
-use Rattle.promises.specs.Calls.{Call, check, value, reasons, truthVector, coefficients, vectorBack, writeForm, bestPolarity, writeTree, writeKronecker, run, writeScript, compact, settle, wideFromNarrow, narrowFromWide}
-use Rattle.promises.specs.Refusals.{recordFaults, listFaults, atFaults, scriptFaults, vectorFaults, faults}
+use Rattle.promises.specs.Calls.{Call, check, value, reasons, truthVector, coefficients, vectorBack, writeForm, bestPolarity, writeTree, writeKronecker, run, buildIndex, group, runIndexed, writeScript, compact, settle, wideFromNarrow, narrowFromWide}
+use Rattle.promises.specs.Refusals.{recordFaults, listFaults, atFaults, scriptFaults, vectorFaults, indexFaults, faults}
 use Rattle.promises.proofs.Chains.{Numbered, numbered-both}
 
 records-numbered : (C : Codec Cube) (n : ℕ) (list : List ℕ) → Numbered (recordFaults C n list)
@@ -29,6 +29,10 @@ vector-numbered : (n : ℕ) (vector : List ℕ) → Numbered (vectorFaults n vec
 unfolding vectorFaults
 vector-numbered n vector = (refl, (refl, (refl, tt)))
 
+index-numbered : (n : ℕ) (list index : List ℕ) → Numbered (indexFaults n list index)
+unfolding indexFaults
+index-numbered n list index = numbered-both (listFaults _ _ n list) _ (list-numbered _ _ n list) (refl, tt)
+
 pub numbered : (c : Call) → Numbered (faults c)
 unfolding faults
 numbered (check n list) = list-numbered _ _ n list
@@ -42,6 +46,10 @@ numbered (bestPolarity n vector) = vector-numbered n vector
 numbered (writeTree n vector out) = numbered-both (vectorFaults n vector) _ (vector-numbered n vector) (refl, tt)
 numbered (writeKronecker n vector out) = (refl, numbered-both (vectorFaults n vector) _ (vector-numbered n vector) (refl, tt))
 numbered (run n list script work) = numbered-both (listFaults _ _ n list) _ (list-numbered _ _ n list) (refl, script-numbered n script)
+numbered (buildIndex n list index starts) = index-numbered n list index
+numbered (group n list index starts number) = numbered-both (indexFaults n list index) _ (index-numbered n list index) (refl, (refl, (refl, tt)))
+numbered (runIndexed n list script work index starts) =
+    numbered-both (listFaults _ _ n list) _ (list-numbered _ _ n list) (refl, (refl, script-numbered n script))
 numbered (writeScript n list work script) = numbered-both (listFaults _ _ n list) _ (list-numbered _ _ n list) (refl, (refl, tt))
 numbered (compact n count script out) = (refl, (refl, numbered-both (scriptFaults n script) _ (script-numbered n script) (refl, tt)))
 numbered (settle n list script work out) =

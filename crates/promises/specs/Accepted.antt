@@ -26,6 +26,8 @@ use Rattle.script.specs.Scripts.{stepRecords, mostSteps, recordOf, stepsOf}
 use Rattle.script.specs.Calls.{runOf, ranOutcome, ranWork}
 use Rattle.writer.specs.Easy.{easySteps, easyEnd, easyFinished}
 use Rattle.compactor.specs.Compact.{compacted}
+use Rattle.index.specs.Index.{listIndex, listStarts, listGroup}
+use Rattle.indexed.specs.Calls.{ranIndex, ranStarts}
 use Rattle.settling.specs.Calls.{ranSettled, ranBurned}
 use Rattle.steps.specs.declared.StepRefusal.{StepRefusal}
 use Rattle.promises.specs.Calls.{Call}
@@ -45,6 +47,9 @@ goesOn (call.writeTree n vector out) = accepted (length (treeList n (byteAt vect
 goesOn (call.writeKronecker n vector out) =
     accepted (cost (kroneckerList n (byteAt vector)) ∷ bestChoice n (byteAt vector) ∷ length (kroneckerList n (byteAt vector)) ∷ [])
 goesOn (call.run n list script work) = ranOutcome (runOf n list script (length work))
+goesOn (call.buildIndex n list index starts) = accepted (length (cubesOf list) ∷ [])
+goesOn (call.group n list index starts number) = accepted (length (listGroup (cubesOf list) number) ∷ [])
+goesOn (call.runIndexed n list script work index starts) = ranOutcome (runOf n list script (length work))
 goesOn (call.writeScript n list work script) =
     accepted (length (easySteps n mostSteps (cubesOf list)) ∷ oneIf (easyFinished n mostSteps (cubesOf list)) ∷ [])
 goesOn (call.compact n count script out) = accepted (length (compacted count (stepsOf script)) ∷ [])
@@ -65,6 +70,13 @@ goesOnLeaving (call.bestPolarity n vector) = []
 goesOnLeaving (call.writeTree n vector out) = written cubes 0 (treeList n (byteAt vector)) out ∷ []
 goesOnLeaving (call.writeKronecker n vector out) = written cubes 0 (kroneckerList n (byteAt vector)) out ∷ []
 goesOnLeaving (call.run n list script work) = ranWork (length work) (runOf n list script (length work)) ∷ []
+goesOnLeaving (call.buildIndex n list index starts) = written places 0 (listIndex (cubesOf list)) index ∷ listStarts (cubesOf list) ∷ []
+goesOnLeaving (call.group n list index starts number) = []
+goesOnLeaving (call.runIndexed n list script work index starts) =
+    ranWork (length work) (runOf n list script (length work))
+    ∷ ranIndex (length index) (runOf n list script (length work))
+    ∷ ranStarts (runOf n list script (length work))
+    ∷ []
 goesOnLeaving (call.writeScript n list work script) =
     image cubes (length work) (easyEnd n mostSteps (cubesOf list)) ∷ written stepRecords 0 (map recordOf (easySteps n mostSteps (cubesOf list))) script ∷ []
 goesOnLeaving (call.compact n count script out) = written stepRecords 0 (map recordOf (compacted count (stepsOf script))) out ∷ []
@@ -81,6 +93,7 @@ pub record EndOfScript (n : ℕ) (list script work : List ℕ) : Type 0 where
 -- step k of the script is refused
 pub data ScriptStops (why : StepRefusal) (k : ℕ) : Call → Type 0 where
   run-stops : (n : ℕ) (list script work : List ℕ) → StepStops n list script work why k → ScriptStops why k (call.run n list script work)
+  run-indexed-stops : (n : ℕ) (list script work index starts : List ℕ) → StepStops n list script work why k → ScriptStops why k (call.runIndexed n list script work index starts)
   settle-stops : (n : ℕ) (list script work out : List ℕ) → StepStops n list script work why k → ScriptStops why k (call.settle n list script work out)
 
 -- no step of it is, where the call has one
@@ -96,6 +109,9 @@ ScriptEnds (call.bestPolarity n vector) = Unit {0}
 ScriptEnds (call.writeTree n vector out) = Unit {0}
 ScriptEnds (call.writeKronecker n vector out) = Unit {0}
 ScriptEnds (call.run n list script work) = EndOfScript n list script work
+ScriptEnds (call.buildIndex n list index starts) = Unit {0}
+ScriptEnds (call.group n list index starts number) = Unit {0}
+ScriptEnds (call.runIndexed n list script work index starts) = EndOfScript n list script work
 ScriptEnds (call.writeScript n list work script) = Unit {0}
 ScriptEnds (call.compact n count script out) = Unit {0}
 ScriptEnds (call.settle n list script work out) = EndOfScript n list script work

@@ -3,9 +3,9 @@
 use mathlib.Core.Path.{_≡_}
 use mathlib.Core.List.{List, [], _∷_}
 use Prim.Native.Nat.{ℕ}
-use lib.ListN.{length}
-use Rattle.records.specs.Answers.{Outcome}
-use Rattle.cube.specs.Lists.{mostVariables}
+use lib.ListN.{length, getD}
+use Rattle.records.specs.Answers.{Outcome, afterCall}
+use Rattle.cube.specs.Lists.{cubesOf, mostVariables}
 use Rattle.cube.specs.Calls.{checkList, valueOutcome, vectorOutcome, vectorAfter}
 use Rattle.reasons.specs.Calls.{reasonsOutcome, reasonsAfter}
 use Rattle.converters.specs.Calls.{wideOutcome, wideAfter, narrowOutcome, narrowAfter}
@@ -13,10 +13,13 @@ use Rattle.polarity.specs.Calls.{coefficientsOutcome, coefficientsAfter, backAf
 use Rattle.trees.specs.Calls.{treeOutcome, treeAfter}
 use Rattle.kronecker.specs.Calls.{kroneckerOutcome, kroneckerAfter}
 use Rattle.script.specs.Calls.{runOutcome, runAfter}
+use Rattle.index.specs.Index.{listStarts}
+use Rattle.index.specs.Calls.{buildOutcome, buildAfter, groupOutcome}
+use Rattle.indexed.specs.Calls.{begun, indexedOutcome, indexedStarts, indexedWork, indexedIndex}
 use Rattle.writer.specs.Calls.{writeOutcome, writeWork, writeSteps}
 use Rattle.compactor.specs.Calls.{compactOutcome, compactAfter}
 use Rattle.settling.specs.Calls.{settleOutcome, settleWork, settleOut}
-use Rattle.druthmoy.specs.Faces.{words, settledWords}
+use Rattle.druthmoy.specs.Faces.{words, settledWords, withStart, startsIf}
 
 -- a call, with its arguments in order; `out`, `work` and, where a script is written, `script` are the bytes that the lent buffers held before it
 pub data Call : Type 0 where
@@ -41,6 +44,12 @@ pub data Call : Type 0 where
   writeKronecker : ℕ → List ℕ → List ℕ → Call
   -- "Run": n, the list, the script, work
   run : ℕ → List ℕ → List ℕ → List ℕ → Call
+  -- "Keep beside a list an index" (document 02, Eight): n, the list, the index buffer, the starts
+  buildIndex : ℕ → List ℕ → List ℕ → List ℕ → Call
+  -- "Asked for a number from 0 to 32", "a sibling call gives its number and place" (document 02, Eight): n, the list, the index, the starts, the number
+  group : ℕ → List ℕ → List ℕ → List ℕ → ℕ → Call
+  -- "A sibling of run keeps one for the work list" (document 02, Eight): n, the list, the script, work, the index buffer, the starts
+  runIndexed : ℕ → List ℕ → List ℕ → List ℕ → List ℕ → List ℕ → Call
   -- "Add a writer of scripts" (document 02, Three): n, the list, work, the script buffer
   writeScript : ℕ → List ℕ → List ℕ → List ℕ → Call
   -- "Add a compactor" (document 02, Eleven): n, the count, the script, out
@@ -64,13 +73,17 @@ answers (bestPolarity n vector) = bestOutcome n vector
 answers (writeTree n vector out) = treeOutcome n vector (length out)
 answers (writeKronecker n vector out) = kroneckerOutcome n vector (length out)
 answers (run n list script work) = runOutcome n list script (length work)
+answers (buildIndex n list index starts) = buildOutcome n list (length index)
+answers (group n list index starts number) = groupOutcome n list index starts number
+answers (runIndexed n list script work index starts) = indexedOutcome n list script (length work) (length index)
 answers (writeScript n list work script) = writeOutcome n list (length work) (length script)
 answers (compact n count script out) = compactOutcome n count script (length out)
 answers (settle n list script work out) = settleOutcome n list script (length work) (length out)
 answers (wideFromNarrow n list out) = wideOutcome n list (length out)
 answers (narrowFromWide n list out) = narrowOutcome n list (length out)
 
--- the buffers that it was lent, as they were
+-- the buffers that it was lent, as they were. The starts of an index are one of them: a caller from C lends them, and to one from Rattle, who is answered them by
+-- value, they were all 0
 unfoldable pub lent : Call → List (List ℕ)
 lent (check n list) = []
 lent (value n list a) = []
@@ -83,6 +96,9 @@ lent (bestPolarity n vector) = []
 lent (writeTree n vector out) = out ∷ []
 lent (writeKronecker n vector out) = out ∷ []
 lent (run n list script work) = work ∷ []
+lent (buildIndex n list index starts) = index ∷ starts ∷ []
+lent (group n list index starts number) = []
+lent (runIndexed n list script work index starts) = work ∷ index ∷ starts ∷ []
 lent (writeScript n list work script) = work ∷ script ∷ []
 lent (compact n count script out) = out ∷ []
 lent (settle n list script work out) = work ∷ out ∷ []
@@ -102,6 +118,13 @@ leaves (bestPolarity n vector) = []
 leaves (writeTree n vector out) = treeAfter n vector out ∷ []
 leaves (writeKronecker n vector out) = kroneckerAfter n vector out ∷ []
 leaves (run n list script work) = runAfter n list script work ∷ []
+leaves (buildIndex n list index starts) = buildAfter n list index ∷ afterCall (buildOutcome n list (length index)) (listStarts (cubesOf list)) starts ∷ []
+leaves (group n list index starts number) = []
+leaves (runIndexed n list script work index starts) =
+    indexedWork n list script work (length index)
+    ∷ indexedIndex n list script (length work) index
+    ∷ startsIf (begun n list script (length work) (length index)) (indexedStarts n list script (length work) (length index)) starts
+    ∷ []
 leaves (writeScript n list work script) = writeWork n list work (length script) ∷ writeSteps n list (length work) script ∷ []
 leaves (compact n count script out) = compactAfter n count script out ∷ []
 leaves (settle n list script work out) = settleWork n list script work (length out) ∷ settleOut n list script (length work) out ∷ []
@@ -126,6 +149,9 @@ wordsOf (bestPolarity n vector) o = words o
 wordsOf (writeTree n vector out) o = words o
 wordsOf (writeKronecker n vector out) o = words o
 wordsOf (run n list script work) o = words o
+wordsOf (buildIndex n list index starts) o = words o
+wordsOf (group n list index starts number) o = words (withStart (getD starts number 0) o)
+wordsOf (runIndexed n list script work index starts) o = words o
 wordsOf (writeScript n list work script) o = words o
 wordsOf (compact n count script out) o = words o
 wordsOf (settle n list script work out) o = settledWords o

@@ -25,3 +25,11 @@ module _ (n : ℕ) (ps : List (PK n)) (r : RK n) (Learnt : Out n ps r) (call : (
       (κs : Lfts n) (a : Dens κs ps) (z : resT r κs .Denot) (ws : Lasts (endedOf n ps r) κs a) →
       Learnt κs a z (atExit (endedOf n ps r) κs a ws) →
       Faced (call κs a) (answer κs a ws) (left κs a ws)
+
+-- a function that answers one of the buffers by value, as the starts of an index: what it leaves is read of its answer too
+abbrev pub IsCalledBy : (n : ℕ) (ps : List (PK n)) (r : RK n) → Out n ps r → ((κs : Lfts n) → Dens κs ps → Call)
+    → ((κs : Lfts n) (a : Dens κs ps) → resT r κs .Denot → Lasts (endedOf n ps r) κs a → List (List ℕ)) → ((κs : Lfts n) → resT r κs .Denot → Outcome) → Type 0
+IsCalledBy n ps r Learnt call left told =
+    (κs : Lfts n) (a : Dens κs ps) (z : resT r κs .Denot) (ws : Lasts (endedOf n ps r) κs a) →
+    Learnt κs a z (atExit (endedOf n ps r) κs a ws) →
+    Called (call κs a) (told κs z) (left κs a z ws)

@@ -9,6 +9,7 @@ pub mod EasyScript
 pub mod ShortScript
 pub mod CheapestTree
 pub mod OneChoice
+pub mod ByLiterals
 pub mod PlainSteps
 pub mod Faced
 pub mod Marked

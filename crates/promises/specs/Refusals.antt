@@ -9,9 +9,10 @@ use mathlib.Core.List.{List, [], _∷_, _++_}
 use Prim.Native.Nat.{ℕ, _*_, _/_, _%_, _^_, _≤_, _<_, min}
 use lib.Dec.{eqb, leb}
 use lib.ListN.{length, getD}
+use Rattle.bits.specs.Below.{listBelow}
 use Rattle.records.specs.declared.Refusal.{Refusal}
-use Rattle.records.specs.Records.{Codec, listOf, zeros}
-use Rattle.records.specs.Places.{placeWidth}
+use Rattle.records.specs.Records.{Codec, records, listOf, zeros}
+use Rattle.records.specs.Places.{placeWidth, places}
 use Rattle.cube.specs.declared.Cube.{Cube}
 use Rattle.cube.specs.Cubes.{good, one}
 use Rattle.cube.specs.Lists.{mostVariables, vectorVariables, mostRecords, recordWidth, cubes, cubesOf, cubeCapacity}
@@ -27,7 +28,8 @@ use Rattle.steps.specs.Effects.{StepRefused, byStep, thirdAnswer}
 use Rattle.script.specs.Run.{Refused}
 use Rattle.script.specs.Scripts.{stepRecords, stepWidth, mostSteps, fits, stepsOf}
 use Rattle.script.specs.Calls.{ofStep}
-use Rattle.promises.specs.Calls.{Call, check, value, reasons, truthVector, coefficients, vectorBack, writeForm, bestPolarity, writeTree, writeKronecker, run, writeScript, compact, settle, wideFromNarrow, narrowFromWide, lent}
+use Rattle.index.specs.Index.{groupCount, listIndex, listStarts}
+use Rattle.promises.specs.Calls.{Call, check, value, reasons, truthVector, coefficients, vectorBack, writeForm, bestPolarity, writeTree, writeKronecker, run, buildIndex, group, runIndexed, writeScript, compact, settle, wideFromNarrow, narrowFromWide, lent}
 
 -- ---- a fault
 
@@ -95,6 +97,14 @@ vectorFaults n vector =
     ∷ lowest 14 isBit 0 vector
     ∷ []
 
+-- "1 to 4, then 5 for an index buffer shorter than 2 bytes a record" (document 02, Eight)
+unfoldable pub indexFaults : ℕ → List ℕ → List ℕ → List Fault
+indexFaults n list index = listFaults cubes mostVariables n list ++ (at 5 0 (length index < placeWidth * length (cubesOf list)) ∷ [])
+
+-- 25 at the lowest of m places at which a number is not the right one
+abbrev pub notRight : ℕ → List ℕ → List ℕ → Fault
+notRight m l right = lowest 25 (λ i. eqb (getD l i 0) (getD right i 0)) 0 (listBelow m (λ i. i))
+
 unfoldable pub faults : Call → List Fault
 -- "Checking a list: 1 to 4"
 faults (check n list) = listFaults cubes mostVariables n list
@@ -120,6 +130,22 @@ faults (writeKronecker n vector out) =
 -- "Run: 1 to 5, 7, 8, 9, then steps in turn": "the work capacity must be at least the given count"
 faults (run n list script work) =
     listFaults cubes mostVariables n list ++ (at 5 0 (cubeCapacity (length work) < length (cubesOf list)) ∷ scriptFaults n script)
+-- "1 to 4, then 5 for an index buffer shorter than 2 bytes a record" (document 02, Eight)
+faults (buildIndex n list index starts) = indexFaults n list index
+-- "then 25 for a lent index that is not this list's (place: the first wrong entry, or the first wrong group start), entries before starts, then 21 for a
+-- number above 32" (document 02, Eight)
+faults (group n list index starts number) =
+    indexFaults n list index
+    ++ (notRight (length (cubesOf list)) (records places (length (cubesOf list)) index) (listIndex (cubesOf list))
+    ∷ notRight groupCount starts (listStarts (cubesOf list))
+    ∷ at 21 0 (groupCount ≤ number)
+    ∷ [])
+-- "in the run, of work capacity, after the work's 5" (document 02, Eight)
+faults (runIndexed n list script work index starts) =
+    listFaults cubes mostVariables n list
+    ++ (at 5 0 (cubeCapacity (length work) < length (cubesOf list))
+    ∷ at 5 0 (length index < placeWidth * cubeCapacity (length work))
+    ∷ scriptFaults n script)
 -- "1 to 4, then 5 for the work buffer, then 5 for a script buffer shorter than 8 times the smaller of the count and 1,024" (document 02, Three)
 faults (writeScript n list work script) =
     listFaults cubes mostVariables n list
@@ -146,9 +172,9 @@ faults (narrowFromWide n list out) =
 
 -- ---- a refused call
 
--- the numbers that are found before the first step, all others at one: 1 to 9, 14, 15 and 20
+-- the numbers that are found before the first step, all others at one: 1 to 9, 14, 15, 20, 21 and 25
 abbrev pub beforeSteps : ℕ → Bool
-beforeSteps number = (leb 1 number && leb number 9) || (eqb number 14 || (eqb number 15 || eqb number 20))
+beforeSteps number = (leb 1 number && leb number 9) || (eqb number 14 || (eqb number 15 || (eqb number 20 || (eqb number 21 || eqb number 25))))
 
 -- found before the first step: the first in order that is wrong; "A refusal found before the first step writes nothing", and "the third answer is 0"
 pub record RefusedBefore (r : Refusal) (buffers : List (List ℕ)) (c : Call) : Type 0 where
@@ -174,5 +200,8 @@ pub record Stopped (n : ℕ) (list script work : List ℕ) (r : Refusal) : Type 
 pub data RefusedAtStep (r : Refusal) (buffers : List (List ℕ)) : Call → Type 0 where
   in-run : (n : ℕ) (list script work : List ℕ) → NoneWrong (faults (run n list script work)) → Stopped n list script work r
       → buffers ≡ zeros (length work) ∷ [] → RefusedAtStep r buffers (run n list script work)
+  -- "a refusal at a step zeroes it" (document 02, Eight)
+  in-run-indexed : (n : ℕ) (list script work index starts : List ℕ) → NoneWrong (faults (runIndexed n list script work index starts)) → Stopped n list script work r
+      → buffers ≡ zeros (length work) ∷ zeros (length index) ∷ zeros groupCount ∷ [] → RefusedAtStep r buffers (runIndexed n list script work index starts)
   in-settle : (n : ℕ) (list script work out : List ℕ) → NoneWrong (faults (settle n list script work out)) → Stopped n list script work r
       → buffers ≡ zeros (length work) ∷ out ∷ [] → RefusedAtStep r buffers (settle n list script work out)
