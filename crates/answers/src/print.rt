@@ -25,7 +25,7 @@ pub fn text(t: &[u8]) {
 }
 
 // A word and a number.
-fn number(word: &[u8], x: usize) {
+pub fn number(word: &[u8], x: usize) {
     text(word);
     io::print_decimal(STDOUT_FILENO, x as u64);
 }

@@ -1,4 +1,7 @@
 // The rows whose calls take a list or a script: the call made, and its answer printed.
+mod starts;
+pub mod with_index;
+
 use answers::print;
 use compactor::compact;
 use converters::narrow_from_wide;
@@ -82,7 +85,7 @@ fn rewritten(name: usize, h: Head, bytes: &[u8], out: &mut [u8]) {
     narrow(h.n, bytes, out);
 }
 
-// The call of a name below TEST: its list or script, the script of a run, the lent buffer, and the script buffer of a write.
+// The call of a name below INDEX: its list or script, the script of a run, the lent buffer, and the script buffer of a write.
 pub fn on_list(
     name: usize,
     h: Head,

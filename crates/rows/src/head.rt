@@ -3,7 +3,8 @@ use text::ReadNumber;
 use text::number;
 use text::place;
 
-// The calls: up to WRITE those on lists, COMPACT on a script, from WIDE on the two converters of lists, and from TEST on those that take a vector or coefficients.
+// The calls: up to WRITE those on lists, COMPACT on a script, from WIDE on the two converters of lists, from INDEX on those that make or take an index, and from
+// TEST on those that take a vector or coefficients.
 pub const CHECK: usize = 1;
 
 pub const VALUE: usize = 2;
@@ -22,19 +23,25 @@ pub const WIDE: usize = 8;
 
 pub const NARROW: usize = 9;
 
-pub const TEST: usize = 10;
+pub const INDEX: usize = 10;
 
-pub const BEST: usize = 11;
+pub const GROUP: usize = 11;
 
-pub const FORM: usize = 12;
+pub const INDEXED: usize = 12;
 
-pub const COEFFICIENTS: usize = 13;
+pub const TEST: usize = 13;
 
-pub const BACK: usize = 14;
+pub const BEST: usize = 14;
 
-pub const TREE: usize = 15;
+pub const FORM: usize = 15;
 
-pub const KRONECKER: usize = 16;
+pub const COEFFICIENTS: usize = 16;
+
+pub const BACK: usize = 17;
+
+pub const TREE: usize = 18;
+
+pub const KRONECKER: usize = 19;
 
 // A number and the place after it; 0 and the same place where there is none.
 pub struct Numeral {
@@ -42,7 +49,7 @@ pub struct Numeral {
     pub p: usize,
 }
 
-// The number of variables, the assignment, the polarity or the count, the bytes of the lent buffer and of a second one, and the place after them.
+// The number of variables, the assignment, the polarity, the count or the group, the bytes of the lent buffer and of a second one, and the place after them.
 pub struct Head {
     pub n: usize,
     pub given: usize,
@@ -59,11 +66,21 @@ fn either(row: &[u8], a: &[u8], x: usize, b: &[u8], y: usize) -> ReadNumber {
     }
 }
 
+fn name_by_i(row: &[u8], first: u8) -> ReadNumber {
+    if first == b'i' {
+        return either(row, b"index ", INDEX, b"indexed ", INDEXED);
+    }
+    place::word_at(row, 0, b"group ", GROUP)
+}
+
 fn name_by_r(row: &[u8], first: u8) -> ReadNumber {
     if first == b'r' {
         return either(row, b"run ", RUN, b"reasons ", REASONS);
     }
-    either(row, b"test ", TEST, b"tree ", TREE)
+    if first == b't' {
+        return either(row, b"test ", TEST, b"tree ", TREE);
+    }
+    name_by_i(row, first)
 }
 
 fn name_by_b(row: &[u8], first: u8) -> ReadNumber {

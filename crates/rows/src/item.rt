@@ -1,10 +1,12 @@
-// The items of a part: cubes, steps or bits; bytes in hexadecimal, after an `x` up to the next space; and what stands in brackets, so many times.
+// The items of a part: cubes, steps, bits, places or starts; bytes in hexadecimal, after an `x` up to the next space; and what stands in brackets, so many times.
 use crate::head;
 use cube::Cube;
 use steps::StepRecord;
 use text::ReadCube;
+use text::ReadNumber;
 use text::ReadStep;
 use text::cubes;
+use text::number;
 use text::place;
 use text::step;
 
@@ -22,8 +24,15 @@ pub const STEPS: u8 = 2;
 
 pub const NOTHING: u8 = 3;
 
+pub const PLACES: u8 = 4;
+
+pub const STARTS: u8 = 5;
+
 // Repeats of what stands in brackets, at most.
 const MOST_TIMES: usize = 65535;
+
+// The greatest number of two bytes, as a place is; a start has eight.
+const MOST_PLACE: usize = 65535;
 
 // An item: the place after it, its bytes as a number with the low byte first, and how many they are; how many times what stands since the last bracket is meant;
 // whether a bracket opens, and whether hexadecimal digits follow. The place of what is no item is where it begins.
@@ -122,6 +131,24 @@ fn step(row: &[u8], p: usize) -> Item {
     }
 }
 
+// A number in decimal, of so many bytes.
+fn number(row: &[u8], p: usize, most: usize, width: usize) -> Item {
+    match number::number_at(row, p, most) {
+        ReadNumber::Wrong(_) => none(p),
+        ReadNumber::Read(x, q) => bytes(q, x as u64, width, false),
+    }
+}
+
+fn number_of_kind(row: &[u8], of: u8, p: usize) -> Item {
+    if of == PLACES {
+        return number(row, p, MOST_PLACE, 2);
+    }
+    if of == STARTS {
+        return number(row, p, usize::MAX, 8);
+    }
+    none(p)
+}
+
 fn of_kind(row: &[u8], kind: Kind, p: usize) -> Item {
     let of = kind.of;
     if of == CUBES {
@@ -133,7 +160,7 @@ fn of_kind(row: &[u8], kind: Kind, p: usize) -> Item {
     if of == BITS {
         return bit(row, p);
     }
-    none(p)
+    number_of_kind(row, of, p)
 }
 
 // A closing bracket, and how many times what stands in it is meant.

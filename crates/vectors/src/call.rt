@@ -14,23 +14,38 @@ const SCRIPT_BYTES: usize = script::check::STEP_WIDTH * (script::check::MOST_STE
 
 const MOST_ROOM: usize = LIST_BYTES + 2;
 
+// Bytes of the starts of an index, eight for each.
+const STARTS_BYTES: usize = 8 * index::GROUPS;
+
 // Characters of a cube, at most: one more than the variables of a list.
 const MOST_CODES: usize = list::MOST_VARIABLES + 1;
 
-// What every byte of a lent buffer is before the call; a script buffer has at most as many as a script.
+// What every byte of a lent buffer is before the call; a script buffer or a run's index has at most as many as a script.
 const UNTOUCHED: u8 = 7;
 
 // The call of a name, with its parts and its buffers.
-fn called(name: usize, h: Head, bytes: &[u8], script: &[u8], out: &mut [u8], second: &mut [u8]) {
-    if name < head::TEST {
+fn called(
+    name: usize,
+    h: Head,
+    bytes: &[u8],
+    script: &[u8],
+    starts: &[u8],
+    out: &mut [u8],
+    second: &mut [u8],
+) {
+    if name < head::INDEX {
         list_rows::on_list(name, h, bytes, script, out, second);
+        return;
+    }
+    if name < head::TEST {
+        list_rows::with_index::on_index(name, h, bytes, script, starts, out, second);
         return;
     }
     form_rows::on_bits(name, h, bytes, out);
 }
 
-// The two buffers lent; the second is for a write.
-fn lend(name: usize, h: Head, bytes: &[u8], script: &[u8]) {
+// The two buffers lent; the second is for a write and for a run with an index.
+fn lend(name: usize, h: Head, bytes: &[u8], script: &[u8], starts: &[u8]) {
     let mut out = [UNTOUCHED; MOST_ROOM];
     let size = data::within(h.room, &out);
     let mut second = [UNTOUCHED; SCRIPT_BYTES];
@@ -40,30 +55,27 @@ fn lend(name: usize, h: Head, bytes: &[u8], script: &[u8]) {
         h,
         bytes,
         script,
+        starts,
         &mut out[..size],
         &mut second[..rest],
     );
 }
 
-// What a row's first part is made of, and its second one.
+// A kind whose items have no number of variables.
+fn plain(of: u8) -> Kind {
+    Kind { of, n: 0 }
+}
+
+// What a row's first part is made of, its second one and its third one.
 fn first_kind(name: usize, n: usize) -> Kind {
     if name == head::COMPACT {
-        return Kind {
-            of: item::STEPS,
-            n: 0,
-        };
+        return plain(item::STEPS);
     }
     if head::TEST <= name {
-        return Kind {
-            of: item::BITS,
-            n: 0,
-        };
+        return plain(item::BITS);
     }
     if name == head::WIDE || MOST_CODES < n {
-        return Kind {
-            of: item::NOTHING,
-            n: 0,
-        };
+        return plain(item::NOTHING);
     }
     Kind {
         of: item::CUBES,
@@ -72,22 +84,26 @@ fn first_kind(name: usize, n: usize) -> Kind {
 }
 
 fn second_kind(name: usize) -> Kind {
-    if name == head::RUN {
-        return Kind {
-            of: item::STEPS,
-            n: 0,
-        };
+    if name == head::RUN || name == head::INDEXED {
+        return plain(item::STEPS);
     }
-    Kind {
-        of: item::NOTHING,
-        n: 0,
+    if name == head::GROUP {
+        return plain(item::PLACES);
     }
+    plain(item::NOTHING)
 }
 
-// The second part, after which nothing stands.
-fn second(row: &[u8], at: usize, name: usize, h: Head, bytes: &[u8]) {
-    let mut script = [0u8; SCRIPT_BYTES];
-    let s = data::read(row, at, second_kind(name), &mut script);
+fn third_kind(name: usize) -> Kind {
+    if name == head::GROUP {
+        return plain(item::STARTS);
+    }
+    plain(item::NOTHING)
+}
+
+// The third part, after which nothing stands.
+fn third(row: &[u8], at: usize, name: usize, h: Head, bytes: &[u8], script: &[u8]) {
+    let mut starts = [0u8; STARTS_BYTES];
+    let s = data::read(row, at, third_kind(name), &mut starts);
     let end = s.end;
     if s.p != row.len() {
         print::wrong(s.p);
@@ -97,8 +113,16 @@ fn second(row: &[u8], at: usize, name: usize, h: Head, bytes: &[u8]) {
         print::wrong(h.p);
         return;
     }
-    lend(name, h, bytes, &script[..end]);
+    lend(name, h, bytes, script, &starts[..end]);
     print::text(b"\n");
+}
+
+// The second part.
+fn second(row: &[u8], at: usize, name: usize, h: Head, bytes: &[u8]) {
+    let mut script = [0u8; SCRIPT_BYTES];
+    let s = data::read(row, at, second_kind(name), &mut script);
+    let end = s.end;
+    third(row, s.p, name, h, bytes, &script[..end]);
 }
 
 // The call of a name, whose numbers stand from a place on.
