@@ -1,4 +1,4 @@
-/* Druthmoy: cube lists, scripts, fixed-polarity forms, expansion trees, Kronecker forms, and settling a map.
+/* Druthmoy: cube lists, scripts, fixed-polarity forms, expansion trees, Kronecker forms, indexes, and settling a map.
  *
  * A number of variables n, a count of records, an assignment a and a polarity p are uint64_t; bit k of a and of p stands for
  * variable k.
@@ -21,11 +21,16 @@
  * A truth vector is 2^n bytes, each 0 or 1, indexed by assignment; coefficients are 2^n bytes, each 0 or 1, indexed by
  * the set of variables. A set bit k of a polarity means that variable k appears only complemented.
  *
- * The limit of n is 32 for check, value, reasons, run, settle, write script, compact and narrow from wide, 16 for wide from
- * narrow, 6 for write kronecker, and 8 for the other calls.
+ * An index of a list is its places, 2 bytes each, little-endian, ordered by number of literals and then by place; and the start
+ * of each group, 0 to 32 literals, counted in entries, as uint64_t[DM_STARTS]. An empty group has the start of the next one, and
+ * where none comes after it, the count.
+ *
+ * The limit of n is 32 for check, value, reasons, run, settle, write script, compact, index, group, run indexed and narrow from
+ * wide, 16 for wide from narrow, 6 for write kronecker, and 8 for the other calls.
  *
  * A buffer is passed as a pointer and a length in bytes. Pointers are not null, even where a length is 0, need no
- * alignment (but answer, which is aligned as uint64_t is), and no buffer that a call writes overlaps another argument.
+ * alignment (but answer and starts, which are aligned as uint64_t is), and no buffer that a call writes overlaps another
+ * argument.
  * The capacity of a work or output buffer for records is its length divided by 8, rounded down, and at most 4,096.
  *
  * Every call fills all eight words of `answer`:
@@ -43,7 +48,8 @@
  *     DM_LIST_LENGTH      2   list length not a multiple of 8 (of 4 for an old list)      place 0
  *     DM_LIST_RECORDS     3   more than 4,096 records, or a count above 4,096             place 0
  *     DM_RECORD           4   a value bit outside seen, or a seen bit at or above n       the lowest such record
- *     DM_BUFFER           5   capacity or length of a written buffer too small            place 0
+ *     DM_BUFFER           5   capacity or length of a written buffer too small,
+ *                             or length of a lent index                                   place 0
  *     DM_ASSIGNMENT       6   assignment has a bit at or above n                          place 0
  *     DM_SCRIPT_LENGTH    7   script length not a multiple of 8                           place 0
  *     DM_SCRIPT_STEPS     8   more than 1,024 steps                                       place 0
@@ -60,10 +66,14 @@
  *     DM_TURN_NOT_TWO    18   turn, number of differing variables not two                 the step
  *     DM_TURN_AGREE      19   turn at a variable where the cubes agree, number two        the step
  *     DM_NARROW_N        20   n above 16, the variables of a narrow record                place 0
+ *     DM_GROUP           21   a number of literals above 32                               place 0
+ *     DM_INDEX           25   a lent index that is not this list's                        the first wrong entry
+ *                             else, its starts are not                                    the first wrong group
  *
- * What a refusal leaves behind: 1 to 9, 14, 15 and 20 are found before anything is written, and every buffer but `answer`
- * is as it was. 10, 11, 13 and 16 to 19 are found at a step (run and settle only): then every byte of `work` is zero, and
- * `out` is as it was. Lists, vectors and coefficients are only read, and so are scripts, but by write script.
+ * What a refusal leaves behind: 1 to 9, 14, 15, 20, 21 and 25 are found before anything is written, and every buffer but
+ * `answer` is as it was. 10, 11, 13 and 16 to 19 are found at a step (run, settle and run indexed only): then every byte of
+ * `work` is zero, and so is every byte of `index` and every word of `starts`, and `out` is as it was. Lists, vectors and
+ * coefficients are only read, and so are scripts, but by write script, and an index and its starts by group.
  */
 #ifndef DRUTHMOY_H
 #define DRUTHMOY_H
@@ -95,10 +105,15 @@ enum dm_refusal {
     DM_JOIN_NOT_ONE = 17,
     DM_TURN_NOT_TWO = 18,
     DM_TURN_AGREE = 19,
-    DM_NARROW_N = 20
+    DM_NARROW_N = 20,
+    DM_GROUP = 21,
+    DM_INDEX = 25
 };
 
 #define DM_ANSWER_WORDS 8
+
+/* The groups of an index: 0 to 32 literals. */
+#define DM_STARTS 33
 
 /* Tests a list. answer[2]: the number of its records.
  * Refuses, in this order: 1, 2, 3, 4. */
@@ -256,6 +271,45 @@ void dm_compact(uint64_t n,
                 const uint8_t *script, size_t script_length,
                 uint8_t *out, size_t out_length,
                 uint64_t *answer);
+
+/* The index of a list. answer[2]: its number of entries, which is the list's count.
+ * Writes the first 2 * count bytes of index, and no other byte, and all DM_STARTS words of starts; a refusal writes neither.
+ * Refuses, in this order: 1, 2, 3, 4, 5 (index_length below 2 bytes for each record). */
+void dm_index(uint64_t n,
+              const uint8_t *list, size_t list_length,
+              uint8_t *index, size_t index_length,
+              uint64_t *starts,
+              uint64_t *answer);
+
+/* The run of a list's index that holds the places of the cubes with so many literals, ascending. answer[2]: the number of its
+ * entries, which can be 0; answer[3]: the entry that it begins at, which is the group's start.
+ * Index and starts must be this list's, as dm_index leaves them; else 25 has the first wrong entry as its place or, where no
+ * entry is wrong, the first group whose start is. Bytes behind the entries are not looked at. Nothing is written.
+ * Cubes that can be joined differ by at most one in their number of literals, and equal cubes not at all, so a partner's group is
+ * one of three.
+ * Refuses, in this order: 1, 2, 3, 4, 5 (index_length below 2 bytes for each record), 25, 21. */
+void dm_group(uint64_t n,
+              const uint8_t *list, size_t list_length,
+              const uint8_t *index, size_t index_length,
+              const uint64_t *starts,
+              uint64_t number,
+              uint64_t *answer);
+
+/* Runs a script on a list as dm_run does, and keeps an index of the list in work. It answers what dm_run answers, and leaves in
+ * work what dm_run leaves there. answer[2]: the count of the result; answer[3]: the peak.
+ * Accepted: the entries of the result's index fill the front of index, every other byte of index is zero, and starts has its
+ * starts.
+ * Refused with 1 to 9: work, index and starts are as they were. Refused at a step, with 10, 11, 13 or 16 to 19: every byte of
+ * work and of index is zero, and so is every word of starts.
+ * Refuses, in this order: 1, 2, 3, 4, 5 (capacity of work below the given count), 5 (index_length below 2 bytes for each record
+ * of the capacity of work), 7, 8, 9; then steps in turn, as dm_run does. */
+void dm_run_indexed(uint64_t n,
+                    const uint8_t *list, size_t list_length,
+                    const uint8_t *script, size_t script_length,
+                    uint8_t *work, size_t work_length,
+                    uint8_t *index, size_t index_length,
+                    uint64_t *starts,
+                    uint64_t *answer);
 
 /* An old list as a list: the same cubes at the same places. answer[2]: their number.
  * Writes the first 8 * count bytes of out, and no other byte; a refusal writes none.

@@ -105,6 +105,19 @@ pub fn mixed(steps: usize, half: usize, n: usize) -> Vec<u8> {
         .collect()
 }
 
+/// Joins of places k and k + `half` and splits of places in front of the second half, by turns, so that the list keeps its count; and after 15
+/// of them an L step.
+pub fn splits_and_joins(steps: usize, half: usize, n: usize) -> Vec<u8> {
+    let others = |k: usize| k - k / 16;
+    (0..steps)
+        .flat_map(|k| match others(k) {
+            _ if k % 16 == 15 => step(5, k / 16 % n, 0, 0, k / 16 / n % 2),
+            other if other % 2 == 0 => step(2, 0, other / 2, other / 2 + half, 0),
+            other => step(3, other % n, half - 1 - other / 2, 0, 0),
+        })
+        .collect()
+}
+
 pub fn step(op: u8, v: usize, i: usize, j: usize, literal: usize) -> [u8; 8] {
     let ([i, i_high], [j, j_high]) = ((i as u16).to_le_bytes(), (j as u16).to_le_bytes());
     [op, v as u8, i, i_high, j, j_high, literal as u8, 0]

@@ -8,6 +8,7 @@
 mod compactor;
 mod easy_lists;
 mod idle_scripts;
+mod indexing;
 mod inputs;
 mod measure;
 mod plain;
@@ -44,6 +45,7 @@ fn main() {
     settling(&mut highest);
     writer::rows(&mut highest);
     compactor::rows(&mut highest);
+    indexing::rows(&mut highest);
     println!("\nHighest ratio: {highest:.2}");
     writer::passes();
     compactor::beside_no_pair();

@@ -1,11 +1,13 @@
 //! The calls in plain Rust, on the same buffers, as one would write them without proofs: the library's algorithms, and for the calls on vectors
-//! and for write script and compact the straightforward ones too.
+//! and for write script, compact, index, group and run indexed the straightforward ones too.
 //! Every call tests its input as the library does, answers the same eight words and, like the library's, is not inlined.
 
 mod bytes;
 mod compactor;
 mod converters;
 mod cube;
+mod index;
+mod indexed;
 mod kronecker_choices;
 mod kronecker_tables;
 mod lists;
@@ -21,6 +23,8 @@ mod writer;
 
 pub use compactor::{FromTheFrontAgain, OnePass, compact};
 pub use converters::{narrow_from_wide, wide_from_narrow};
+pub use index::{ByCounting, BySorting, Starts, group, index};
+pub use indexed::run_indexed;
 pub use lists::{check, reasons, truth_vector, value};
 pub use script::run;
 pub use settling::settle;

@@ -4,8 +4,9 @@
 
 use crate::broken::AT_A_STEP;
 use crate::damage::{Faults, damaged_bits, damaged_script, list_bytes};
-use crate::differ::{Call, Case};
+use crate::differ::{Call, Case, empty};
 use crate::idle_scripts;
+use crate::index_cases;
 use crate::near_lists;
 use crate::random::Random;
 use crate::scripts;
@@ -16,9 +17,9 @@ use model::cube::{Cube, NARROW_RECORD, PLACE, RECORD, encoded_list, encoded_narr
 use model::polarity::coefficients;
 use model::script::{self, STEP, STEPS, Step, encoded_script};
 
-const VARIABLES: usize = 32;
+pub const VARIABLES: usize = 32;
 const NARROW_VARIABLES: usize = 16;
-const RECORDS: usize = 4096;
+pub const RECORDS: usize = 4096;
 
 pub fn case(random: &mut Random, call: Call) -> Case {
     let faults = &Faults::draw(random, call);
@@ -29,11 +30,14 @@ pub fn case(random: &mut Random, call: Call) -> Case {
         Call::Run | Call::Settle => script_case(random, faults, call),
         Call::WriteScript => writer_case(random, faults),
         Call::Compact => compact_case(random, faults),
+        Call::Index => index_cases::index_case(random, faults),
+        Call::Group => index_cases::group_case(random, faults),
+        Call::RunIndexed => index_cases::run_indexed_case(random, faults),
         Call::WideFromNarrow | Call::NarrowFromWide => converter_case(random, faults, call),
     }
 }
 
-fn list_case(random: &mut Random, faults: &Faults, call: Call) -> Case {
+pub fn list_case(random: &mut Random, faults: &Faults, call: Call) -> Case {
     let limit = if call == Call::TruthVector { 8 } else { VARIABLES };
     let width = many_variables(random, limit);
     let n = variables(random, faults, width, limit);
@@ -44,12 +48,12 @@ fn list_case(random: &mut Random, faults: &Faults, call: Call) -> Case {
         _ => 0,
     };
     let out = match call {
-        Call::Reasons => lent(random, PLACE * count, faults.has(5)),
+        Call::Reasons | Call::Index => lent(random, PLACE * count, faults.has(5)),
         Call::TruthVector => lent(random, 1 << width, faults.has(5)),
         _ => vec![],
     };
     let input = list_bytes(random, faults, width, RECORD, encoded_list(&cubes));
-    Case { call, n, input, number, script: vec![], work: vec![], out }
+    Case { input, number, out, ..empty(call, n) }
 }
 
 fn bits_case(random: &mut Random, faults: &Faults, call: Call) -> Case {
@@ -64,7 +68,7 @@ fn bits_case(random: &mut Random, faults: &Faults, call: Call) -> Case {
         _ => lent(random, bits.len(), faults.has(5)),
     };
     let input = damaged_bits(random, faults, bits);
-    Case { call, n, input, number, script: vec![], work: vec![], out }
+    Case { input, number, out, ..empty(call, n) }
 }
 
 fn tree_case(random: &mut Random, faults: &Faults, call: Call) -> Case {
@@ -77,10 +81,10 @@ fn tree_case(random: &mut Random, faults: &Faults, call: Call) -> Case {
     let beyond = limit < n && n <= limit + 2;
     let vector = if beyond && random.one_in(2) { random.bits(1 << n) } else { vector };
     let input = damaged_bits(random, faults, vector);
-    Case { call, n, input, number: 0, script: vec![], work: vec![], out }
+    Case { input, out, ..empty(call, n) }
 }
 
-fn script_case(random: &mut Random, faults: &Faults, call: Call) -> Case {
+pub fn script_case(random: &mut Random, faults: &Faults, call: Call) -> Case {
     // Above 8 variables there is no polarity to find, and the model is fast.
     let wide = call == Call::Run || random.one_in(3);
     let width = match faults.at_a_step() {
@@ -102,7 +106,7 @@ fn script_case(random: &mut Random, faults: &Faults, call: Call) -> Case {
     let capacity = (work.len() / RECORD).clamp(count.min(RECORDS), RECORDS);
     let script = script_bytes(random, faults, width, &cubes, capacity);
     let input = list_bytes(random, faults, width, RECORD, encoded_list(&cubes));
-    Case { call, n, input, number: 0, script, work, out }
+    Case { input, script, work, out, ..empty(call, n) }
 }
 
 /// A list and a script that pass 1 to 9, with no split and often with L steps; in half of the cases a refusal is looked for.
@@ -146,7 +150,7 @@ fn writer_case(random: &mut Random, faults: &Faults) -> Case {
     let work = lent(random, RECORD * cubes.len(), work_too_small);
     let script = lent(random, STEP * cubes.len().min(STEPS), script_too_short);
     let input = list_bytes(random, faults, width, RECORD, encoded_list(&cubes));
-    Case { call: Call::WriteScript, n, input, number: 0, script, work, out: vec![] }
+    Case { input, script, work, ..empty(Call::WriteScript, n) }
 }
 
 fn compact_case(random: &mut Random, faults: &Faults) -> Case {
@@ -162,7 +166,7 @@ fn compact_case(random: &mut Random, faults: &Faults) -> Case {
     let steps = encoded_script(&idle_scripts::script(random, width, count, length));
     let script = damaged_script(random, faults, width, steps);
     let out = lent(random, script.len(), faults.has(5));
-    Case { call: Call::Compact, n, input: vec![], number, script, work: vec![], out }
+    Case { number, script, out, ..empty(Call::Compact, n) }
 }
 
 fn converter_case(random: &mut Random, faults: &Faults, call: Call) -> Case {
@@ -181,11 +185,11 @@ fn converter_case(random: &mut Random, faults: &Faults, call: Call) -> Case {
     };
     let input = list_bytes(random, faults, width, from, bytes);
     let out = lent(random, to * count, faults.has(5));
-    Case { call, n, input, number: 0, script: vec![], work: vec![], out }
+    Case { input, out, ..empty(call, n) }
 }
 
 /// The number of variables that is said, for input that is made for `width`.
-fn variables(random: &mut Random, faults: &Faults, width: usize, limit: usize) -> u64 {
+pub fn variables(random: &mut Random, faults: &Faults, width: usize, limit: usize) -> u64 {
     if !faults.has(1) {
         return width as u64;
     }
@@ -195,7 +199,7 @@ fn variables(random: &mut Random, faults: &Faults, width: usize, limit: usize) -
 }
 
 /// From 0 to the limit, and often the last two.
-fn many_variables(random: &mut Random, limit: usize) -> usize {
+pub fn many_variables(random: &mut Random, limit: usize) -> usize {
     if random.one_in(4) { limit - random.below(2) } else { random.below(limit + 1) }
 }
 
@@ -219,7 +223,7 @@ fn fewer_variables(random: &mut Random) -> usize {
     }
 }
 
-fn count(random: &mut Random, faults: &Faults) -> usize {
+pub fn count(random: &mut Random, faults: &Faults) -> usize {
     let least = match faults.at_a_step() {
         Some(16..=19) => 2,
         Some(_) => 1,
@@ -235,7 +239,7 @@ fn count(random: &mut Random, faults: &Faults) -> usize {
 
 /// Cubes with equal and near ones among them, as steps need them, and some that differ in any number of variables; with
 /// literals at the last variable.
-fn cubes(random: &mut Random, width: usize, count: usize) -> Vec<Cube> {
+pub fn cubes(random: &mut Random, width: usize, count: usize) -> Vec<Cube> {
     let mut cubes: Vec<Cube> = Vec::new();
     for _ in 0..count {
         let changes = random.below(5);
@@ -335,7 +339,7 @@ fn pattern(random: &mut Random, width: usize, wrong: bool) -> u64 {
 
 /// A buffer with garbage in it, for a call that needs so many bytes: as long, longer by bytes or records, longer than
 /// any capacity, or too short.
-fn lent(random: &mut Random, needed: usize, too_small: bool) -> Vec<u8> {
+pub fn lent(random: &mut Random, needed: usize, too_small: bool) -> Vec<u8> {
     let length = match random.below(40) {
         _ if too_small && needed > 0 => needed - if random.one_in(2) { 1 } else { random.between(1, needed) },
         _ if needed > RECORD * 4000 && random.one_in(2) => RECORD * RECORDS + random.below(100),

@@ -1,7 +1,7 @@
 //! Document 02, Eleven: scripts, and how many of their steps are left. Which ones is compared with the model.
 
-use crate::differ::{Call, Case};
-use crate::examples::{Example, empty};
+use crate::differ::{Call, Case, empty};
+use crate::examples::Example;
 use model::script::Step::{self, Drop, Join, L, Split, Turn};
 use model::script::{STEP, STEPS, encoded_script};
 

@@ -1,6 +1,7 @@
 //! A compacted script beside the given one, and compacted once more.
 
-use crate::differ::{After, Case, by_words};
+use crate::callers::by_words;
+use crate::differ::{After, Case};
 use crate::replays::expect;
 use model::script::STEP;
 

@@ -1,7 +1,7 @@
 //! Compact: every set of faults together, and short scripts whole.
 
 use crate::compactions::Compactions;
-use crate::differ::{Call, Case, compare};
+use crate::differ::{Call, Case, compare, empty};
 use crate::exhaustive::damaged_steps;
 use model::refusal::ORDERS;
 use model::script::{STEP, Step, encoded};
@@ -14,7 +14,7 @@ pub fn all() -> Result<(), String> {
 
 fn case(n: u64, count: u64, script: Vec<u8>, room: usize) -> Case {
     let out = vec![0xc3; room];
-    Case { call: Call::Compact, n, input: vec![], number: count, script, work: vec![], out }
+    Case { number: count, script, out, ..empty(Call::Compact, n) }
 }
 
 /// Input with each set of the faults that the call tests for: the answer is the first of its order.

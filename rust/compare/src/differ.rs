@@ -1,12 +1,14 @@
 //! One call of the library beside the same call of the model: answers, and every byte of every buffer.
 
+use crate::callers::{by_model, by_names, by_words};
 use crate::compacted::once_more;
 use crate::kronecker_lists::beside_choices;
 use crate::replays::replay;
+use crate::searches::{beside_run, beside_search, each_group};
+use crate::starts;
 use crate::tree_lists::beside_vector;
-use druthmoy::{Fixed, Kronecker, Refusal, Run, Settled, Tree, Value, Written, words};
-use model::calls;
 use model::cube::{Cube, RECORD, decoded};
+use model::index::Starts;
 use std::fmt;
 
 /// The calls, in the order of `model::refusal::ORDERS`.
@@ -26,12 +28,15 @@ pub enum Call {
     Settle,
     WriteScript,
     Compact,
+    Index,
+    Group,
+    RunIndexed,
     WideFromNarrow,
     NarrowFromWide,
 }
 
 impl Call {
-    pub const ALL: [Call; 16] = [
+    pub const ALL: [Call; 19] = [
         Call::Check,
         Call::Value,
         Call::Reasons,
@@ -46,6 +51,9 @@ impl Call {
         Call::Settle,
         Call::WriteScript,
         Call::Compact,
+        Call::Index,
+        Call::Group,
+        Call::RunIndexed,
         Call::WideFromNarrow,
         Call::NarrowFromWide,
     ];
@@ -58,13 +66,22 @@ pub struct Case {
     pub n: u64,
     /// The list, old or not, the truth vector or the coefficients.
     pub input: Vec<u8>,
-    /// The assignment, the polarity or the count.
+    /// The assignment, the polarity, the count or the number of literals.
     pub number: u64,
     /// The script, or the buffer for one.
     pub script: Vec<u8>,
     /// The buffers as they are lent.
     pub work: Vec<u8>,
+    /// The output, or the index.
     pub out: Vec<u8>,
+    /// The starts of the index.
+    pub starts: Starts,
+}
+
+/// A call with nothing but a number of variables.
+pub fn empty(call: Call, n: u64) -> Case {
+    let starts = starts::NONE;
+    Case { call, n, input: vec![], number: 0, script: vec![], work: vec![], out: vec![], starts }
 }
 
 impl Case {
@@ -81,11 +98,12 @@ pub struct After {
     pub script: Vec<u8>,
     pub work: Vec<u8>,
     pub out: Vec<u8>,
+    pub starts: Starts,
 }
 
 /// Compares one case three ways: the library's words, its named answers, the model; reasons with value; a tree's list with its
-/// vector and with the best polarity; a Kronecker form's with these and with all choices; a written script with its run; and a compacted one with the given one and with itself
-/// compacted. Answers the words.
+/// vector and with the best polarity; a Kronecker form's with these and with all choices; a written script with its run; a compacted one with the given one and with itself
+/// compacted; an index with its groups, a group with a search, a run with an index with the one without. Answers the words.
 pub fn compare(case: &Case) -> Result<[u64; 8], String> {
     compared(case).map(|after| after.answer)
 }
@@ -97,7 +115,11 @@ pub fn compared(case: &Case) -> Result<After, String> {
     if got != expected {
         return Err(format!("library and model differ\n{case}\nlibrary:\n{got}\nmodel:\n{expected}"));
     }
-    let named = by_names(case);
+    let mut named = by_names(case);
+    if expected.answer[0] != 0 {
+        // The wrapper hands no starts back.
+        named.starts = expected.starts;
+    }
     if named != expected {
         return Err(format!("wrapper and model differ\n{case}\nwrapper:\n{named}\nmodel:\n{expected}"));
     }
@@ -107,6 +129,9 @@ pub fn compared(case: &Case) -> Result<After, String> {
         Call::WriteKronecker => beside_choices(case, &expected)?,
         Call::WriteScript => replay(case, &expected)?,
         Call::Compact => once_more(case, &expected)?,
+        Call::Index => each_group(case, &expected)?,
+        Call::Group => beside_search(case, &expected)?,
+        Call::RunIndexed => beside_run(case, &expected)?,
         _ => {}
     }
     Ok(expected)
@@ -123,144 +148,16 @@ fn beside_value(case: &Case, reasons: &[u64; 8]) -> Result<(), String> {
     if agree { Ok(()) } else { Err(format!("reasons answers {reasons:?}, value {value:?}\n{case}")) }
 }
 
-fn by_model(case: &Case) -> After {
-    let Case { n, input, number, .. } = case;
-    let (n, number) = (*n, *number);
-    let (mut script, mut work, mut out) = (case.script.clone(), case.work.clone(), case.out.clone());
-    let outcome = match case.call {
-        Call::Check => calls::check(n, input),
-        Call::Value => calls::value(n, input, number),
-        Call::Reasons => calls::reasons(n, input, number, &mut out),
-        Call::TruthVector => calls::truth_vector(n, input, &mut out),
-        Call::Coefficients => calls::coefficients(n, input, number, &mut out),
-        Call::Vector => calls::vector(n, input, number, &mut out),
-        Call::WriteForm => calls::write_form(n, input, number, &mut out),
-        Call::BestPolarity => calls::best_polarity(n, input),
-        Call::WriteTree => calls::write_tree(n, input, &mut out),
-        Call::WriteKronecker => calls::write_kronecker(n, input, &mut out),
-        Call::Run => calls::run(n, input, &script, &mut work),
-        Call::Settle => calls::settle(n, input, &script, &mut work, &mut out),
-        Call::WriteScript => calls::write_script(n, input, &mut work, &mut script),
-        Call::Compact => calls::compact(n, number, &script, &mut out),
-        Call::WideFromNarrow => calls::wide_from_narrow(n, input, &mut out),
-        Call::NarrowFromWide => calls::narrow_from_wide(n, input, &mut out),
-    };
-    After { answer: calls::words(&outcome), script, work, out }
-}
-
-/// The library's own words, on buffers that stand between margins; what it must not touch is looked at.
-pub fn by_words(case: &Case) -> Result<After, String> {
-    let mut input = Lent::new(&case.input);
-    let mut script = Lent::new(&case.script);
-    let (mut work, mut out) = (Lent::new(&case.work), Lent::new(&case.out));
-    let answer = {
-        let (n, number, input) = (case.n, case.number, &*input.slice());
-        let (script, work, out) = (script.slice(), work.slice(), out.slice());
-        match case.call {
-            Call::Check => words::check(n, input),
-            Call::Value => words::value(n, input, number),
-            Call::Reasons => words::reasons(n, input, number, out),
-            Call::TruthVector => words::truth_vector(n, input, out),
-            Call::Coefficients => words::coefficients(n, input, number, out),
-            Call::Vector => words::vector(n, input, number, out),
-            Call::WriteForm => words::write_form(n, input, number, out),
-            Call::BestPolarity => words::best_polarity(n, input),
-            Call::WriteTree => words::write_tree(n, input, out),
-            Call::WriteKronecker => words::write_kronecker(n, input, out),
-            Call::Run => words::run(n, input, script, work),
-            Call::Settle => words::settle(n, input, script, work, out),
-            Call::WriteScript => words::write_script(n, input, work, script),
-            Call::Compact => words::compact(n, number, script, out),
-            Call::WideFromNarrow => words::wide_from_narrow(n, input, out),
-            Call::NarrowFromWide => words::narrow_from_wide(n, input, out),
-        }
-    };
-    let reads_script = case.call != Call::WriteScript;
-    if *input.slice() != case.input[..] || reads_script && *script.slice() != case.script[..] {
-        return Err("the library wrote to a buffer that it reads".into());
-    }
-    if [&input, &script, &work, &out].iter().any(|lent| !lent.margins_are_whole()) {
-        return Err("the library wrote outside a buffer".into());
-    }
-    let [script, work, out] = [script, work, out].map(|mut lent| lent.slice().to_vec());
-    Ok(After { answer, script, work, out })
-}
-
-/// The wrapper's enums, put back into words.
-fn by_names(case: &Case) -> After {
-    let Case { n, input, number, .. } = case;
-    let (n, number) = (*n, *number);
-    let (mut script, mut work, mut out) = (case.script.clone(), case.work.clone(), case.out.clone());
-    let one = |value: u64| vec![value];
-    let named: Result<Vec<u64>, Refusal> = match case.call {
-        Call::Check => druthmoy::check(n, input).map(one),
-        Call::Value => druthmoy::value(n, input, number).map(|Value { bit, trues }| vec![bit as u64, trues]),
-        Call::Reasons => {
-            druthmoy::reasons(n, input, number, &mut out).map(|Value { bit, trues }| vec![trues, bit as u64])
-        }
-        Call::TruthVector => druthmoy::truth_vector(n, input, &mut out).map(one),
-        Call::Coefficients => druthmoy::coefficients(n, input, number, &mut out).map(one),
-        Call::Vector => druthmoy::vector(n, input, number, &mut out).map(one),
-        Call::WriteForm => druthmoy::write_form(n, input, number, &mut out).map(one),
-        Call::BestPolarity => druthmoy::best_polarity(n, input).map(|Fixed { polarity, size }| vec![polarity, size]),
-        Call::WriteTree => druthmoy::write_tree(n, input, &mut out).map(|Tree { products, cost }| vec![products, cost]),
-        Call::WriteKronecker => druthmoy::write_kronecker(n, input, &mut out)
-            .map(|Kronecker { cost, choice, products }| vec![cost, choice, products]),
-        Call::Run => druthmoy::run(n, input, &script, &mut work).map(|Run { count, peak }| vec![count, peak]),
-        Call::Settle => druthmoy::settle(n, input, &script, &mut work, &mut out).map(
-            |Settled { given, peak, script, fixed, burned }| {
-                let (polarity, size) = fixed.map_or((u64::MAX, u64::MAX), |fixed| (fixed.polarity, fixed.size));
-                vec![given, peak, script, polarity, size, burned]
-            },
-        ),
-        Call::WriteScript => druthmoy::write_script(n, input, &mut work, &mut script)
-            .map(|Written { steps, finished }| vec![steps, finished as u64]),
-        Call::Compact => druthmoy::compact(n, number, &script, &mut out).map(one),
-        Call::WideFromNarrow => druthmoy::wide_from_narrow(n, input, &mut out).map(one),
-        Call::NarrowFromWide => druthmoy::narrow_from_wide(n, input, &mut out).map(one),
-    };
-    let mut answer = [0; 8];
-    match named {
-        Ok(values) => answer[2..2 + values.len()].copy_from_slice(&values),
-        Err(refusal) => answer[..3].copy_from_slice(&[refusal.fault.number(), refusal.place, refusal.differing]),
-    }
-    After { answer, script, work, out }
-}
-
-/// A buffer with margins around it, at an odd address.
-struct Lent {
-    bytes: Vec<u8>,
-}
-
-impl Lent {
-    const MARGIN: usize = 61;
-    const FILL: u8 = 0xa5;
-
-    fn new(content: &[u8]) -> Lent {
-        let margin = [Lent::FILL; Lent::MARGIN];
-        Lent { bytes: [&margin, content, &margin].concat() }
-    }
-
-    fn slice(&mut self) -> &mut [u8] {
-        let end = self.bytes.len() - Lent::MARGIN;
-        &mut self.bytes[Lent::MARGIN..end]
-    }
-
-    fn margins_are_whole(&self) -> bool {
-        let whole = |margin: &[u8]| margin.iter().all(|&byte| byte == Lent::FILL);
-        whole(&self.bytes[..Lent::MARGIN]) && whole(&self.bytes[self.bytes.len() - Lent::MARGIN..])
-    }
-}
-
 impl fmt::Display for Case {
     fn fmt(&self, f: &mut fmt::Formatter) -> fmt::Result {
-        writeln!(f, "call {:?}, n {}, assignment, polarity or count {}", self.call, self.n, self.number)?;
+        let Case { call, n, number, .. } = self;
+        writeln!(f, "call {call:?}, n {n}, assignment, polarity, count or number of literals {number}")?;
         for (name, bytes) in
             [("input", &self.input), ("script", &self.script), ("work", &self.work), ("out", &self.out)]
         {
             writeln!(f, "{name}, {} bytes: {}", bytes.len(), hex(bytes))?;
         }
-        Ok(())
+        writeln!(f, "starts: {:?}", self.starts)
     }
 }
 
@@ -269,7 +166,8 @@ impl fmt::Display for After {
         writeln!(f, "answer {:?}", self.answer)?;
         writeln!(f, "script: {}", hex(&self.script))?;
         writeln!(f, "work: {}", hex(&self.work))?;
-        writeln!(f, "out: {}", hex(&self.out))
+        writeln!(f, "out: {}", hex(&self.out))?;
+        writeln!(f, "starts: {:?}", self.starts)
     }
 }
 

@@ -1,8 +1,8 @@
 //! Document 02, Three: short lists and long ones, with the number of steps and whether the script has finished. What is
 //! written is compared with the model's.
 
-use crate::differ::{Call, Case};
-use crate::examples::{Example, empty, records};
+use crate::differ::{Call, Case, empty};
+use crate::examples::{Example, records};
 use model::cube::RECORD;
 use model::script::{STEP, STEPS};
 

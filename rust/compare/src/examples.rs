@@ -1,8 +1,9 @@
 //! Document 01's marked examples and limits, as document 02 amends them, with the answers that they give.
 
 use crate::compact_examples;
-use crate::differ::{Call, Case, compare};
+use crate::differ::{Call, Case, compare, empty};
 use crate::easy_examples;
+use crate::index_examples;
 use crate::kronecker_examples;
 use crate::tree_examples;
 use model::cube::{RECORD, encoded_list, encoded_narrow_list, read};
@@ -22,6 +23,7 @@ pub fn all() -> Result<(), String> {
         kronecker_examples::all(),
         easy_examples::all(),
         compact_examples::all(),
+        index_examples::all(),
         limits(),
         too_many_variables(),
         long_labels(),
@@ -268,10 +270,6 @@ fn old_lists() -> Vec<Example> {
         (Case { input: encoded_narrow_list(&cubes), ..empty(Call::Check, 32) }, vec![2, 0]),
         (Case { input: encoded_narrow_list(&cubes[1..]), ..empty(Call::Check, 32) }, vec![4, 0]),
     ]
-}
-
-pub fn empty(call: Call, n: u64) -> Case {
-    Case { call, n, input: vec![], number: 0, script: vec![], work: vec![], out: vec![] }
 }
 
 pub fn records(list: &[&str]) -> Vec<u8> {

@@ -1,7 +1,7 @@
 //! Small worlds, whole.
 
 use crate::choices::{Choices, other_polarities};
-use crate::differ::{Call, Case, compare};
+use crate::differ::{Call, Case, compare, empty};
 use model::cube::{Cube, RECORD, encoded_list};
 use model::script::{Step, encoded};
 use std::collections::BTreeMap;
@@ -13,8 +13,7 @@ pub fn functions_of_four() -> Result<(), String> {
     for function in 0..1u32 << 16 {
         let input: Vec<u8> = (0..16).map(|a| (function >> a & 1) as u8).collect();
         let others = other_polarities(4, &input);
-        let call = Call::BestPolarity;
-        let case = Case { call, n: 4, input, number: 0, script: vec![], work: vec![], out: vec![] };
+        let case = Case { input, ..empty(Call::BestPolarity, 4) };
         let answer = compare(&case)?;
         by_size[answer[3] as usize] += 1;
         for (count, other) in another.iter_mut().zip(others) {
@@ -32,13 +31,7 @@ pub fn functions_of_four() -> Result<(), String> {
 /// Every list of up to 2 cubes over 2 variables with every script of up to 2 steps, run and settled, in buffers that
 /// just hold the list and in longer ones.
 pub fn short_lists_and_scripts() -> Result<(), String> {
-    let lists = lists();
-    let (well_formed, damaged) = (steps(), damaged_steps());
-    let all: Vec<[u8; 8]> = well_formed.iter().chain(&damaged).copied().collect();
-    let mut scripts: Vec<Vec<u8>> = vec![vec![]];
-    scripts.extend(all.iter().map(|step| step.to_vec()));
-    scripts.extend(all.iter().flat_map(|first| all.iter().map(move |second| [*first, *second].concat())));
-
+    let (lists, scripts) = (lists(), scripts());
     let mut met = [0u64; 21];
     let mut choices = Choices::default();
     for list in &lists {
@@ -46,15 +39,7 @@ pub fn short_lists_and_scripts() -> Result<(), String> {
         for script in &scripts {
             for more in [0, RECORD + 7] {
                 let work = vec![0x5a; input.len() + more];
-                let run = Case {
-                    call: Call::Run,
-                    n: 2,
-                    input: input.clone(),
-                    number: 0,
-                    script: script.clone(),
-                    work,
-                    out: vec![],
-                };
+                let run = Case { input: input.clone(), script: script.clone(), work, ..empty(Call::Run, 2) };
                 let settle = Case { call: Call::Settle, out: vec![0xc3; input.len() + more], ..run.clone() };
                 met[compare(&run)?[0] as usize] += 1;
                 let answer = compare(&settle)?;
@@ -69,8 +54,8 @@ pub fn short_lists_and_scripts() -> Result<(), String> {
         "{} lists, {} scripts of {} well-formed and {} damaged steps, 2 buffer lengths, run and settled: {} calls",
         lists.len(),
         scripts.len(),
-        well_formed.len(),
-        damaged.len(),
+        steps().len(),
+        damaged_steps().len(),
         met.iter().sum::<u64>()
     );
     let refused: Vec<String> =
@@ -101,13 +86,10 @@ fn two_cubes_over(n: usize, variables: &[usize], turns: &[usize]) -> Result<(), 
             let two = [Step::Drop { i, j }, Step::Join { i, j }];
             for step in two.into_iter().chain(turns.iter().map(|&v| Step::Turn { v, i, j })) {
                 let run = Case {
-                    call: Call::Run,
-                    n: n as u64,
                     input: input.clone(),
-                    number: 0,
                     script: encoded(step).to_vec(),
                     work: vec![0x5a; input.len() + RECORD],
-                    out: vec![],
+                    ..empty(Call::Run, n as u64)
                 };
                 let settle = Case { call: Call::Settle, out: vec![0xc3; input.len()], ..run.clone() };
                 for case in [run, settle] {
@@ -200,6 +182,15 @@ fn steps() -> Vec<[u8; 8]> {
     }
     steps.extend((0..4).map(|k| Step::L { v: k / 2, literal: k as u8 % 2 }));
     steps.into_iter().map(encoded).collect()
+}
+
+/// All scripts of up to 2 steps, well-formed and damaged.
+pub fn scripts() -> Vec<Vec<u8>> {
+    let all = [steps(), damaged_steps()].concat();
+    let mut scripts: Vec<Vec<u8>> = vec![vec![]];
+    scripts.extend(all.iter().map(|step| step.to_vec()));
+    scripts.extend(all.iter().flat_map(|first| all.iter().map(move |second| [*first, *second].concat())));
+    scripts
 }
 
 /// Unknown operations; each operation with each field at a value that it must not have; places past the first byte.

@@ -1,6 +1,7 @@
 //! A Kronecker form's list beside the vector that it was written for, beside the forms of all polarities and beside the tree's list.
 
-use crate::differ::{After, Call, Case, by_words};
+use crate::callers::by_words;
+use crate::differ::{After, Call, Case};
 use crate::kronecker_rules::DOCUMENT;
 use crate::kronecker_search::Extended;
 use crate::replays::expect;

@@ -1,7 +1,8 @@
 //! Write kronecker: every set of faults together, and all functions of few variables, beside all choices and in buffers of all
 //! lengths near those that they need.
 
-use crate::differ::{Call, by_words, compared};
+use crate::callers::by_words;
+use crate::differ::{Call, compared};
 use crate::kronecker_rules::DOCUMENT;
 use crate::kronecker_search::Extended;
 use crate::replays::expect;

@@ -4,6 +4,7 @@
 //! was compared. At the first difference it prints the whole case and exits with 1.
 
 mod broken;
+mod callers;
 mod cases;
 mod choices;
 mod compact_examples;
@@ -20,7 +21,17 @@ mod examples;
 mod exhaustive;
 mod figures;
 mod given_and_short;
+mod group_rules;
+mod groups;
 mod idle_scripts;
+mod index_cases;
+mod index_damage;
+mod index_examples;
+mod index_rules;
+mod indexed_rules;
+mod indexed_runs;
+mod indexer;
+mod indexes;
 mod kronecker_examples;
 mod kronecker_lists;
 mod kronecker_rules;
@@ -29,8 +40,10 @@ mod kronecker_writer;
 mod kroneckers;
 mod labels;
 mod lengths;
+mod lent;
 mod near_lists;
 mod pair_rules;
+mod partners;
 mod paths;
 mod per_record;
 mod plain_steps;
@@ -42,6 +55,8 @@ mod records;
 mod refused_steps;
 mod replays;
 mod scripts;
+mod searches;
+mod starts;
 mod tally;
 mod together;
 mod tree_examples;
@@ -54,6 +69,7 @@ mod undoings;
 mod vector_calls;
 mod vector_lists;
 mod writer;
+mod wrong_indexes;
 
 use std::process::ExitCode;
 use std::time::Instant;
@@ -68,7 +84,7 @@ fn main() -> ExitCode {
     if cfg!(feature = "standin") {
         println!("STAND-IN: the calls are answered by the model itself; nothing below speaks of the library.\n");
     }
-    let parts: [Part; 18] = [
+    let parts: [Part; 20] = [
         ("the documents' examples and limits", &examples::all),
         ("the wrapper's records", &|| records::all(seed)),
         ("random calls", &|| random_calls::all(calls as usize, seed)),
@@ -85,6 +101,8 @@ fn main() -> ExitCode {
         ),
         ("write script: faults together, short lists in every buffer", &writer::all),
         ("compact: faults together, short scripts", &compactor::all),
+        ("index, group and run indexed: faults together, short lists, all short indexes and scripts", &indexer::all),
+        ("partners for a join, by their number of literals", &|| partners::all(calls as usize, seed)),
         ("the converters: faults together, short lists there and back", &converters::all),
         ("published average of 5-variable functions", &|| figures::average_of_five(seed)),
         ("published averages of 5-variable functions, and their trees", &|| figures::trees_of_five(seed)),

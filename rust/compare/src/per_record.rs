@@ -1,7 +1,7 @@
 //! Calls on a list with an output of so many bytes a record: every set of faults together, and the short lists to try
 //! them on.
 
-use crate::differ::{Call, Case, compare};
+use crate::differ::{Call, Case, compare, empty};
 use model::refusal::ORDERS;
 
 /// A call, the most variables that it takes, and the bytes of a record that it reads and of the output for it.
@@ -18,7 +18,7 @@ impl PerRecord {
     /// At an assignment, where the call takes one.
     pub fn case(&self, n: u64, input: &[u8], number: u64, room: usize) -> Case {
         let out = vec![0xc3; room];
-        Case { call: self.call, n, input: input.to_vec(), number, script: vec![], work: vec![], out }
+        Case { input: input.to_vec(), number, out, ..empty(self.call, n) }
     }
 
     /// The bytes of output for so many bytes of records.

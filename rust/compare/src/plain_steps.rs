@@ -3,7 +3,7 @@
 
 use crate::cases::{case, unsplit_case};
 use crate::counts::{Counts, unmet, write_lines};
-use crate::differ::{After, Call, Case, compared};
+use crate::differ::{After, Call, Case, compared, empty};
 use crate::exhaustive::lists;
 use crate::random::Random;
 use model::cube::{Cube, RECORD, encoded_list};
@@ -110,7 +110,7 @@ fn short_scripts() -> Result<(), String> {
         for script in &scripts {
             let work = vec![0x5a; input.len() + RECORD];
             let (input, script) = (input.clone(), script.clone());
-            let case = Case { call: Call::Run, n: 2, input, number: 0, script, work, out: vec![] };
+            let case = Case { input, script, work, ..empty(Call::Run, 2) };
             calls += 1;
             accepted += u64::from(beside_plain(&case)?.answer[0] == 0);
         }

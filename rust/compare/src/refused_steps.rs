@@ -8,7 +8,7 @@ use std::fmt;
 use std::ops::RangeInclusive;
 
 /// The calls that do steps.
-const WITH_STEPS: [Call; 2] = [Call::Run, Call::Settle];
+const WITH_STEPS: [Call; 3] = [Call::Run, Call::Settle, Call::RunIndexed];
 
 /// The refusals that say how many variables differ.
 const CUBES: [u64; 4] = [16, 17, 18, 19];
@@ -100,7 +100,7 @@ impl fmt::Display for RefusedSteps {
         writeln!(f, "refused at the first step: {}, at a later one: {}", self.at_the_first_step, self.at_a_later_step)?;
         let line = |f: &mut fmt::Formatter, name: &str, number: &str, cells: Vec<String>| {
             let cells: String = cells.iter().map(|cell| format!("{cell:>9}")).collect();
-            writeln!(f, "{name:9}{number:>16}{cells}")
+            writeln!(f, "{name:11}{number:>14}{cells}")
         };
         line(f, "differing", "refusal", COLUMNS.iter().map(heading).collect())?;
         for (call, number) in WITH_STEPS.iter().flat_map(|&call| CUBES.map(|number| (call, number))) {

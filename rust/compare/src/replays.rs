@@ -1,6 +1,7 @@
 //! A written script beside the search from the front, and run and settled on the list that it was written for.
 
-use crate::differ::{After, Call, Case, by_words, compare};
+use crate::callers::by_words;
+use crate::differ::{After, Call, Case, compare};
 use crate::paths::Path;
 use model::cube::RECORD;
 use model::script::{STEP, encoded_script};

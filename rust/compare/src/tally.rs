@@ -4,6 +4,9 @@ use crate::choices::Choices;
 use crate::compactions::Compactions;
 use crate::differ::{Call, Case};
 use crate::easy_scripts::EasyScripts;
+use crate::groups::Groups;
+use crate::indexed_runs::IndexedRuns;
+use crate::indexes::Indexes;
 use crate::kroneckers::Kroneckers;
 use crate::labels::Labels;
 use crate::refused_steps::RefusedSteps;
@@ -17,7 +20,7 @@ use std::fmt;
 #[derive(Default)]
 pub struct Tally {
     /// By call, then by refusal number; 0 counts the accepted calls.
-    answers: [[u64; 21]; ORDERS.len()],
+    answers: [[u64; 26]; ORDERS.len()],
     /// Steps of accepted runs by operation.
     steps: [u64; 6],
     refused_steps: RefusedSteps,
@@ -27,6 +30,9 @@ pub struct Tally {
     kroneckers: Kroneckers,
     easy_scripts: EasyScripts,
     compactions: Compactions,
+    indexes: Indexes,
+    groups: Groups,
+    indexed_runs: IndexedRuns,
     together: Together,
     /// Accepted lists of 32 variables with a literal at the last of them.
     with_the_last_variable: u64,
@@ -48,12 +54,15 @@ impl Tally {
             Call::WriteKronecker => self.kroneckers.add(case, answer),
             Call::WriteScript => self.easy_scripts.add(case, answer),
             Call::Compact => self.compactions.add(case, answer),
+            Call::Index => self.indexes.add(case, answer),
+            Call::Group => self.groups.add(case, answer),
+            Call::RunIndexed => self.indexed_runs.add(case, answer),
             _ => {}
         }
         if together::CALLS.contains(&case.call) {
             self.together.add(case, answer);
         }
-        let has_script = matches!(case.call, Call::Run | Call::Settle);
+        let has_script = matches!(case.call, Call::Run | Call::Settle | Call::RunIndexed);
         match number {
             0 if has_script => {
                 for step in case.script.chunks(8) {
@@ -72,7 +81,8 @@ impl Tally {
     }
 
     /// The refusals that the documents give a call and that were not met, and those met that they do not give; and what
-    /// is amiss with refused steps, with choices, with labels, with trees and Kronecker forms, with easy scripts and with compacted ones.
+    /// is amiss with refused steps, with choices, with labels, with trees and Kronecker forms, with easy scripts and with compacted ones,
+    /// and with indexes, groups and runs with an index.
     pub fn amiss(&self) -> Vec<String> {
         let mut amiss = Vec::new();
         for ((name, numbers), answers) in ORDERS.iter().zip(&self.answers) {
@@ -93,6 +103,9 @@ impl Tally {
         amiss.extend(self.kroneckers.amiss());
         amiss.extend(self.easy_scripts.amiss());
         amiss.extend(self.compactions.amiss());
+        amiss.extend(self.indexes.amiss());
+        amiss.extend(self.groups.amiss());
+        amiss.extend(self.indexed_runs.amiss());
         amiss.extend(self.together.amiss());
         amiss
     }
@@ -126,6 +139,9 @@ impl fmt::Display for Tally {
         write!(f, "{}", self.kroneckers)?;
         write!(f, "{}", self.easy_scripts)?;
         write!(f, "{}", self.compactions)?;
+        write!(f, "{}", self.indexes)?;
+        write!(f, "{}", self.groups)?;
+        write!(f, "{}", self.indexed_runs)?;
         write!(f, "{}", self.together)?;
         writeln!(f, "accepted lists with a literal at variable 31: {}", self.with_the_last_variable)?;
         write!(

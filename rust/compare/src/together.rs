@@ -1,16 +1,17 @@
-//! The refusals of write tree, of write kronecker and of compact whose rules are broken together, each looked at by itself: the
-//! first of them is answered.
+//! The refusals of write tree, of write kronecker, of compact, of index and of group whose rules are broken together, each looked at
+//! by itself: the first of them is answered.
 
 use crate::differ::{Call, Case};
 use crate::vector_calls::{list, most_variables};
-use model::cube::RECORD;
+use model::cube::{self, PLACE, RECORD};
+use model::index::Starts;
 use model::refusal::ORDERS;
 use model::script::{STEP, STEPS, decoded};
 use std::collections::BTreeMap;
 use std::fmt;
 
 /// The calls whose refusals are looked at.
-pub const CALLS: [Call; 3] = [Call::WriteTree, Call::WriteKronecker, Call::Compact];
+pub const CALLS: [Call; 5] = [Call::WriteTree, Call::WriteKronecker, Call::Compact, Call::Index, Call::Group];
 
 #[derive(Default)]
 pub struct Together {
@@ -27,6 +28,7 @@ fn order(call: Call) -> &'static [u64] {
 fn is_broken(case: &Case, number: u64) -> bool {
     match case.call {
         Call::Compact => is_broken_by_script(case, number),
+        Call::Index | Call::Group => is_broken_by_index(case, number),
         _ => is_broken_by_vector(case, number),
     }
 }
@@ -58,6 +60,31 @@ fn is_broken_by_script(case: &Case, number: u64) -> bool {
         9 => steps.iter().any(|step| decoded(case.n.min(32) as usize, step).is_none()),
         _ => case.out.len() < case.script.len(),
     }
+}
+
+fn is_broken_by_index(case: &Case, number: u64) -> bool {
+    let (records, rest) = case.input.as_chunks::<RECORD>();
+    match number {
+        1 => case.n > 32,
+        2 => !rest.is_empty(),
+        3 => records.len() > 4096,
+        4 => records.iter().any(|record| cube::decoded(case.n.min(32) as usize, record).is_none()),
+        5 => case.out.len() < PLACE * records.len(),
+        25 => is_another_index(records, &case.out, &case.starts),
+        _ => case.number > 32,
+    }
+}
+
+/// Whether the entries that are there, or the starts, are not those of these records, good or bad: by the bits of their seen masks.
+fn is_another_index(records: &[[u8; RECORD]], out: &[u8], starts: &Starts) -> bool {
+    let bits = |record: &[u8; RECORD]| record[..RECORD / 2].iter().map(|byte| byte.count_ones()).sum::<u32>();
+    let numbers: Vec<u32> = records.iter().map(bits).collect();
+    let mut right: Vec<usize> = (0..numbers.len()).collect();
+    right.sort_by_key(|&place| numbers[place]);
+    let mut there = right.iter().zip(out.as_chunks::<PLACE>().0);
+    let entries_differ = there.any(|(&place, entry)| place != usize::from(u16::from_le_bytes(*entry)));
+    let fewer = |most: usize| numbers.iter().filter(|&&number| (number as usize) < most).count() as u64;
+    entries_differ || *starts != std::array::from_fn(fewer)
 }
 
 impl Together {

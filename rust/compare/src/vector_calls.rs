@@ -1,6 +1,6 @@
 //! What is the same in write tree and write kronecker, which write a list for a truth vector.
 
-use crate::differ::{Call, Case, compared};
+use crate::differ::{Call, Case, compared, empty};
 use crate::kronecker_rules;
 use crate::replays::expect;
 use model::cube::{Cube, RECORD};
@@ -17,7 +17,7 @@ pub fn list(call: Call, vector: &[u8]) -> Vec<Cube> {
 }
 
 pub fn case(call: Call, n: u64, input: Vec<u8>, room: usize) -> Case {
-    Case { call, n, input, number: 0, script: vec![], work: vec![], out: vec![0xc3; room] }
+    Case { input, out: vec![0xc3; room], ..empty(call, n) }
 }
 
 /// The vectors of all functions of n variables, from the constant 0 on: bit a of a function's number is its value at a.

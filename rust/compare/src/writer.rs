@@ -1,6 +1,6 @@
 //! Write script: every set of faults together, and short lists whole, in buffers of all lengths near those that they need.
 
-use crate::differ::{Call, Case, compare};
+use crate::differ::{Call, Case, compare, empty};
 use crate::easy_scripts::EasyScripts;
 use crate::exhaustive::cubes_over;
 use crate::per_record::PerRecord;
@@ -18,7 +18,7 @@ const WRITER: PerRecord = PerRecord { call: Call::WriteScript, limit: 32, from: 
 
 fn case(n: u64, input: &[u8], work: usize, script: usize) -> Case {
     let (work, script) = (vec![0x5a; work], vec![0xc3; script]);
-    Case { call: WRITER.call, n, input: input.to_vec(), number: 0, script, work, out: vec![] }
+    Case { input: input.to_vec(), script, work, ..empty(WRITER.call, n) }
 }
 
 /// Input with each set of the faults that the call tests for, where 5 is of the work buffer and then of the script buffer: the
@@ -76,7 +76,7 @@ fn good_lists() -> Result<(), String> {
 }
 
 /// The bytes of every list of up to 3 cubes.
-fn lists_over(n: usize) -> Vec<Vec<u8>> {
+pub fn lists_over(n: usize) -> Vec<Vec<u8>> {
     let variables: Vec<usize> = (0..n).collect();
     let records: Vec<[u8; RECORD]> = cubes_over(n, &variables).iter().map(encoded).collect();
     let longer = |list: &Vec<u8>| records.iter().map(|record| [&list[..], record].concat()).collect::<Vec<_>>();

@@ -1,5 +1,6 @@
 //! The calls: each answers what it found, or the refusal that it met.
 
+use crate::records::{PLACE, Starts};
 use crate::refusal::{Fault, Refusal};
 use crate::words::{self, Words};
 
@@ -57,6 +58,20 @@ pub struct Settled {
 pub struct Written {
     pub steps: u64,
     pub finished: bool,
+}
+
+/// An index of a list: the number of its entries, and where each group starts among them.
+#[derive(Clone, Copy, Debug, PartialEq, Eq)]
+pub struct Index {
+    pub count: u64,
+    pub starts: Starts,
+}
+
+/// The counts of a run with an index, and where each group of the index starts at its end.
+#[derive(Clone, Copy, Debug, PartialEq, Eq)]
+pub struct Indexed {
+    pub run: Run,
+    pub starts: Starts,
 }
 
 /// Tests a list; answers the number of its records.
@@ -143,6 +158,29 @@ pub fn compact(n: u64, count: u64, script: &[u8], out: &mut [u8]) -> Result<u64,
     accepted(words::compact(n, count, script, out)).map(|[steps, ..]| steps)
 }
 
+/// Writes the index of a list to the front of `index`, which has room for the places of all cubes: these places, 2 bytes each, ordered by number of literals
+/// and then by place.
+pub fn index(n: u64, list: &[u8], index: &mut [u8]) -> Result<Index, Refusal> {
+    let mut starts = [0; 33];
+    let [count, ..] = accepted(words::index(n, list, index, &mut starts))?;
+    Ok(Index { count, starts })
+}
+
+/// The run of a list's index that holds the places of the cubes with so many literals, ascending. The index is tested: it must be this list's, in its entries
+/// and its starts.
+pub fn group<'a>(n: u64, list: &[u8], index: &'a [u8], starts: &Starts, number: u64) -> Result<&'a [u8], Refusal> {
+    let [entries, start, ..] = accepted(words::group(n, list, index, starts, number))?;
+    Ok(&index[PLACE * start as usize..][..PLACE * entries as usize])
+}
+
+/// Runs a script as [`run`] does and keeps an index of the list in `work`, in `index`, which has room for the places of as many cubes as `work` has for cubes.
+/// At the end it is the result's, with zeros after it.
+pub fn run_indexed(n: u64, list: &[u8], script: &[u8], work: &mut [u8], index: &mut [u8]) -> Result<Indexed, Refusal> {
+    let mut starts = [0; 33];
+    let [count, peak, ..] = accepted(words::run_indexed(n, list, script, work, index, &mut starts))?;
+    Ok(Indexed { run: Run { count, peak }, starts })
+}
+
 /// Writes an old list's cubes, at the same places, as a list to the front of `out`; answers how many.
 pub fn wide_from_narrow(n: u64, list: &[u8], out: &mut [u8]) -> Result<u64, Refusal> {
     accepted(words::wide_from_narrow(n, list, out)).map(|[count, ..]| count)
@@ -158,7 +196,7 @@ fn accepted([number, place, values @ ..]: Words) -> Result<[u64; 6], Refusal> {
     if number == 0 {
         return Ok(values);
     }
-    let fault = Fault::from_number(number).expect("the library answers refusal numbers from 1 to 11 and 13 to 20");
+    let fault = Fault::from_number(number).expect("the library answers refusal numbers from 1 to 11, 13 to 21, and 25");
     let [differing, ..] = values;
     Err(Refusal { fault, place, differing })
 }

@@ -82,6 +82,33 @@
 //! assert_eq!(places.take(2).collect::<Vec<_>>(), [0, 2]);
 //! ```
 //!
+//! An index has the places of a list's cubes by number of literals, and then by place. The places of the cubes with so many are a run of it:
+//!
+//! ```
+//! use druthmoy::{Cube, PLACE, RECORD, group, index};
+//!
+//! let list: Vec<u8> = ["11", "-1", "0-", "--"].iter().flat_map(|text| text.parse::<Cube>().unwrap().record()).collect();
+//! let mut places = vec![0; PLACE * (list.len() / RECORD)];
+//! let built = index(2, &list, &mut places).unwrap();
+//! assert_eq!((built.count, &built.starts[..4]), (4, &[0, 1, 3, 4][..]));
+//! assert_eq!(places, [3, 0, 1, 0, 2, 0, 0, 0]);
+//! assert_eq!(group(2, &list, &places, &built.starts, 1), Ok(&[1, 0, 2, 0][..]));
+//! ```
+//!
+//! A run can keep one for the list that it works on:
+//!
+//! ```
+//! use druthmoy::{Cube, PLACE, RECORD, Run, Step, group, run_indexed};
+//!
+//! let list: Vec<u8> = ["1-", "-1", "11"].iter().flat_map(|text| text.parse::<Cube>().unwrap().record()).collect();
+//! let script = Step::Join { i: 1, j: 2 }.record();
+//! let (mut work, mut places) = (vec![0; list.len()], vec![0; PLACE * 3]);
+//! let kept = run_indexed(2, &list, &script, &mut work, &mut places).unwrap();
+//! assert_eq!(kept.run, Run { count: 2, peak: 3 });
+//! assert_eq!(places, [0, 0, 1, 0, 0, 0]);
+//! assert_eq!(group(2, &work[..2 * RECORD], &places, &kept.starts, 2), Ok(&[1, 0][..]));
+//! ```
+//!
 //! A refusal at a step that has two cubes says in how many variables they differ:
 //!
 //! ```
@@ -112,11 +139,11 @@ mod refusal;
 pub mod words;
 
 pub use calls::{
-    Fixed, Kronecker, Run, Settled, Tree, Value, Written, best_polarity, check, coefficients, compact,
-    narrow_from_wide, reasons, run, settle, truth_vector, value, vector, wide_from_narrow, write_form, write_kronecker,
-    write_script, write_tree,
+    Fixed, Index, Indexed, Kronecker, Run, Settled, Tree, Value, Written, best_polarity, check, coefficients, compact,
+    group, index, narrow_from_wide, reasons, run, run_indexed, settle, truth_vector, value, vector, wide_from_narrow,
+    write_form, write_kronecker, write_script, write_tree,
 };
-pub use records::{Cube, NARROW_RECORD, NotACube, PLACE, RECORD, STEP, Step};
+pub use records::{Cube, NARROW_RECORD, NotACube, PLACE, RECORD, STEP, Starts, Step};
 pub use refusal::{Fault, Refusal};
 
 #[cfg(feature = "standin")]

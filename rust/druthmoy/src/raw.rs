@@ -1,4 +1,5 @@
-//! The declarations of `druthmoy.h`. A slice crosses as a pointer and a length, an answer as a pointer to eight words.
+//! The declarations of `druthmoy.h`. A slice crosses as a pointer and a length, an answer as a pointer to eight words,
+//! the starts of groups as one to thirty-three.
 
 unsafe extern "C" {
     pub fn dm_check(n: u64, list: *const u8, list_length: usize, answer: *mut u64);
@@ -103,6 +104,38 @@ unsafe extern "C" {
         script_length: usize,
         out: *mut u8,
         out_length: usize,
+        answer: *mut u64,
+    );
+    pub fn dm_index(
+        n: u64,
+        list: *const u8,
+        list_length: usize,
+        index: *mut u8,
+        index_length: usize,
+        starts: *mut u64,
+        answer: *mut u64,
+    );
+    pub fn dm_group(
+        n: u64,
+        list: *const u8,
+        list_length: usize,
+        index: *const u8,
+        index_length: usize,
+        starts: *const u64,
+        number: u64,
+        answer: *mut u64,
+    );
+    pub fn dm_run_indexed(
+        n: u64,
+        list: *const u8,
+        list_length: usize,
+        script: *const u8,
+        script_length: usize,
+        work: *mut u8,
+        work_length: usize,
+        index: *mut u8,
+        index_length: usize,
+        starts: *mut u64,
         answer: *mut u64,
     );
     pub fn dm_wide_from_narrow(

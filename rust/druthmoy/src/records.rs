@@ -1,4 +1,4 @@
-//! The records that lists and scripts are made of, and the width of a place.
+//! The records that lists and scripts are made of, the width of a place, and the starts of an index.
 
 use std::fmt;
 use std::str::FromStr;
@@ -10,8 +10,11 @@ pub const NARROW_RECORD: usize = 4;
 /// Bytes of a step.
 pub const STEP: usize = 8;
 
-/// Bytes of a place among reasons.
+/// Bytes of a place among reasons, and of an entry of an index.
 pub const PLACE: usize = 2;
+
+/// The start of each group of an index, counted in entries: of the cubes with no literal, with one, and so on to 32.
+pub type Starts = [u64; 33];
 
 /// A cube: its literals by two masks, bit k for variable k.
 #[derive(Clone, Copy, Debug, Default, PartialEq, Eq, Hash)]

@@ -45,11 +45,15 @@ pub enum Fault {
     TurnAgree = 19,
     /// n above 16, the variables of a narrow record.
     TooManyForNarrow = 20,
+    /// A number of literals above 32.
+    TooManyLiterals = 21,
+    /// A lent index that is not this list's; the place is the first wrong entry, or else the first wrong group start.
+    WrongIndex = 25,
 }
 
 impl Fault {
     /// All faults, by number.
-    pub const ALL: [Fault; 19] = [
+    pub const ALL: [Fault; 21] = [
         Fault::TooManyVariables,
         Fault::ListLength,
         Fault::TooManyRecords,
@@ -69,6 +73,8 @@ impl Fault {
         Fault::TurnNotTwo,
         Fault::TurnAgree,
         Fault::TooManyForNarrow,
+        Fault::TooManyLiterals,
+        Fault::WrongIndex,
     ];
 
     pub fn number(self) -> u64 {

@@ -2,6 +2,7 @@
 //! has one value, the number of differing variables.
 
 use crate::raw;
+use crate::records::Starts;
 
 /// The answer of a call; see `druthmoy.h`.
 pub type Words = [u64; 8];
@@ -10,7 +11,7 @@ pub type Words = [u64; 8];
 const UNANSWERED: Words = [u64::MAX; 8];
 
 // SAFETY, for each call below: a slice gives a pointer that is not null and as many bytes as its length says; the
-// borrow rules keep what is written apart from every other argument; `answer` has eight words. The library reads and
+// borrow rules keep what is written apart from every other argument; `answer` has eight words, `starts` thirty-three. The library reads and
 // writes within these, and keeps none of the pointers.
 
 #[inline]
@@ -156,6 +157,69 @@ pub fn compact(n: u64, count: u64, script: &[u8], out: &mut [u8]) -> Words {
     let mut answer = UNANSWERED;
     unsafe {
         raw::dm_compact(n, count, script.as_ptr(), script.len(), out.as_mut_ptr(), out.len(), answer.as_mut_ptr());
+    }
+    answer
+}
+
+#[inline]
+pub fn index(n: u64, list: &[u8], index: &mut [u8], starts: &mut Starts) -> Words {
+    let mut answer = UNANSWERED;
+    unsafe {
+        raw::dm_index(
+            n,
+            list.as_ptr(),
+            list.len(),
+            index.as_mut_ptr(),
+            index.len(),
+            starts.as_mut_ptr(),
+            answer.as_mut_ptr(),
+        );
+    }
+    answer
+}
+
+#[inline]
+pub fn group(n: u64, list: &[u8], index: &[u8], starts: &Starts, number: u64) -> Words {
+    let mut answer = UNANSWERED;
+    unsafe {
+        raw::dm_group(
+            n,
+            list.as_ptr(),
+            list.len(),
+            index.as_ptr(),
+            index.len(),
+            starts.as_ptr(),
+            number,
+            answer.as_mut_ptr(),
+        );
+    }
+    answer
+}
+
+#[inline]
+pub fn run_indexed(
+    n: u64,
+    list: &[u8],
+    script: &[u8],
+    work: &mut [u8],
+    index: &mut [u8],
+    starts: &mut Starts,
+) -> Words {
+    let mut answer = UNANSWERED;
+    unsafe {
+        raw::dm_run_indexed(
+            n,
+            list.as_ptr(),
+            list.len(),
+            script.as_ptr(),
+            script.len(),
+            work.as_mut_ptr(),
+            work.len(),
+            index.as_mut_ptr(),
+            index.len(),
+            starts.as_mut_ptr(),
+            answer.as_mut_ptr(),
+        );
     }
     answer
 }

@@ -2,7 +2,10 @@
 
 use crate::compactor;
 use crate::cost::cost;
-use crate::cube::{self, Cube, NARROW_RECORD, PLACE, RECORD, encoded_list, encoded_narrow_list, encoded_places};
+use crate::cube::{
+    self, Cube, NARROW_RECORD, PLACE, RECORD, decoded_places, encoded_list, encoded_narrow_list, encoded_places,
+};
+use crate::index::{self, MOST_LITERALS, Starts, first_wrong};
 use crate::kronecker;
 use crate::polarity;
 use crate::refusal::{Refusal, refuse_at_if, refuse_if};
@@ -165,6 +168,55 @@ pub fn compact(n: u64, count: u64, script: &[u8], out: &mut [u8]) -> Outcome {
     Ok(vec![left.len() as u64])
 }
 
+/// Document 02, Eight: "1 to 4, then 5 for an index buffer shorter than 2 bytes a record".
+pub fn index(n: u64, list: &[u8], index: &mut [u8], starts: &mut Starts) -> Outcome {
+    let list = checked_indexed_list(n, list, index)?;
+    let built = index::index(&list);
+    write_front(index, &encoded_places(&built.places));
+    *starts = built.starts;
+    Ok(vec![list.len() as u64])
+}
+
+/// The same: "then 25 for a lent index that is not this list's (place: the first wrong entry, or the first wrong group start),
+/// entries before starts, then 21 for a number above 32". It answers how many entries the run has, and the one it begins at.
+pub fn group(n: u64, list: &[u8], index: &[u8], starts: &Starts, number: u64) -> Outcome {
+    let list = checked_indexed_list(n, list, index)?;
+    let right = index::index(&list);
+    let entries = decoded_places(&index[..PLACE * list.len()]);
+    for wrong in [first_wrong(&entries, &right.places), first_wrong(starts, &right.starts)] {
+        refuse_at_if(wrong.is_some(), 25, wrong.unwrap_or(0))?;
+    }
+    refuse_if(number > MOST_LITERALS, 21)?;
+    let (start, entries) = right.group(number);
+    Ok(vec![entries, start])
+}
+
+/// The same: "a sibling of run keeps one for the work list"; "zeros after it; a refusal at a step zeroes it"; "5 for an index buffer
+/// shorter than 2 bytes a record (in the run, of work capacity, after the work's 5)".
+pub fn run_indexed(
+    n: u64,
+    list: &[u8],
+    script: &[u8],
+    work: &mut [u8],
+    index: &mut [u8],
+    starts: &mut Starts,
+) -> Outcome {
+    let given = checked_list(n, MOST_VARIABLES, list)?;
+    refuse_if(capacity(work) < given.len(), 5)?;
+    refuse_if(index.len() < PLACE * capacity(work), 5)?;
+    let script = checked_script(n, script)?;
+    let outcome = script::run(&given, &script, capacity(work));
+    work.fill(0);
+    index.fill(0);
+    starts.fill(0);
+    let run = outcome?;
+    let kept = index::index(&run.list);
+    write_front(work, &encoded_list(&run.list));
+    write_front(index, &encoded_places(&kept.places));
+    *starts = kept.starts;
+    Ok(vec![run.list.len() as u64, run.peak as u64])
+}
+
 /// Document 02, Seven: "wide from narrow gives the same cubes at the same places".
 pub fn wide_from_narrow(n: u64, list: &[u8], out: &mut [u8]) -> Outcome {
     let list = checked_records(n, NARROW_VARIABLES, NARROW_RECORD, list)?;
@@ -192,6 +244,13 @@ fn checked_list(n: u64, limit: u64, list: &[u8]) -> Result<Vec<Cube>, Refusal> {
 fn checked_list_at(n: u64, list: &[u8], a: u64) -> Result<Vec<Cube>, Refusal> {
     let list = checked_list(n, MOST_VARIABLES, list)?;
     refuse_if(has_bit_from(n, a), 6)?;
+    Ok(list)
+}
+
+/// Rules 1 to 4, and 5 of an index buffer.
+fn checked_indexed_list(n: u64, list: &[u8], index: &[u8]) -> Result<Vec<Cube>, Refusal> {
+    let list = checked_list(n, MOST_VARIABLES, list)?;
+    refuse_if(index.len() < PLACE * list.len(), 5)?;
     Ok(list)
 }
 

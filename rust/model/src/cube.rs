@@ -9,7 +9,7 @@ pub const RECORD: usize = 8;
 /// Bytes of a record of an old list.
 pub const NARROW_RECORD: usize = 4;
 
-/// Bytes of a place. Document 02, One: "2 bytes each".
+/// Bytes of a place. Document 02, One and Eight: "2 bytes each".
 pub const PLACE: usize = 2;
 
 /// The product is true where each literal that stands in it is.
@@ -83,6 +83,11 @@ pub fn encoded_narrow_list(list: &[Cube]) -> Vec<u8> {
 /// The bytes of places, end to end.
 pub fn encoded_places(places: &[usize]) -> Vec<u8> {
     places.iter().flat_map(|place| [(place % 256) as u8, (place / 256) as u8]).collect()
+}
+
+/// The places of bytes, end to end.
+pub fn decoded_places(bytes: &[u8]) -> Vec<usize> {
+    bytes.chunks(PLACE).map(|place| place.iter().rev().fold(0, |high, &byte| 256 * high + byte as usize)).collect()
 }
 
 /// A cube written out: `0`, `1` or `-` per variable.

@@ -10,6 +10,7 @@ pub mod calls;
 pub mod compactor;
 pub mod cost;
 pub mod cube;
+pub mod index;
 pub mod kronecker;
 pub mod polarity;
 pub mod program;

@@ -12,6 +12,8 @@ use model::script::{self, encoded_script};
 
 #[path = "examples/compact.rs"]
 mod compact;
+#[path = "examples/index.rs"]
+mod index;
 #[path = "examples/write_kronecker.rs"]
 mod write_kronecker;
 #[path = "examples/write_script.rs"]

@@ -4,10 +4,11 @@
 #![expect(clippy::missing_safety_doc, reason = "the header says what a caller owes")]
 
 use model::calls::{self, Outcome, words};
+use model::index::Starts;
 use std::slice::{from_raw_parts, from_raw_parts_mut};
 
 // SAFETY, for each call below: the header asks of the caller that pointers are not null, lengths are true, written
-// buffers overlap nothing and `answer` has eight words.
+// buffers overlap nothing, `answer` has eight words and `starts` thirty-three.
 
 unsafe fn give(outcome: Outcome, answer: *mut u64) {
     unsafe { from_raw_parts_mut(answer, 8) }.copy_from_slice(&words(&outcome));
@@ -204,6 +205,60 @@ pub unsafe extern "C" fn dm_compact(
     unsafe {
         let out = from_raw_parts_mut(out, out_length);
         give(calls::compact(n, count, from_raw_parts(script, script_length), out), answer)
+    }
+}
+
+#[unsafe(no_mangle)]
+pub unsafe extern "C" fn dm_index(
+    n: u64,
+    list: *const u8,
+    list_length: usize,
+    index: *mut u8,
+    index_length: usize,
+    starts: *mut Starts,
+    answer: *mut u64,
+) {
+    unsafe {
+        let index = from_raw_parts_mut(index, index_length);
+        give(calls::index(n, from_raw_parts(list, list_length), index, &mut *starts), answer)
+    }
+}
+
+#[unsafe(no_mangle)]
+pub unsafe extern "C" fn dm_group(
+    n: u64,
+    list: *const u8,
+    list_length: usize,
+    index: *const u8,
+    index_length: usize,
+    starts: *const Starts,
+    number: u64,
+    answer: *mut u64,
+) {
+    unsafe {
+        let (list, index) = (from_raw_parts(list, list_length), from_raw_parts(index, index_length));
+        give(calls::group(n, list, index, &*starts, number), answer)
+    }
+}
+
+#[unsafe(no_mangle)]
+pub unsafe extern "C" fn dm_run_indexed(
+    n: u64,
+    list: *const u8,
+    list_length: usize,
+    script: *const u8,
+    script_length: usize,
+    work: *mut u8,
+    work_length: usize,
+    index: *mut u8,
+    index_length: usize,
+    starts: *mut Starts,
+    answer: *mut u64,
+) {
+    unsafe {
+        let (list, script) = (from_raw_parts(list, list_length), from_raw_parts(script, script_length));
+        let (work, index) = (from_raw_parts_mut(work, work_length), from_raw_parts_mut(index, index_length));
+        give(calls::run_indexed(n, list, script, work, index, &mut *starts), answer)
     }
 }
 

@@ -47,14 +47,13 @@ pub fn run_in(given: Records, steps: &[[u8; STEP]], work: &mut [u8]) -> Result<D
             return Err(Refusal { number, place, differing });
         }
     }
-    orders::undo(&mut state.records[..state.count], &state.pending);
-    Ok(Done { count: state.count, peak: state.peak })
+    Ok(state.undone())
 }
 
 /// Why a step is refused: the number; and the number of differing variables, where its two cubes are not as it needs.
 pub struct StepRefusal {
-    number: u64,
-    differing: u32,
+    pub number: u64,
+    pub differing: u32,
 }
 
 fn refuse<T>(number: u64) -> Result<T, StepRefusal> {
@@ -85,6 +84,12 @@ impl State<'_> {
 
     pub fn list(&self) -> Records<'_> {
         &self.records[..self.count]
+    }
+
+    /// Undoes the L steps.
+    pub fn undone(&mut self) -> Done {
+        orders::undo(&mut self.records[..self.count], &self.pending);
+        Done { count: self.count, peak: self.peak }
     }
 
     #[inline(always)]
