@@ -1,9 +1,9 @@
 -- A step done as a script of one step: what the script's part of eight bytes is, and where the run stands after it.
 -- Assumes nothing.
-use mathlib.Core.Path.{_≡_, refl, sym, ap, _∙_, subst}
+use mathlib.Core.Path.{_≡_, sym, ap, _∙_, subst}
 use mathlib.Core.Bool.{true, false, true≢false}
 use mathlib.Core.List.{List, [], _∷_, map}
-use Prim.Native.Nat.{ℕ, _+_, _-_, _*_, _/_, _≤_, _<_, max}
+use Prim.Native.Nat.{ℕ, _+_, _-_, _*_, _/_, _<_, max}
 use native.Mathlib.Omega.{arith}
 use lib.ListN.{length, getD, take, drop, length-drop}
 use lib.Seq.{length-take-le}
@@ -11,12 +11,12 @@ use Rattle.bits.specs.Below.{listBelow}
 use Rattle.bits.specs.Sums.{All}
 use Rattle.bits.proofs.Sums.{all-get}
 use Rattle.records.specs.Records.{records, listOf}
-use Rattle.records.proofs.Records.{length-list, place-room}
+use Rattle.records.proofs.Records.{length-list}
 use Rattle.records.proofs.Fields.{fields-in}
 use Rattle.cube.specs.declared.Cube.{Cube}
 use Rattle.cube.specs.Lists.{cubes}
 use Rattle.steps.specs.declared.StepRecord.{StepRecord}
-use Rattle.steps.specs.Moves.{After, stop, next, stepRefusal}
+use Rattle.steps.specs.Moves.{After, stop, next}
 use Rattle.steps.specs.Steps.{Step, meaning, step}
 use Rattle.script.specs.declared.Progress.{Progress}
 use Rattle.script.specs.declared.Standing.{Standing}
