@@ -10,11 +10,10 @@ use Rattle.steps.specs.Moves.{After, stop, next}
 use Rattle.steps.specs.Steps.{Step, step, isSplit, isJoin, isDrop}
 use Rattle.steps.proofs.Kept.{step-count}
 use Rattle.steps.proofs.step.Stepping.{step-fits}
-use Rattle.script.specs.Run.{Ran, stopped, ended, onward, stepsFrom, undo, run}
+use Rattle.script.specs.Run.{Ran, stopped, ended, onward, stepsFrom, undoBy, runBy, unstep, undo, run}
 use Rattle.script.specs.Counts.{howMany, metAfter, listsBy, lists, greatest}
 use Rattle.script.proofs.Pending.{undone, undo-map}
-use Rattle.script.proofs.Runs.{ended-list, ended-peak, onward-by}
-use Rattle.script.proofs.Value.{run-finished}
+use Rattle.script.proofs.Runs.{ended-list, ended-peak, onward-by, FinishedBy, finished-by}
 
 module _ {A X : Type 0} (σ : X → List A → After A) where
   -- ---- the count
@@ -98,6 +97,32 @@ module _ {A X : Type 0} (σ : X → List A → After A) where
           let peak : max (max q p) (length r) ≡ max q (max p (length r)) = omega arith in
           ap₂ (λ (i j : ℕ). stepsFrom σ i j xs r) number peak ∙ ih r
 
+  -- ---- a whole run, with the undoing
+
+  module _ (un : X → List A → List A) (xs : List X) (l m : List A) (peak : ℕ) (ran : runBy σ un xs l ≡ ended m peak) where
+    f : FinishedBy σ un xs l m peak
+    f = finished-by σ un xs l m peak ran
+
+    -- there is a list after each step, and the last of them, undone, is the result
+    pub run-lists-by : length (listsBy σ xs l) ≡ suc (length xs)
+    run-lists-by = steps-lists 0 (length l) xs l (f .last) peak (f .steps) .0
+
+    pub run-result-by : m ≡ undoBy un xs (getD (listsBy σ xs l) (length xs) [])
+    run-result-by = f .list ∙ ap (undoBy un xs) (sym (steps-lists 0 (length l) xs l (f .last) peak (f .steps) .1))
+
+    -- "The peak is the greatest count met, the first included"
+    pub run-peak-by : peak ≡ greatest (listsBy σ xs l)
+    run-peak-by = omega (arith, steps-peak 0 (length l) xs l (f .last) peak (omega arith) (f .steps) .0, first-met xs l)
+
+    -- where the undoing leaves as many records as there were
+    module _ (same : (k : List A) → length (undoBy un xs k) ≡ length k) where
+      pub run-count-by : (taken added : X → ℕ) → ((x : X) (l m : List A) → σ x l ≡ next m → length m + taken x ≡ length l + added x)
+          → length m + howMany taken xs ≡ length l + howMany added xs
+      run-count-by taken added h = omega (arith, ap length (f .list), same (f .last), steps-count-by taken added h 0 (length l) xs l (f .last) peak (f .steps))
+
+      pub run-last-by : length m ≤ peak
+      run-last-by = omega (arith, ap length (f .list), same (f .last), steps-peak 0 (length l) xs l (f .last) peak (omega arith) (f .steps) .1)
+
 -- ---- cubes
 
 -- what is taken away by a join and a drop
@@ -120,30 +145,27 @@ lists-bound n cap = lists-bound-by (step n cap) isSplit cap (step-bound n cap)
 module _ (n cap : ℕ) (xs : List Step) (l m : List Cube) (peak : ℕ) (ran : run n cap xs l ≡ ended m peak) where
   -- "The count after a run is the first count plus splits, less joins, less twice the drops"
   pub run-count : length m + howMany isJoin xs + 2 * howMany isDrop xs ≡ length l + howMany isSplit xs
+  unfolding run
   run-count =
-      let f = run-finished n cap xs l m peak ran in
       omega (
         arith,
-        ap length (f .list),
-        undo-length xs (f .last),
-        steps-count-by (step n cap) (λ x. isJoin x + 2 * isDrop x) isSplit (λ x l m e. omega (arith, step-count n cap x l m e)) 0 (length l) xs l (f .last) peak (f .steps),
+        run-count-by (step n cap) unstep xs l m peak ran (undo-length xs) (λ x. isJoin x + 2 * isDrop x) isSplit (λ x l m e. omega (arith, step-count n cap x l m e)),
         taken-are xs,
       )
 
   -- there is a list after each step, and the last of them, undone, is the result
   pub run-lists : length (lists n cap xs l) ≡ suc (length xs)
-  run-lists = let f = run-finished n cap xs l m peak ran in steps-lists (step n cap) 0 (length l) xs l (f .last) peak (f .steps) .0
+  unfolding run
+  run-lists = run-lists-by (step n cap) unstep xs l m peak ran
 
   pub run-result : m ≡ undo xs (getD (lists n cap xs l) (length xs) [])
-  run-result =
-      let f = run-finished n cap xs l m peak ran in
-      f .list ∙ ap (undo xs) (sym (steps-lists (step n cap) 0 (length l) xs l (f .last) peak (f .steps) .1))
+  unfolding run
+  run-result = run-result-by (step n cap) unstep xs l m peak ran
 
   -- "The peak is the greatest count met, the first included"
   pub run-peak : peak ≡ greatest (lists n cap xs l)
-  run-peak =
-      let f = run-finished n cap xs l m peak ran in
-      omega (arith, steps-peak (step n cap) 0 (length l) xs l (f .last) peak (omega arith) (f .steps) .0, first-met (step n cap) xs l)
+  unfolding run
+  run-peak = run-peak-by (step n cap) unstep xs l m peak ran
 
   -- "It is at most the first count plus splits"
   pub run-peak-splits : peak ≤ length l + howMany isSplit xs
@@ -154,6 +176,5 @@ module _ (n cap : ℕ) (xs : List Step) (l m : List Cube) (peak : ℕ) (ran : ru
   run-peak-capacity = omega (arith, run-peak, lists-bound n cap xs l .1)
 
   pub run-last : length m ≤ peak
-  run-last =
-      let f = run-finished n cap xs l m peak ran in
-      omega (arith, ap length (f .list), undo-length xs (f .last), steps-peak (step n cap) 0 (length l) xs l (f .last) peak (omega arith) (f .steps) .1)
+  unfolding run
+  run-last = run-last-by (step n cap) unstep xs l m peak ran (undo-length xs)

@@ -15,6 +15,8 @@ use Rattle.script.proofs.record.step_at.Kinds as step-at-kinds
 use Rattle.script.proofs.record.step_at.Reads as step-at-reads
 use Rattle.script.proofs.record.put_step.Kinds as put-step-kinds
 use Rattle.script.proofs.record.put_step.Reads as put-step-reads
+use Rattle.script.proofs.check.fits.Kinds as fits-kinds
+use Rattle.script.proofs.check.fits.Reads as fits-reads
 use Rattle.script.proofs.check.check_script.Kinds as check-script-kinds
 use Rattle.script.proofs.check.check_script.Reads as check-script-reads
 use Rattle.script.proofs.run.pended.Kinds as pended-kinds
@@ -45,6 +47,9 @@ step-at-determined κs a z z′ ws ws′ p q = (same p q, refl)
 
 pub put-step-determined : Determined 1 put-step-kinds.ps put-step-kinds.r put-step-reads.Learnt
 put-step-determined κs a z z′ ws ws′ p q = (refl, ap (λ (b : List ℕ). (b, (tt, (tt, tt)))) (same p q))
+
+pub fits-determined : Determined 0 fits-kinds.ps fits-kinds.r fits-reads.Learnt
+fits-determined κs a z z′ ws ws′ p q = (same p q, refl)
 
 pub check-script-determined : Determined 1 check-script-kinds.ps check-script-kinds.r check-script-reads.Learnt
 check-script-determined κs a z z′ ws ws′ p q = (same-told counted counted-back counted-known p q, refl)

@@ -1,4 +1,4 @@
--- The call `run`: what its checks refuse and let pass, and its outcome taken apart.
+-- A run on any kind of list: what its checks refuse and let pass, and its outcome taken apart; and the call `run`.
 -- Assumes nothing.
 use mathlib.Core.Path.{_≡_, refl, sym, ap, _∙_}
 use mathlib.Core.Logic.{_⊎_, inl, inr}
@@ -12,34 +12,105 @@ use lib.ListN.{length}
 use Rattle.records.specs.declared.Refusal.{Refusal}
 use Rattle.records.specs.Answers.{Outcome, accepted, refused, refusal, unless, andThen, Accepts}
 use Rattle.records.proofs.Answers.{not-both, accepted-values, refused-same, unless-accepted, both-accepted, and-then, and-not}
+use Rattle.records.specs.Records.{Codec}
 use Rattle.records.proofs.Records.{length-list}
-use Rattle.cube.specs.declared.Cube.{Cube}
 use Rattle.cube.specs.Lists.{cubes, cubesOf, cubeCapacity, recordWidth, mostVariables}
 use Rattle.cube.specs.Calls.{checkList}
 use Rattle.cube.proofs.Lists.{AcceptedList, check-accepts}
 use Rattle.script.specs.Run.{Ran, stopped, ended}
-use Rattle.script.specs.Calls.{checkScript, checkRun, runOf, ofStep, ranOutcome, runOutcome, ranWork, workAfter, runAfter}
+use Rattle.script.specs.Calls.{checkScript, checkBefore, checkRun, runOf, ofStep, ranOutcome, runOutcome, ranWorkBy, ranWork, workAfterBy, runAfter}
 use Rattle.script.proofs.Scripts.{AcceptedScript, script-accepts}
 
--- ---- the checks before any step
+pub passed : (o : Outcome) (v : List ℕ) → o ≡ accepted v → Accepts o
+passed o v e = record { values = v; is = e }
+
+-- ---- the checks before any step, of any kind of list: by what its own check says, its count, the capacity of the work buffer and what the script's check says
+
+module _ (list : Outcome) (count capacity : ℕ) (script : Outcome) where
+  pub before-list : (r : Refusal) → list ≡ refused r → refused r ≡ checkBefore list count capacity script
+  before-list r e = sym (and-not _ _ r e)
+
+  module _ (v : List ℕ) (e : list ≡ accepted v) where
+    pub before-short : (r : Refusal) → r ≡ refusal 5 0 → capacity < count → refused r ≡ checkBefore list count capacity script
+    before-short r er h = ap refused er ∙ sym (and-then _ _ v e ∙ ap (λ (t : Bool). unless t 5 0 script) (lt-leb _ _ h))
+
+    pub before-script : count ≤ capacity → script ≡ checkBefore list count capacity script
+    before-script h = sym (and-then _ _ v e ∙ ap (λ (t : Bool). unless t 5 0 script) (le-leb _ _ h))
+
+  -- what passed
+  pub record Passed : Type 0 where
+    pub list-passed : Accepts list
+    pub fits : count ≤ capacity
+    pub script-passed : Accepts script
+
+  pub before-passed : Accepts (checkBefore list count capacity script) → Passed
+  before-passed p =
+      let b = both-accepted list _ (p .values) (p .is) in
+      let c = unless-accepted (leb count capacity) 5 0 script (p .values) (b .second) in
+      record { list-passed = passed list (b .values) (b .first); fits = leb-true count capacity (c .0); script-passed = passed script (p .values) (c .1) }
+
+-- ---- the outcome of a run on any kind of record, by what its checks and its steps say
+
+-- an accepted run: its checks passed, and its steps ended in a list
+pub record EndedBy {A : Type 0} (check : Outcome) (t : Ran A) (v : List ℕ) : Type 0 where
+  pub checks : Accepts check
+  pub result : List A
+  pub peak : ℕ
+  pub ran : t ≡ ended result peak
+  pub values : v ≡ length result ∷ peak ∷ []
+
+-- one refused at a step
+pub record StoppedBy {A : Type 0} (check : Outcome) (t : Ran A) (r : Refusal) : Type 0 where
+  pub checks : Accepts check
+  pub ran : t ≡ stopped (ofStep r) (r .place)
+
+module _ {A : Type 0} (check : Outcome) (ran : Ran A) where
+  pub ended-by : (v : List ℕ) → andThen check (ranOutcome ran) ≡ accepted v → EndedBy check ran v
+  ended-by v e =
+      let b = both-accepted check _ v e in
+      go (passed check (b .values) (b .first)) ran refl (b .second)
+    where
+      go : Accepts check → (t : Ran A) → ran ≡ t → ranOutcome t ≡ accepted v → EndedBy check ran v
+      go p (stopped why step) is e = absurd (not-both (sym e))
+      go p (ended l peak) is e = record { checks = p; result = l; peak = peak; ran = is; values = sym (accepted-values e) }
+
+  -- refused before the first step, or at a step
+  pub stopped-or : (r : Refusal) → andThen check (ranOutcome ran) ≡ refused r → (check ≡ refused r) ⊎ StoppedBy check ran r
+  stopped-or r e = go check ran refl refl e
+    where
+      go : (o : Outcome) (t : Ran A) → check ≡ o → ran ≡ t → andThen o (ranOutcome t) ≡ refused r → (check ≡ refused r) ⊎ StoppedBy check ran r
+      go (refused q) t eo et e = inl (eo ∙ e)
+      go (accepted v) (ended l peak) eo et e = absurd (not-both e)
+      go (accepted v) (stopped why step) eo et e =
+          inr (record { checks = passed _ v eo; ran = et ∙ ap (λ (q : Refusal). stopped (ofStep q) (q .place)) (refused-same e) })
+
+-- the other way, from the checks and the run: what the call answers and leaves
+module _ {A : Type 0} (C : Codec A) (check : Outcome) (ran : Ran A) (work : List ℕ) where
+  pub refuses-by : (r : Refusal) → check ≡ refused r → (refused r ≡ andThen check (ranOutcome ran)) × (work ≡ workAfterBy C check work ran)
+  refuses-by r e = (sym (and-not _ _ r e), sym (ap (λ (o : Outcome). workAfterBy C o work ran) e))
+
+  module _ (v : List ℕ) (e : check ≡ accepted v) where
+    pub answers-by : ranOutcome ran ≡ andThen check (ranOutcome ran)
+    answers-by = sym (and-then _ _ v e)
+
+    pub leaves-by : ranWorkBy C (length work) ran ≡ workAfterBy C check work ran
+    leaves-by = sym (ap (λ (o : Outcome). workAfterBy C o work ran) e)
+
+-- ---- the run of a list of cubes
 
 module _ (n : ℕ) (list script : List ℕ) (room : ℕ) where
   pub run-list-refused : (r : Refusal) → checkList mostVariables n list ≡ refused r → refused r ≡ checkRun n list script room
   unfolding checkRun
-  run-list-refused r e = sym (and-not _ _ r e)
+  run-list-refused r e = before-list (checkList mostVariables n list) (length (cubesOf list)) (cubeCapacity room) (checkScript n script) r e
 
   module _ (v : List ℕ) (e : checkList mostVariables n list ≡ accepted v) (cap : ℕ) (ec : cap ≡ cubeCapacity room) where
     pub run-short : (r : Refusal) → r ≡ refusal 5 0 → cap < length list / recordWidth → refused r ≡ checkRun n list script room
     unfolding checkRun
-    run-short r er h =
-        let f : cubeCapacity room < length (cubesOf list) = omega (arith, ec, length-list cubes list) in
-        ap refused er ∙ sym (and-then _ _ v e ∙ ap (λ (t : Bool). unless t 5 0 (checkScript n script)) (lt-leb _ _ f))
+    run-short r er h = before-short (checkList mostVariables n list) (length (cubesOf list)) (cubeCapacity room) (checkScript n script) v e r er (omega (arith, ec, length-list cubes list))
 
     pub run-script : length list / recordWidth ≤ cap → checkScript n script ≡ checkRun n list script room
     unfolding checkRun
-    run-script h =
-        let f : length (cubesOf list) ≤ cubeCapacity room = omega (arith, ec, length-list cubes list) in
-        sym (and-then _ _ v e ∙ ap (λ (t : Bool). unless t 5 0 (checkScript n script)) (le-leb _ _ f))
+    run-script h = before-script (checkList mostVariables n list) (length (cubesOf list)) (cubeCapacity room) (checkScript n script) v e (omega (arith, ec, length-list cubes list))
 
   -- what passed
   pub record AcceptedRun : Type 0 where
@@ -50,67 +121,41 @@ module _ (n : ℕ) (list script : List ℕ) (room : ℕ) where
   pub run-checked : Accepts (checkRun n list script room) → AcceptedRun
   unfolding checkRun
   run-checked p =
-      let b = both-accepted (checkList mostVariables n list) _ (p .values) (p .is) in
-      let c = unless-accepted (leb (length (cubesOf list)) (cubeCapacity room)) 5 0 (checkScript n script) (p .values) (b .second) in
+      let b = before-passed (checkList mostVariables n list) (length (cubesOf list)) (cubeCapacity room) (checkScript n script) p in
       record {
-        list-is = check-accepts cubes mostVariables n list (b .values) (b .first);
-        fits = omega (arith, leb-true (length (cubesOf list)) (cubeCapacity room) (c .0), length-list cubes list);
-        script-is = script-accepts n script (p .values) (c .1);
+        list-is = check-accepts cubes mostVariables n list (b .list-passed .values) (b .list-passed .is);
+        fits = omega (arith, b .fits, length-list cubes list);
+        script-is = script-accepts n script (b .script-passed .values) (b .script-passed .is);
       }
 
--- ---- the outcome, for crates above: Three and Eight wait for it
+-- the outcome, for crates above
+abbrev pub RunEnded : (n : ℕ) (list script : List ℕ) (room : ℕ) (v : List ℕ) → Type 0
+RunEnded n list script room v = EndedBy (checkRun n list script room) (runOf n list script room) v
 
-pub passed : (o : Outcome) (v : List ℕ) → o ≡ accepted v → Accepts o
-passed o v e = record { values = v; is = e }
-
--- an accepted run: its checks passed, and its steps ended in a list
-pub record RunEnded (n : ℕ) (list script : List ℕ) (room : ℕ) (v : List ℕ) : Type 0 where
-  pub checks : Accepts (checkRun n list script room)
-  pub result : List Cube
-  pub peak : ℕ
-  pub ran : runOf n list script room ≡ ended result peak
-  pub values : v ≡ length result ∷ peak ∷ []
-
--- one refused at a step
-pub record RunStopped (n : ℕ) (list script : List ℕ) (room : ℕ) (r : Refusal) : Type 0 where
-  pub checks : Accepts (checkRun n list script room)
-  pub ran : runOf n list script room ≡ stopped (ofStep r) (r .place)
+abbrev pub RunStopped : (n : ℕ) (list script : List ℕ) (room : ℕ) (r : Refusal) → Type 0
+RunStopped n list script room r = StoppedBy (checkRun n list script room) (runOf n list script room) r
 
 module _ (n : ℕ) (list script : List ℕ) (room : ℕ) where
   pub run-accepted : (v : List ℕ) → runOutcome n list script room ≡ accepted v → RunEnded n list script room v
   unfolding runOutcome
-  run-accepted v e =
-      let b = both-accepted (checkRun n list script room) _ v e in
-      go (passed (checkRun n list script room) (b .values) (b .first)) (runOf n list script room) refl (b .second)
-    where
-      go : Accepts (checkRun n list script room) → (t : Ran Cube) → runOf n list script room ≡ t → ranOutcome t ≡ accepted v → RunEnded n list script room v
-      go p (stopped why step) is e = absurd (not-both (sym e))
-      go p (ended l peak) is e = record { checks = p; result = l; peak = peak; ran = is; values = sym (accepted-values e) }
+  run-accepted v e = ended-by (checkRun n list script room) (runOf n list script room) v e
 
   -- refused before the first step, or at a step
   pub run-refused-by : (r : Refusal) → runOutcome n list script room ≡ refused r → (checkRun n list script room ≡ refused r) ⊎ RunStopped n list script room r
   unfolding runOutcome
-  run-refused-by r e = go (checkRun n list script room) (runOf n list script room) refl refl e
-    where
-      go : (o : Outcome) (t : Ran Cube) → checkRun n list script room ≡ o → runOf n list script room ≡ t → andThen o (ranOutcome t) ≡ refused r
-          → (checkRun n list script room ≡ refused r) ⊎ RunStopped n list script room r
-      go (refused q) t eo et e = inl (eo ∙ e)
-      go (accepted v) (ended l peak) eo et e = absurd (not-both e)
-      go (accepted v) (stopped why step) eo et e =
-          inr (record { checks = passed _ v eo; ran = et ∙ ap (λ (q : Refusal). stopped (ofStep q) (q .place)) (refused-same e) })
+  run-refused-by r e = stopped-or (checkRun n list script room) (runOf n list script room) r e
 
--- the other way, from the checks and the run: what the call answers and leaves
 module _ (n : ℕ) (list script work : List ℕ) where
   pub run-refuses : (r : Refusal) → checkRun n list script (length work) ≡ refused r
       → (refused r ≡ runOutcome n list script (length work)) × (work ≡ runAfter n list script work)
   unfolding runOutcome runAfter
-  run-refuses r e = (sym (and-not _ _ r e), sym (ap (λ (o : Outcome). workAfter o work (runOf n list script (length work))) e))
+  run-refuses r e = refuses-by cubes (checkRun n list script (length work)) (runOf n list script (length work)) work r e
 
   module _ (v : List ℕ) (e : checkRun n list script (length work) ≡ accepted v) where
     pub run-answers : ranOutcome (runOf n list script (length work)) ≡ runOutcome n list script (length work)
     unfolding runOutcome
-    run-answers = sym (and-then _ _ v e)
+    run-answers = answers-by cubes (checkRun n list script (length work)) (runOf n list script (length work)) work v e
 
     pub run-leaves : ranWork (length work) (runOf n list script (length work)) ≡ runAfter n list script work
     unfolding runAfter
-    run-leaves = sym (ap (λ (o : Outcome). workAfter o work (runOf n list script (length work))) e)
+    run-leaves = leaves-by cubes (checkRun n list script (length work)) (runOf n list script (length work)) work v e

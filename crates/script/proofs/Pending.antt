@@ -25,7 +25,7 @@ use Rattle.steps.proofs.Linear.{exchanged-moved, reordered-moved, code-moved, c
 use Rattle.steps.proofs.Kept.{takenBack, taken-back-good}
 use Rattle.script.specs.Run.{unstep, undo}
 use Rattle.script.proofs.Runs.{undoneBy, undo-by-map, undone-by-good}
-use Rattle.script.specs.Pending.{nonePending, pendStep, pend, restored}
+use Rattle.script.specs.Pending.{nonePending, pendStep, pendBy, pend, restored}
 
 -- ---- the undoing, cube by cube
 
@@ -72,7 +72,7 @@ pend-step-length os (turn v i j) = refl
 pend-step-length os (L v b) = length-set os v (follow (getD os v noOrder) (letterOrder b))
 
 pub pend-orders : (xs : List Step) (os : List ℕ) → All IsOrder os → All IsOrder (pend os xs)
-unfolding pend
+unfolding pendBy
 pend-orders [] os a = a
 pend-orders (x ∷ xs) os a = pend-orders xs (pendStep os x) (pend-step-orders os x a)
 
@@ -163,7 +163,7 @@ pend-step-code n (L v b) h os a l c k =
 
 pend-code : (n : ℕ) (xs : List Step) → All (Allowed n) xs → (os : List ℕ) → All IsOrder os → n ≤ length os → (c : Cube) (k : ℕ)
     → codeAfter (inverse (getD os k noOrder)) (code (undone xs c) k) ≡ codeAfter (inverse (getD (pend os xs) k noOrder)) (code c k)
-unfolding undoneBy pend
+unfolding undoneBy pendBy
 pend-code n [] h os a l c k = refl
 pend-code n (x ∷ xs) h os a l c k =
     pend-step-code n x (h .0) os a l (undone xs c) k

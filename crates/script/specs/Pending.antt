@@ -20,10 +20,13 @@ pendStep os (split v i) = os
 pendStep os (turn v i j) = os
 pendStep os (L v b) = set os v (follow (getD os v noOrder) (letterOrder b))
 
--- and after all steps of a script
-unfoldable pub pend : List ℕ → List Step → List ℕ
-pend os [] = os
-pend os (x ∷ xs) = pend (pendStep os x) xs
+-- and after all steps of a script, for any kind of step, by what is pending after one
+unfoldable pub pendBy : {X : Type 0} → (List ℕ → X → List ℕ) → List ℕ → List X → List ℕ
+pendBy one os [] = os
+pendBy one os (x ∷ xs) = pendBy one (one os x) xs
+
+abbrev pub pend : List ℕ → List Step → List ℕ
+pend os xs = pendBy pendStep os xs
 
 -- a cube with the pending orders of its first m variables taken back
 unfoldable pub restored : ℕ → List ℕ → Cube → Cube

@@ -15,7 +15,7 @@ ghost use Rattle.script.specs.Calls.{checkScript};
 pub const MOST_STEPS: usize = 1024;
 
 // Whether a step passes rule 9 over n variables: a row for each operation, and what it doesn't use is zero.
-fn fits(n: usize, x: StepRecord) -> bool
+pub fn fits(n: usize, x: StepRecord) -> bool
     ensures { λ r. ⌜ r ≡ fits n x ⌝ }
 {
     let op = x.op;

@@ -24,6 +24,10 @@ use Rattle.steps.proofs.perform.drop_both.Kinds as drop-both-kinds
 use Rattle.steps.proofs.perform.drop_both.Reads as drop-both-reads
 use Rattle.steps.proofs.perform.join_both.Kinds as join-both-kinds
 use Rattle.steps.proofs.perform.join_both.Reads as join-both-reads
+use Rattle.steps.proofs.reorder.masks_at.Kinds as masks-at-kinds
+use Rattle.steps.proofs.reorder.masks_at.Reads as masks-at-reads
+use Rattle.steps.proofs.reorder.recoded.Kinds as recoded-kinds
+use Rattle.steps.proofs.reorder.recoded.Reads as recoded-reads
 use Rattle.steps.proofs.reorder.reorder.Kinds as reorder-kinds
 use Rattle.steps.proofs.reorder.reorder.Reads as reorder-reads
 use Rattle.steps.proofs.step.do_step.Kinds as do-step-kinds
@@ -65,6 +69,12 @@ smaller-determined κs a z z′ ws ws′ p q = (same p q, refl)
 
 pub larger-determined : Determined 0 larger-kinds.ps larger-kinds.r larger-reads.Learnt
 larger-determined κs a z z′ ws ws′ p q = (same p q, refl)
+
+pub masks-at-determined : Determined 0 masks-at-kinds.ps masks-at-kinds.r masks-at-reads.Learnt
+masks-at-determined κs a z z′ ws ws′ p q = (same p q, refl)
+
+pub recoded-determined : Determined 0 recoded-kinds.ps recoded-kinds.r recoded-reads.Learnt
+recoded-determined κs a z z′ ws ws′ p q = (same p q, refl)
 
 pub reorder-determined : Determined 1 reorder-kinds.ps reorder-kinds.r reorder-reads.Learnt
 reorder-determined κs a z z′ ws ws′ p q = (refl, ap (λ (b : List ℕ). (b, (tt, (tt, (tt, tt))))) (same p q))

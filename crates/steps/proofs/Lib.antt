@@ -9,4 +9,5 @@ pub mod Rules
 pub mod Transformation
 pub mod Commute
 pub mod Making
+pub mod Onward
 pub mod Determined

@@ -1,3 +1,3 @@
 -- What the proofs of `perform` and of the functions below it use.
-mod Placing
 pub mod Performing
+pub mod Placing

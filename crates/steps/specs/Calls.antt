@@ -7,19 +7,23 @@ use Rattle.bits.specs.Sums.{All}
 use Rattle.records.specs.Records.{Codec, Held, records, image}
 use Rattle.cube.specs.declared.Cube.{Cube}
 use Rattle.cube.specs.Cubes.{Good}
-use Rattle.cube.specs.Lists.{cubes, recordWidth, mostVariables}
+use Rattle.cube.specs.Lists.{cubes, mostVariables}
 use Rattle.steps.specs.declared.StepRecord.{StepRecord}
 use Rattle.steps.specs.declared.Stepped.{Stepped}
 use Rattle.steps.specs.declared.Stepped.the-variants as stepped-is
 use Rattle.steps.specs.Moves.{After, stop, next}
 use Rattle.steps.specs.Steps.{Allowed, meaning}
 
--- the work buffer holds `count` good cubes over n variables, zeros after them, and has room for cap
-pub record Ready (n count cap : ℕ) (work : List ℕ) : Type 0 where
-  pub held : Held cubes count work
-  pub good : All (Good n) (records cubes count work)
+-- the work buffer holds `count` records of one kind, all of them fine, over n variables, zeros after them, and has room for cap
+pub record ReadyBy {A : Type 0} (C : Codec A) (Fine : A → Type 0) (n count cap : ℕ) (work : List ℕ) : Type 0 where
+  pub held : Held C count work
+  pub good : All Fine (records C count work)
   pub few : n ≤ mostVariables
-  pub room : recordWidth * cap ≤ length work
+  pub room : C .width * cap ≤ length work
+
+-- so many good cubes
+abbrev pub Ready : (n count cap : ℕ) (work : List ℕ) → Type 0
+Ready n count cap work = ReadyBy cubes (Good n) n count cap work
 
 -- what refusal 9 leaves of a step's record: a known operation, with "a used v" below n and "a used literal" at most 1
 pub record Known (n : ℕ) (x : StepRecord) : Type 0 where

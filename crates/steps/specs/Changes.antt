@@ -4,7 +4,7 @@ use mathlib.Core.Path.{_≡_}
 use mathlib.Core.Bool.{cond, _&&_}
 use mathlib.Core.List.{List}
 use Prim.Native.Nat.{ℕ, _+_, _*_, _/_, _%_, _^_, _<_}
-use lib.Bits.{bitXor}
+use lib.Bits.{bitAnd, bitXor}
 use lib.Dec.{eqb, ltb}
 use Rattle.records.specs.Records.{Codec}
 use Rattle.cube.specs.declared.Cube.{Cube}
@@ -73,6 +73,14 @@ wordOf c = c .seen + halfSize * c .value
 abbrev pub halves : ℕ → Cube
 halves x = record { seen = x % halfSize; value = x / halfSize }
 
+-- a cube with its masks exchanged
+abbrev pub crossed : Cube → Cube
+crossed c = record { seen = c .value; value = c .seen }
+
+-- each bit of x changed by the sum of itself and a, the bit of y and b, and c
+abbrev pub changed : ℕ → ℕ → ℕ → ℕ → ℕ → ℕ
+changed x a y b c = bitXor (bitXor (bitXor x (bitAnd x a)) (bitAnd y b)) c
+
 -- the order o at the variable v, as masks
 unfoldable pub masksAt : ℕ → ℕ → Masks
 masksAt v o = record {
@@ -86,3 +94,8 @@ masksAt v o = record {
   });
   always = wordOf (literalAfter v o 2);
 }
+
+-- a cube by masks: its two masks as one number, of which each bit is changed by the sum, modulo 2, of itself where `own` is set, the variable's other bit
+-- where `other` is, and 1 where `always` is
+unfoldable pub byMasks : Masks → Cube → Cube
+byMasks k c = halves (changed (wordOf c) (k .own) (wordOf (crossed c)) (k .other) (k .always))

@@ -4,7 +4,7 @@ use cube::Cube;
 use cube::list;
 ghost use mathlib.Core.Path.{_≡_};
 ghost use mathlib.Core.List.{map};
-ghost use Prim.Native.Nat.{ℕ, _<_};
+ghost use Prim.Native.Nat.{_<_};
 ghost use lib.ListN.{length};
 ghost use Rattle.bits.specs.Sums.{All};
 ghost use Rattle.records.specs.Records.{Held, records, image};
@@ -12,7 +12,7 @@ ghost use Rattle.cube.specs.Cubes.{Good, maskBits};
 ghost use Rattle.cube.specs.Lists.{cubes, mostVariables};
 ghost use Rattle.orders.specs.Orders.{orderCount};
 ghost use Rattle.steps.specs.Steps.{reordered};
-ghost use Rattle.steps.specs.Changes.{wordOf, halves, masksAt};
+ghost use Rattle.steps.specs.Changes.{wordOf, halves, masksAt, byMasks};
 
 // How many numbers a mask holds.
 const HALF: u64 = 4294967296;
@@ -36,14 +36,14 @@ fn of_word(x: u64) -> Cube
 
 // An order of the codes at one variable, as masks of such numbers. A bit of the variable is changed by the sum, modulo 2, of: itself where
 // `own` is set, the variable's other bit where `other` is, and 1 where `always` is.
-struct Masks {
+pub struct Masks {
     own: u64,
     other: u64,
     always: u64,
 }
 
 // The order o at the variable v, as masks: three codes, so that each new bit is such a sum.
-fn masks_at(v: u32, o: u8) -> Masks
+pub fn masks_at(v: u32, o: u8) -> Masks
     requires { ⌜ v < maskBits ⌝ }
     ensures { λ r. ⌜ r ≡ masksAt v o ⌝ }
 {
@@ -66,10 +66,9 @@ fn masks_at(v: u32, o: u8) -> Masks
     }
 }
 
-// A cube with its code moved.
-fn recoded(k: Masks, c: Cube) -> Cube
-    requires { ⌜ Good mostVariables c ⌝ }
-    ensures { λ r. ⌜ ((v o : ℕ) → v < mostVariables → k ≡ masksAt v o → r ≡ reordered v o c) ⌝ }
+// A cube with each bit of its masks changed so: with the masks of an order, its code moved.
+pub fn recoded(k: Masks, c: Cube) -> Cube
+    ensures { λ r. ⌜ r ≡ byMasks k c ⌝ }
 {
     let crossed = Cube {
         seen: c.value,

@@ -15,7 +15,7 @@ use Rattle.records.specs.declared.Counted.{Counted}
 use Rattle.records.specs.declared.Counted.the-variants as counted-is
 use Rattle.records.specs.declared.Refusal.{Refusal}
 use Rattle.records.proofs.Answers.{not-both, and-then, unless-passes, after-accepted}
-use Rattle.records.proofs.Filling.{filled-by, drop-zeros}
+use Rattle.records.proofs.Filling.{drop-zeros}
 use Rattle.records.proofs.Records.{length-list, capacity-fits, written-front}
 use Rattle.records.proofs.Images.{length-flat}
 use Rattle.cube.specs.Lists.{cubes, cubesOf, cubeCapacity, recordWidth, mostRecords, vectorVariables, truthVector}
@@ -25,6 +25,7 @@ use Rattle.polarity.specs.Calls.{coefficientsOutcome, coefficientsAfter, formOu
 use Rattle.polarity.specs.Forms.{formList, parityWithin, coefficient, formFrom}
 use Rattle.polarity.specs.Vectors.{byteAt, Vector, coefficientVector}
 use Rattle.polarity.proofs.Forms.{form-cong}
+use Rattle.script.proofs.Filled.{filled-image-by}
 use Rattle.settling.specs.Choice.{listFrom, Named, ListFits, Burnable, BurnedIs}
 use Rattle.settling.specs.declared.BestForm.{BestForm}
 use Rattle.settling.specs.declared.Origin.{Origin}
@@ -33,12 +34,12 @@ use Rattle.settling.proofs.Forming.{truth-vector-is, power-is, bits-vec
 
 pub list-burned : (list out : List ℕ) → length list % recordWidth ≡ 0 → length (cubesOf list) ≤ cubeCapacity (length out) → ((i : ℕ) → getD list i 0 < 256)
     → (out′ : List ℕ) → out′ ≡ filledBy out list → BurnedIs (cubesOf list) out out′ (length list / recordWidth)
-unfolding listOf image
+unfolding listOf
 list-burned list out whole room small out′ e =
     let fits : length list ≤ length out = omega (arith, whole, length-list cubes list, room, capacity-fits cubes mostRecords (length out)) in
     record {
       answer = sym (length-list cubes list);
-      buffer = e ∙ filled-by out list fits ∙ ap (filled (length out)) (sym (cubes-bytes (length list / recordWidth) list (omega (arith, whole)) small));
+      buffer = filled-image-by cubes lawful (length list / recordWidth) list out (cubes-bytes (length list / recordWidth) list (omega (arith, whole)) small) fits out′ e;
     }
 
 -- ---- the vector at the front of a buffer

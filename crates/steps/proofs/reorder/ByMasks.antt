@@ -20,7 +20,7 @@ use Rattle.cube.proofs.Codes.{code-lt, good-seen, good-value, with-put}
 use Rattle.orders.specs.Orders.{codeAfter}
 use Rattle.steps.specs.declared.reorder.Masks.{Masks}
 use Rattle.steps.specs.Steps.{reordered}
-use Rattle.steps.specs.Changes.{literalAfter, halfSize, wordOf, halves, masksAt}
+use Rattle.steps.specs.Changes.{literalAfter, halfSize, wordOf, halves, changed, masksAt, byMasks}
 
 -- ---- one bit
 
@@ -61,10 +61,6 @@ module _ (s w x y z : ℕ) (hs : s < 2) (l : w ≤ s) (hx : x < 2) (hy : y < 2) 
       (eqb-true _ _ (both .0), eqb-true _ _ (both .1))
 
 -- ---- numbers by masks
-
--- each bit of x changed by the sum of itself and a, the bit of y and b, and c
-abbrev changed : ℕ → ℕ → ℕ → ℕ → ℕ → ℕ
-changed x a y b c = bitXor (bitXor (bitXor x (bitAnd x a)) (bitAnd y b)) c
 
 -- what goes through `&` and `^` goes through that
 changed-through : (h : ℕ → ℕ) → ((a b : ℕ) → h (bitAnd a b) ≡ bitAnd (h a) (h b)) → ((a b : ℕ) → h (bitXor a b) ≡ bitXor (h a) (h b))
@@ -129,10 +125,6 @@ module _ (low high : ℕ) (h : low < halfSize) where
   pair-high = omega arith
 
 -- ---- a cube by masks
-
--- a cube by masks: its two masks as one number, with each bit changed
-unfoldable pub byMasks : Masks → Cube → Cube
-byMasks k c = halves (changed (pair (c .seen) (c .value)) (k .own) (pair (c .value) (c .seen)) (k .other) (k .always))
 
 -- one mask s, with the other w: f has a bit for each code, and i the masks of them
 module _ (v : ℕ) (l : v < mostVariables) (f : ℕ → ℕ) (f-lt : (x : ℕ) → f x < 2) (i : ℕ → ℕ) (flags : (x : ℕ) → i x ≡ flag v (f x)) (j k : ℕ) where

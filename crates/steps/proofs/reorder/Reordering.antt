@@ -3,7 +3,7 @@
 use mathlib.Core.Path.{_≡_, refl, sym, ap, ap₂, _∙_, subst}
 use mathlib.Core.List.{List, [], _∷_, map}
 use Prim.Native.Nat.{ℕ, zero, suc, _+_, _/_, _≤_, _<_, min, zero-le}
-use native.Mathlib.Nat.{not-suc-le-zero, le-of-suc-le-suc}
+use native.Mathlib.Nat.{not-suc-le-zero, le-of-suc-le-suc, min-eq-left}
 use native.Mathlib.Numerals.{add-one}
 use native.Mathlib.Omega.{arith}
 use lib.ListN.{length, getD, set}
@@ -16,7 +16,9 @@ use Rattle.cube.specs.Lists.{cubes, cubesOf, recordWidth, mostVariables}
 use Rattle.cube.proofs.Lists.{lawful, good-at}
 use Rattle.steps.specs.declared.reorder.Masks.{Masks}
 use Rattle.steps.specs.Steps.{reordered}
-use Rattle.steps.specs.Changes.{masksAt}
+use Rattle.steps.specs.Changes.{masksAt, byMasks}
+use Rattle.steps.proofs.perform.Placing.{held-room}
+use Rattle.steps.proofs.reorder.ByMasks.{recoded-is}
 
 module _ {A : Type 0} (f : A → A) where
   -- the first k changed
@@ -90,9 +92,9 @@ module _ {A : Type 0} (C : Codec A) (K : Lawful C) (f : A → A) (n : ℕ) (d : 
         r .holds
         ∙ ap₂ (image C) (r .long) (ap (λ (m : ℕ). mapTo f m (records C n d)) whole ∙ map-all f (records C n d))
 
--- a buffer that holds so many cubes has room for them
-pub whole-count : (n : ℕ) (d : List ℕ) → Held cubes n d → (e : ℕ) → e ≡ min n (length d / recordWidth) → e ≡ n
-whole-count n d h e q = omega (arith, q, held-fits cubes lawful n d h)
+-- a buffer that holds so many records has room for them
+pub whole-count : {A : Type 0} (C : Codec A) → Lawful C → (n : ℕ) (d : List ℕ) → Held C n d → (e : ℕ) → e ≡ min n (length d / C .width) → e ≡ n
+whole-count C K n d h e q = q ∙ min-eq-left (held-room C K n d h)
 
 -- the pass that moves every cube's code at v by the order o
 module _ (n v o : ℕ) (d b : List ℕ) (i : ℕ) (r : Mapped cubes (reordered v o) n d b i) (all : All (Good mostVariables) (records cubes n d)) (h : i < n)
@@ -100,9 +102,8 @@ module _ (n v o : ℕ) (d b : List ℕ) (i : ℕ) (r : Mapped cubes (reordered v
   next-is : c ≡ getD (records cubes n d) i one
   next-is = mapped-next cubes lawful (reordered v o) n d b i r h c e
 
-  pub reorder-good : Good mostVariables c
-  reorder-good = subst (Good mostVariables) (sym next-is) (good-at mostVariables (records cubes n d) all i)
-
-  pub reorder-more : v < mostVariables → (k : Masks) → k ≡ masksAt v o → (x : Cube) → ((v o : ℕ) → v < mostVariables → k ≡ masksAt v o → x ≡ reordered v o c)
+  pub reorder-more : v < mostVariables → (k : Masks) → k ≡ masksAt v o → (x : Cube) → x ≡ byMasks k c
       → (b₁ : List ℕ) → b₁ ≡ stored cubes b i x → Mapped cubes (reordered v o) n d b₁ (i + 1)
-  reorder-more hv k ek x ex b₁ e₁ = mapped-more cubes lawful (reordered v o) n d b i r h x (ex v o hv ek ∙ ap (reordered v o) next-is) b₁ e₁
+  reorder-more hv k ek x ex b₁ e₁ =
+      let good : Good mostVariables c = subst (Good mostVariables) (sym next-is) (good-at mostVariables (records cubes n d) all i) in
+      mapped-more cubes lawful (reordered v o) n d b i r h x (ex ∙ recoded-is k c good v o hv ek ∙ ap (reordered v o) next-is) b₁ e₁

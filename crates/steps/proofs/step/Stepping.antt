@@ -2,14 +2,13 @@
 -- Assumes nothing.
 use mathlib.Core.Path.{_≡_, sym, ap, _∙_, subst}
 use mathlib.Core.List.{List, map}
-use Prim.Native.Nat.{ℕ, _*_, _/_, _≤_, _<_}
+use Prim.Native.Nat.{ℕ, _/_, _≤_, _<_, max}
 use native.Mathlib.Nat.{lt-of-lt-of-le}
 use native.Mathlib.Omega.{arith}
 use lib.ListN.{length, getD, length-map}
 use Rattle.bits.specs.Sums.{All}
-use Rattle.records.specs.Records.{Holds, records, image}
-use Rattle.records.proofs.Images.{length-image}
-use Rattle.records.proofs.Records.{length-records, held-fits, holds-held, holds-records, image-holds}
+use Rattle.records.specs.Records.{records, image}
+use Rattle.records.proofs.Records.{length-records}
 use Rattle.cube.specs.declared.Cube.{Cube}
 use Rattle.cube.specs.Cubes.{code, put, one, Good}
 use Rattle.cube.specs.Lists.{cubes, recordWidth, mostVariables}
@@ -29,6 +28,7 @@ use Rattle.steps.proofs.Balanced.{placed-more}
 use Rattle.steps.proofs.Decisions.{Sound}
 use Rattle.steps.proofs.Inversion.{split-accepted}
 use Rattle.steps.proofs.Kept.{step-count, step-kept}
+use Rattle.steps.proofs.Onward.{Stepwise, onward-records, onward-long, onward-ready}
 use Rattle.steps.proofs.Making.{means, means-fits, decision-made, decision-sound}
 
 -- ---- L
@@ -100,35 +100,27 @@ step-fits n cap room (split v i) l m h k e = omega (arith, step-count n cap (spl
 step-fits n cap room (turn v i j) l m h k e = omega (arith, step-count n cap (turn v i j) l m e)
 step-fits n cap room (L v b) l m h k e = omega (arith, step-count n cap (L v b) l m e)
 
+-- cubes step by step
+pub cubes-stepwise : (n cap : ℕ) → Stepwise cubes (step n cap) (Good n) (Allowed n) cap
+cubes-stepwise n cap = record {
+  lawful = lawful;
+  good = λ x l m fits g e. step-kept n cap l m g x fits e .good;
+  most = λ x l m e. step-fits n cap (max cap (length l)) x l m (omega arith) (omega arith) e;
+}
+
 -- after an accepted step
 module _ (n count cap : ℕ) (b b′ : List ℕ) (x : Step) (m : List Cube) (ready : Ready n count cap b)
     (e : step n cap x (records cubes count b) ≡ next m) (e′ : b′ ≡ workStepped b (step n cap x (records cubes count b))) where
-  step-room : recordWidth * length m ≤ length b
-  step-room =
-      let h : length m ≤ length b / recordWidth =
-      step-fits n cap (length b / recordWidth) x (records cubes count b) m
-      (omega (arith, length-records cubes count b, held-fits cubes lawful count b (ready .held))) (omega (arith, ready .room)) e in
-      omega arith
-
   step-image : b′ ≡ image cubes (length b) m
   step-image = e′ ∙ ap (workStepped b) e
 
-  step-holds : Holds cubes b′ m
-  step-holds = subst (λ (t : List ℕ). Holds cubes t m) (sym step-image) (image-holds cubes lawful (length b) m step-room)
-
   -- the records of the buffer are the next list
   pub step-records : records cubes (length m) b′ ≡ m
-  step-records = holds-records cubes lawful b′ m step-holds
+  step-records = onward-records cubes (step n cap) (Good n) (Allowed n) n cap (cubes-stepwise n cap) count b b′ x m ready e step-image
 
   pub step-long : length b′ ≡ length b
-  unfolding image
-  step-long = ap length step-image ∙ length-image (cubes .enc) recordWidth (lawful .len) (length b) m step-room
+  step-long = onward-long cubes (step n cap) (Good n) (Allowed n) n cap (cubes-stepwise n cap) count b b′ x m ready e step-image
 
   -- and it is ready for the next step
   pub ready-onward : Allowed n x → Ready n (length m) cap b′
-  ready-onward fits = record {
-    held = holds-held cubes lawful b′ m step-holds;
-    good = subst (All (Good n)) (sym step-records) (step-kept n cap (records cubes count b) m (ready .good) x fits e .good);
-    few = ready .few;
-    room = subst (λ (k : ℕ). recordWidth * cap ≤ k) (sym step-long) (ready .room);
-  }
+  ready-onward fits = onward-ready cubes (step n cap) (Good n) (Allowed n) n cap (cubes-stepwise n cap) count b b′ x m ready e step-image fits

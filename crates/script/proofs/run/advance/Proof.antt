@@ -1,6 +1,8 @@
 -- `run::advance` meets its contract.
 -- Assumes nothing.
 use borrow.Author.Needs.{needs}
+use Rattle.cube.specs.Lists.{cubes}
+use Rattle.steps.specs.Steps.{step}
 use Rattle.script.proofs.run.Advancing.{advance-refused, advance-done}
 use Rattle.script.proofs.run.advance.Statement.{statement}
 use Rattle.script.proofs.run.advance.Tie as tie
@@ -28,7 +30,7 @@ returns c =
     let c₅ = c .before .before .before .before .before in
     let c₉ = c₅ .before .before .before .before in
     let done = c₉ .do-step .ensures in
-    advance-refused _ _ _ (c₉ .before .before .before .args .at) _ _ _ (done .0) (done .1) _ (c₅ .why .given .1) _ (c .before .before .clear .ensures)
+    advance-refused cubes (step _ _) _ (c₉ .before .before .before .args .at) _ _ _ (done .0) (done .1) _ (c₅ .why .given .1) _ (c .before .before .clear .ensures)
 
 same-length-2 : tie.Need-same-length-2
 same-length-2 c = search needs
@@ -37,7 +39,7 @@ returns-2 : tie.Need-returns-2
 returns-2 c =
     let c₆ = c .before .before .before .before .before .before in
     let done = c₆ .do-step .ensures in
-    advance-done _ _ _ (c₆ .before .before .before .args .at) _ _ _ (done .0) (done .1) _ (c .before .before .count .given .1) _ (c .larger .ensures)
+    advance-done cubes (step _ _) _ (c₆ .before .before .before .args .at) _ _ _ (done .0) (done .1) _ (c .before .before .count .given .1) _ (c .larger .ensures)
 
 pub advance-spec : {M : Type 1} → statement M
 advance-spec =

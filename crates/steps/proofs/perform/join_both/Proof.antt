@@ -1,15 +1,17 @@
 -- `steps::perform::join_both` meets its contract.
 -- Assumes nothing.
 use borrow.Author.Needs.{needs}
+use Rattle.cube.specs.Lists.{cubes}
+use Rattle.cube.proofs.Lists.{lawful}
 use Rattle.steps.proofs.perform.Placing.{join-place, join-held, join-one, join-many, join-image}
 use Rattle.steps.proofs.perform.join_both.Statement.{statement}
 use Rattle.steps.proofs.perform.join_both.Tie as tie
 
 put-record-requires : tie.Need-put-record-requires
-put-record-requires c κs = search join-place
+put-record-requires c κs = search (join-place cubes lawful)
 
 remove-requires : tie.Need-remove-requires
-remove-requires c κs = (search join-held, search needs)
+remove-requires c κs = (search (join-held cubes lawful), search needs)
 
 sub-result : tie.Need-sub-result
 sub-result c = search join-one
@@ -18,7 +20,7 @@ same-length : tie.Need-same-length
 same-length c = search needs
 
 returns : tie.Need-returns
-returns c = (search join-many, search join-image)
+returns c = (search (join-many cubes lawful), search (join-image cubes lawful))
 
 pub join-both-spec : {M : Type 1} → statement M
 join-both-spec = tie.close (tie.spec put-record-requires remove-requires sub-result same-length returns)

@@ -1,8 +1,7 @@
 -- `steps::reorder::recoded` meets its contract.
 -- Assumes nothing.
-use mathlib.Core.Path.{_∙_}
 use borrow.Author.Needs.{needs}
-use Rattle.steps.proofs.reorder.ByMasks.{recoded-is, recoded-made}
+use Rattle.steps.proofs.reorder.ByMasks.{recoded-made}
 use Rattle.steps.proofs.reorder.recoded.Statement.{statement}
 use Rattle.steps.proofs.reorder.recoded.Tie as tie
 
@@ -16,9 +15,9 @@ of-word-requires : tie.Need-of-word-requires
 of-word-requires c κs = search needs
 
 returns : tie.Need-returns
-returns c v o l e =
+returns c =
     let p = c .before .before .before .before in
-    recoded-made _ _ _ _ (p .before .word .ensures) (p .word2 .ensures) _ (c .of-word .ensures) ∙ recoded-is _ _ (search needs) v o l e
+    recoded-made _ _ _ _ (p .before .word .ensures) (p .word2 .ensures) _ (c .of-word .ensures)
 
 pub recoded-spec : {M : Type 1} → statement M
 recoded-spec = tie.close (tie.spec word-requires word-requires-2 of-word-requires returns)

@@ -6,7 +6,7 @@ use borrow.Author.Needs.{needs}
 use Rattle.cube.specs.Lists.{cubes}
 use Rattle.cube.proofs.Lists.{lawful}
 use Rattle.steps.specs.Steps.{reordered}
-use Rattle.steps.proofs.reorder.Reordering.{Mapped, mapped-none, mapped-end, whole-count, reorder-good, reorder-more}
+use Rattle.steps.proofs.reorder.Reordering.{Mapped, mapped-none, mapped-end, whole-count, reorder-more}
 use Rattle.steps.proofs.reorder.reorder.Statement.{statement}
 use Rattle.steps.proofs.reorder.reorder.Tie as tie
 
@@ -29,10 +29,7 @@ cube-at-requires : tie.Need-cube-at-requires Inv-loop μ-loop
 cube-at-requires c κs = search needs
 
 recoded-requires : tie.Need-recoded-requires Inv-loop μ-loop
-recoded-requires c κs =
-    let l = c .before .before .before .before in
-    let pre = l .before .before .before .before .pre in
-    reorder-good _ _ _ _ _ _ (l .loop .inv) (pre .1 .0) (omega (arith, whole-count _ _ (pre .0) _ (l .before .smaller .ensures))) _ (c .before .cube-at .ensures)
+recoded-requires c κs = search needs
 
 put-cube-requires : tie.Need-put-cube-requires Inv-loop μ-loop
 put-cube-requires c κs = search needs
@@ -47,7 +44,7 @@ loop-again : tie.Need-loop-again Inv-loop μ-loop
 loop-again c =
     let l = c .before .before .before .before .before .before .before .before in
     let pre = l .before .before .before .before .pre in
-    reorder-more _ _ _ _ _ _ (l .loop .inv) (pre .1 .0) (omega (arith, whole-count _ _ (pre .0) _ (l .before .smaller .ensures))) _
+    reorder-more _ _ _ _ _ _ (l .loop .inv) (pre .1 .0) (omega (arith, whole-count cubes lawful _ _ (pre .0) _ (l .before .smaller .ensures))) _
     (c .before .before .before .before .before .cube-at .ensures) (pre .1 .1 .0) _
     (l .before .before .masks-at .ensures) _
     (c .before .before .before .recoded .ensures) _ (c .before .before .put-cube .ensures)
@@ -58,7 +55,7 @@ same-length c = omega arith
 returns : tie.Need-returns Inv-loop μ-loop
 returns c =
     let l = c .before in
-    mapped-end cubes lawful _ _ _ _ _ (l .loop .inv) (omega (arith, whole-count _ _ (l .before .before .before .before .pre .0) _ (l .before .smaller .ensures)))
+    mapped-end cubes lawful _ _ _ _ _ (l .loop .inv) (omega (arith, whole-count cubes lawful _ _ (l .before .before .before .before .pre .0) _ (l .before .smaller .ensures)))
 
 pub reorder-spec : {M : Type 1} → statement M
 reorder-spec =
