@@ -9,4 +9,5 @@ pub mod PlainSteps
 pub mod Refusals
 pub mod Filled
 pub mod Outcomes
+pub mod Settled
 pub mod Determined

@@ -5,7 +5,7 @@ use mathlib.Core.List.{List, [], _∷_, _++_}
 use lib.Dec.{leb}
 use lib.ListN.{length}
 use Rattle.records.specs.Records.{image, zeros}
-use Rattle.records.specs.Answers.{Outcome, accepted, refused, unless, andThen}
+use Rattle.records.specs.Answers.{Outcome, accepted, refused, unless, andThen, afterCall}
 use Rattle.cube.specs.declared.Cube.{Cube}
 use Rattle.cube.specs.Lists.{mostVariables, cubes, cubesOf, cubeCapacity}
 use Rattle.cube.specs.Calls.{checkList}
@@ -41,8 +41,7 @@ settleOutcome n list script work out = andThen (checkSettle n list script work o
 
 -- "The work buffer ends all zero"; "A refusal found before the first step writes nothing"
 abbrev pub settleWorkBy : Outcome → List ℕ → List ℕ
-settleWorkBy (accepted values) work = zeros (length work)
-settleWorkBy (refused r) work = work
+settleWorkBy o work = afterCall o (zeros (length work)) work
 
 unfoldable pub settleWork : ℕ → List ℕ → List ℕ → List ℕ → ℕ → List ℕ
 settleWork n list script work out = settleWorkBy (checkSettle n list script (length work) out) work
@@ -53,8 +52,7 @@ ranBurned n given (stopped why step) out = out
 ranBurned n given (ended result peak) out = image cubes (length out) (burnedList n result given)
 
 abbrev pub settleOutBy : Outcome → ℕ → List Cube → Ran Cube → List ℕ → List ℕ
-settleOutBy (accepted values) n given ran out = ranBurned n given ran out
-settleOutBy (refused r) n given ran out = out
+settleOutBy o n given ran out = afterCall o (ranBurned n given ran out) out
 
 unfoldable pub settleOut : ℕ → List ℕ → List ℕ → ℕ → List ℕ → List ℕ
 settleOut n list script work out =
