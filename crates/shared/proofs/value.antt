@@ -1,0 +1,2 @@
+-- What the proofs of `value` use.
+mod Wording

@@ -1,0 +1,3 @@
+pub mod SharedRecord
+pub mod Outputs
+pub mod Calls

@@ -1,0 +1,7 @@
+pub mod SharedScripts
+pub mod Pending
+pub mod Value
+pub mod Counts
+pub mod Refusals
+pub mod Outcomes
+pub mod Determined

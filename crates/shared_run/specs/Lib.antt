@@ -1,0 +1,3 @@
+pub mod SharedScripts
+pub mod SharedRun
+pub mod Calls

@@ -1,0 +1,2 @@
+-- What the proof of `reorder` uses.
+pub mod Reordering

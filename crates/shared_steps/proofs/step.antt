@@ -1,0 +1,2 @@
+-- What the proofs of `step` use.
+pub mod Stepping

@@ -1,0 +1,4 @@
+pub mod SharedSteps
+pub mod Effects
+pub mod Calls
+pub mod Changes
