@@ -82,6 +82,15 @@ module _ {A : Type 0} (w : A → Bool) (d : A) (l : List A) (i : ℕ) where
   unfolding tally
   tally-end h = rw (drop-of-length-le l {i = i} h)
 
+  -- and one that adds a weight modulo 2
+  pub sum-on : i < length l → sum w (drop i l) ≡ w (getD l i d) ⊕ sum w (drop (i + 1) l)
+  unfolding sum
+  sum-on h = rw (add-one i, drop-cons l i d h)
+
+  pub sum-end : length l ≤ i → sum w (drop i l) ≡ false
+  unfolding sum
+  sum-end h = rw (drop-of-length-le l {i = i} h)
+
 -- ---- what holds of every element
 
 module _ {A : Type 0} (P : A → Type 0) where

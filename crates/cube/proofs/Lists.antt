@@ -4,14 +4,13 @@ use mathlib.Core.Path.{_≡_, sym, ap, _∙_, subst}
 use mathlib.Core.Bool.{Bool, true}
 use mathlib.Core.List.{List, [], _∷_}
 use Prim.Native.Nat.{ℕ, _/_, _%_, _^_, _≤_, _<_}
-use native.Mathlib.Nat.{min-eq-left, min-eq-right, le-of-lt}
 use lib.Bits.{bitAnd}
 use lib.Dec.{eqb, leb}
 use lib.ListN.{length, getD}
 use borrow.Author.Tests.{le-leb, lt-leb, leb-true}
 use Rattle.bits.specs.Sums.{All}
 use Rattle.bits.proofs.Sums.{all-get-or, all-each}
-use Rattle.records.specs.Records.{Codec, flat, listOf, capacityOf}
+use Rattle.records.specs.Records.{Codec, flat, listOf}
 use Rattle.records.specs.declared.Refusal.{Refusal}
 use Rattle.records.specs.Answers.{accepted, refused, refusal}
 use Rattle.records.proofs.Records.{list-flat}
@@ -19,22 +18,12 @@ use Rattle.records.proofs.Answers.{accepted-values, unless-passes, unless-fails
 use Rattle.records.proofs.Checks.{checked, records-accepted, accepted-records}
 use Rattle.cube.specs.declared.Cube.{Cube}
 use Rattle.cube.specs.Cubes.{one, good, Good, holds}
-use Rattle.cube.specs.Lists.{cubes, cubesOf, recordWidth, mostRecords, cubeCapacity}
+use Rattle.cube.specs.Lists.{cubes, cubesOf, mostRecords}
 use Rattle.cube.specs.Calls.{checkListOf}
 use Rattle.cube.proofs.Codes.{good-parts, parts-good, good-more, one-good}
 use Rattle.cube.proofs.Masks.{holds-mask}
 use Rattle.cube.proofs.CubeRecord.{lawful}
 pub use Rattle.cube.proofs.CubeRecord.{lawful, cubes-bytes}
-
--- ---- capacity
-
-pub capacity-low : (n : ℕ) → n / recordWidth < mostRecords → n / recordWidth ≡ cubeCapacity n
-unfolding capacityOf
-capacity-low n h = sym (min-eq-left (le-of-lt h))
-
-pub capacity-high : (n : ℕ) → mostRecords ≤ n / recordWidth → mostRecords ≡ cubeCapacity n
-unfolding capacityOf
-capacity-high n h = sym (min-eq-right h)
 
 -- ---- the check of a list of any kind of record: the limit of its variables, and then its records
 

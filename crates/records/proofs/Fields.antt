@@ -37,6 +37,14 @@ fields-zero : (ws : List ℕ) → fieldBytes ws (zeros (length ws)) ≡ zeros (t
 fields-zero [] = refl
 fields-zero (w ∷ ws) = ap₂ _++_ (bytes-zero w) (fields-zero ws) ∙ replicate-append-replicate w (total ws) 0
 
+-- one field more
+pub fields-last : (ws xs : List ℕ) → length xs ≡ length ws → (w x : ℕ) → fieldBytes ws xs ++ bytesOf w x ≡ fieldBytes (ws ++ (w ∷ [])) (xs ++ (x ∷ []))
+fields-last [] [] e w x = sym (append-nil (bytesOf w x))
+fields-last [] (y ∷ xs) e w x = absurd (omega arith)
+fields-last (v ∷ ws) [] e w x = absurd (omega arith)
+fields-last (v ∷ ws) (y ∷ xs) e w x =
+    append-assoc (bytesOf v y) (fieldBytes ws xs) (bytesOf w x) ∙ ap (λ (s : List ℕ). bytesOf v y ++ s) (fields-last ws xs (omega arith) w x)
+
 -- the numbers whose bytes stand after a front
 fields-read : (ws xs : List ℕ) → positive ws ≡ true → length xs ≡ length ws → (a t : List ℕ) (base at : ℕ) → length a ≡ base + at
     → numbersAt ws (a ++ (fieldBytes ws xs ++ t)) base at ≡ xs

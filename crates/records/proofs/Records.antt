@@ -3,7 +3,7 @@
 use mathlib.Core.Path.{_≡_, refl, sym, ap, ap₂, _∙_, subst}
 use mathlib.Core.Bool.{Bool, true, false, cond}
 use Prim.Native.Nat.{ℕ, suc, _+_, _-_, _*_, _/_, _≤_, _<_}
-use native.Mathlib.Nat.{mul-suc, mul-comm, le-trans, mul-le-mul-left, le-div-iff-mul-le, div-mul-le-self, min-le-left, min-le-right, add-zero, add-suc, suc-add, mul-zero, mul-div-right, div-one}
+use native.Mathlib.Nat.{mul-suc, mul-comm, le-trans, mul-le-mul-left, le-div-iff-mul-le, div-mul-le-self, min-le-left, min-le-right, min-eq-left, min-eq-right, le-of-lt, add-zero, add-suc, suc-add, mul-zero, mul-div-right, div-one}
 use native.Mathlib.Omega.{arith}
 use mathlib.Core.List.{List, [], _∷_, _++_, append-assoc, append-nil}
 use lib.Dec.{ltb}
@@ -74,6 +74,14 @@ module _ {A : Type 0} (C : Codec A) where
   unfolding capacityOf
   capacity-fits limit n =
       le-trans (mul-le-mul-left (C .width) (min-le-left (n / C .width) limit)) (omega (arith, mul-comm (C .width) (n / C .width), div-mul-le-self n (C .width)))
+
+  pub capacity-low : (limit n : ℕ) → n / C .width < limit → n / C .width ≡ capacityOf C limit n
+  unfolding capacityOf
+  capacity-low limit n h = sym (min-eq-left (le-of-lt h))
+
+  pub capacity-high : (limit n : ℕ) → limit ≤ n / C .width → limit ≡ capacityOf C limit n
+  unfolding capacityOf
+  capacity-high limit n h = sym (min-eq-right h)
 
   pub capacity-most : (limit n : ℕ) → capacityOf C limit n ≤ limit
   unfolding capacityOf

@@ -1,17 +1,15 @@
--- Laws of lists of shared products: their capacity, and the check of a list by its tests.
+-- Laws of lists of shared products: the check of a list by its tests.
 -- Assumes nothing.
 use mathlib.Core.Path.{_≡_, sym, ap, _∙_, subst}
 use mathlib.Core.Bool.{Bool, true, not, _&&_}
 use mathlib.Core.List.{List, [], _∷_}
 use Prim.Native.Nat.{ℕ, _/_, _%_, _^_, _≤_, _<_}
-use native.Mathlib.Nat.{min-eq-left, min-eq-right, le-of-lt}
 use borrow.Author.Tests.{le-leb, lt-leb, leb-true}
 use lib.Dec.{leb, eqb}
 use lib.ListN.{length, getD}
 use Rattle.bits.specs.Bits.{within}
 use Rattle.bits.specs.Sums.{All}
 use Rattle.bits.proofs.Sums.{all-each}
-use Rattle.records.specs.Records.{capacityOf}
 use Rattle.records.specs.declared.Refusal.{Refusal}
 use Rattle.records.specs.Answers.{accepted, refused, refusal}
 use Rattle.records.proofs.Answers.{accepted-values, unless-passes, unless-fails, unless-accepted}
@@ -20,19 +18,9 @@ use Rattle.cube.specs.Cubes.{variablesBelow, maskBits}
 use Rattle.cube.specs.Lists.{mostVariables, mostRecords}
 use Rattle.cube.proofs.Codes.{good-within-below}
 use Rattle.shared.specs.declared.Shared.{Shared}
-use Rattle.shared.specs.SharedRecord.{sharedWidth, shares, sharesOf, sharedCapacity, fine, Fine}
+use Rattle.shared.specs.SharedRecord.{sharedWidth, shares, sharesOf, fine, Fine}
 use Rattle.shared.specs.Calls.{checkShared}
 use Rattle.shared.proofs.SharedRecord.{fine-parts, parts-fine}
-
--- ---- capacity
-
-pub capacity-low : (n : ℕ) → n / sharedWidth < mostRecords → n / sharedWidth ≡ sharedCapacity n
-unfolding capacityOf
-capacity-low n h = sym (min-eq-left (le-of-lt h))
-
-pub capacity-high : (n : ℕ) → mostRecords ≤ n / sharedWidth → mostRecords ≡ sharedCapacity n
-unfolding capacityOf
-capacity-high n h = sym (min-eq-right h)
 
 -- ---- a record
 

@@ -2,10 +2,9 @@
 -- Assumes nothing.
 use mathlib.Core.Path.{_≡_, refl, sym, ap, _∙_}
 use mathlib.Core.Bool.{true, not}
-use mathlib.Core.List.{List, [], _∷_, _++_, append-assoc, append-nil}
+use mathlib.Core.List.{List, [], _∷_}
 use Prim.Native.Nat.{ℕ, _-_, _+_, _*_, _/_, _<_}
 use native.Mathlib.Nat.{zero-add}
-use native.Mathlib.Omega.{arith}
 use borrow.Author.Tests.{eqb-false, ne-eqb, not-true}
 use borrow.Rule.Slice.PartMut.{putMid}
 use lib.Dec.{lit<}
@@ -13,9 +12,8 @@ use lib.ListN.{length, getD, take, drop}
 use lib.Seq.{sets}
 use Rattle.bits.proofs.Bools.{both-true, true-both}
 use Rattle.records.specs.Numbers.{bytesOf, numberAt}
-use Rattle.records.specs.Fields.{fieldBytes}
 use Rattle.records.specs.Records.{flat, records, stored}
-use Rattle.records.proofs.Fields.{Fields, fields-lawful, fields-bytes, fields-in}
+use Rattle.records.proofs.Fields.{Fields, fields-last, fields-lawful, fields-bytes, fields-in}
 use Rattle.records.proofs.Records.{Lawful, list-flat, stored-part}
 use Rattle.records.proofs.Widths.{sets-append}
 use Rattle.cube.specs.declared.Cube.{Cube}
@@ -57,14 +55,6 @@ shares-flat = list-flat shares shared-lawful
 -- the cube read, and the outputs after it
 pub outputs-read : (b : List ℕ) (c : Cube) (o : ℕ) → c ≡ cubes .read b 0 → o ≡ numberAt outputsWidth b recordWidth → record { cube = c; outputs = o } ≡ shares .read b 0
 outputs-read b c o ec eo = λ t. record { cube = ec t; outputs = eo t }
-
--- the bytes of one more field come last
-fields-last : (ws xs : List ℕ) → length xs ≡ length ws → (w x : ℕ) → fieldBytes ws xs ++ bytesOf w x ≡ fieldBytes (ws ++ (w ∷ [])) (xs ++ (x ∷ []))
-fields-last [] [] e w x = sym (append-nil (bytesOf w x))
-fields-last [] (y ∷ xs) e w x = absurd (omega arith)
-fields-last (v ∷ ws) [] e w x = absurd (omega arith)
-fields-last (v ∷ ws) (y ∷ xs) e w x =
-    append-assoc (bytesOf v y) (fieldBytes ws xs) (bytesOf w x) ∙ ap (λ (s : List ℕ). bytesOf v y ++ s) (fields-last ws xs (omega arith) w x)
 
 -- the cube stored, and the outputs after it
 pub outputs-stored : (r : Shared) (b b₁ b₂ : List ℕ) → b₁ ≡ sets b 0 (cubes .enc (r .cube)) → b₂ ≡ sets b₁ recordWidth (bytesOf outputsWidth (r .outputs))

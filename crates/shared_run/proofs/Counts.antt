@@ -5,7 +5,6 @@ use mathlib.Core.List.{List, [], _∷_}
 use Prim.Native.Nat.{ℕ, suc, _+_, _*_, _≤_, max}
 use native.Mathlib.Omega.{arith}
 use lib.ListN.{length, getD}
-use Rattle.steps.specs.Moves.{next}
 use Rattle.steps.specs.Steps.{isSplit, isJoin, isDrop}
 use Rattle.script.specs.Run.{ended, undoBy}
 use Rattle.script.specs.Counts.{howMany, greatest}

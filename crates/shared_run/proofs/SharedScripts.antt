@@ -2,7 +2,7 @@
 -- Assumes nothing.
 use mathlib.Core.Path.{_≡_, refl, sym, ap, _∙_, subst}
 use mathlib.Core.Bool.{Bool, true, false, cond}
-use mathlib.Core.List.{List, [], _∷_, map}
+use mathlib.Core.List.{List, [], _∷_}
 use Prim.Native.Nat.{ℕ, _/_, _≤_}
 use native.Mathlib.Omega.{arith}
 use borrow.Author.Tests.{eqb-true, leb-true, eq-eqb, ne-eqb}
@@ -19,7 +19,7 @@ use Rattle.steps.specs.declared.StepRecord.{StepRecord}
 use Rattle.steps.specs.Steps.{meaning}
 use Rattle.script.specs.Scripts.{stepRecords, stepWidth, mostSteps, fits}
 use Rattle.script.proofs.Scripts.{fits-parts, meaning-fits}
-use Rattle.shared_steps.specs.SharedSteps.{SharedStep, plain, merge, SharedAllowed, mergeOperation, sharedMeaning}
+use Rattle.shared_steps.specs.SharedSteps.{plain, merge, SharedAllowed, mergeOperation, sharedMeaning}
 use Rattle.shared_steps.specs.Calls.{SharedKnown}
 use Rattle.shared_run.specs.SharedScripts.{mergeFits, sharedFits, checkSharedScript, sharedStepsOf}
 

@@ -2,10 +2,10 @@
 -- sum of every fair weight, as the laws of any kind of step have it.
 -- Assumes nothing.
 use mathlib.Core.Path.{_≡_, sym, ap, _∙_}
-use mathlib.Core.Bool.{Bool, _&&_}
+use mathlib.Core.Bool.{_&&_}
 use mathlib.Core.List.{List}
 use Prim.Native.Nat.{ℕ}
-use Rattle.bits.specs.Sums.{oneIf, sum, All}
+use Rattle.bits.specs.Sums.{oneIf, All}
 use Rattle.cube.specs.Cubes.{holds}
 use Rattle.script.specs.Run.{ended}
 use Rattle.script.proofs.Runs.{KeptBy, Keeping, run-by-kept}

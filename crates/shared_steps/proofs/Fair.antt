@@ -1,29 +1,23 @@
 -- Fair weights of shared products are linear in the cube and add up over the EXOR of outputs; the truth of a product at an output is fair.
 -- Assumes nothing.
-use mathlib.Core.Path.{_≡_, refl, sym, ap, _∙_}
-use mathlib.Core.Bool.{Bool, _&&_, Bool·beq}
-use Prim.Native.Nat.{ℕ, zero, suc, _<_, zero-le}
+use mathlib.Core.Path.{_≡_, sym, ap, _∙_}
+use mathlib.Core.Bool.{Bool, _&&_}
+use Prim.Native.Nat.{ℕ, zero, suc, zero-le}
 use native.Mathlib.Omega.{arith}
 use lib.Bits.{bitXor, differ}
-use lib.Dec.{eqb}
 use Rattle.bits.specs.Bits.{bit}
 use Rattle.bits.specs.Sums.{_⊕_}
-use Rattle.bits.proofs.Bools.{beq-eq, all-at₂, xor-and, and-xor}
-use Rattle.bits.proofs.Bits.{bit-lt, bit-high, bit-xor, bit-ext}
+use Rattle.bits.proofs.Bools.{xor-and, and-xor}
+use Rattle.bits.proofs.Bits.{bit-high, bit-xor, bit-ext}
 use Rattle.cube.specs.declared.Cube.{Cube}
 use Rattle.cube.specs.Cubes.{holds}
 use Rattle.steps.proofs.Linear.{Linear, holds-linear}
 use Rattle.shared.specs.declared.Shared.{Shared}
 use Rattle.shared.specs.SharedRecord.{sharing}
 use Rattle.shared.specs.Outputs.{carries}
+use Rattle.shared.proofs.Outputs.{carries-xor}
 
 -- ---- the EXOR of outputs, bit by bit
-
-differ-one : (x y : ℕ) → x < 2 → y < 2 → eqb (differ x y) 1 ≡ eqb x 1 ⊕ eqb y 1
-differ-one x y hx hy = beq-eq _ _ (all-at₂ 2 2 (λ x y. Bool·beq (eqb (differ x y) 1) (eqb x 1 ⊕ eqb y 1)) refl x y hx hy)
-
-carries-xor : (k o p : ℕ) (c : Cube) → carries k (sharing (bitXor o p) c) ≡ carries k (sharing o c) ⊕ carries k (sharing p c)
-carries-xor k o p c = ap (λ (x : ℕ). eqb x 1) (bit-xor o p k) ∙ differ-one (bit o k) (bit p k) (bit-lt o k) (bit-lt p k)
 
 differ-none : (x y : ℕ) → differ x y ≡ 0 → x ≡ y
 differ-none zero y e = sym e
@@ -46,5 +40,5 @@ carries-fair n k a = record {
   linear = λ o c g v y hv hy d.
       ap (λ (x : Bool). carries k (sharing o c) && x) (holds-linear n a c g v y hv hy d) ∙ and-xor (carries k (sharing o c)) (holds n c a) _;
   adds = λ c o p.
-      ap (λ (x : Bool). x && holds n c a) (carries-xor k o p c) ∙ xor-and (carries k (sharing o c)) (carries k (sharing p c)) (holds n c a);
+      ap (λ (x : Bool). x && holds n c a) (carries-xor o p k) ∙ xor-and (carries k (sharing o c)) (carries k (sharing p c)) (holds n c a);
 }

@@ -12,7 +12,7 @@ ghost use Rattle.records.specs.Places.{removeAt};
 ghost use Rattle.records.specs.Records.{Held, records, image};
 ghost use Rattle.steps.specs.Moves.{dropAt, joinAt, applied};
 ghost use Rattle.steps.specs.Effects.{TwoPlaces};
-ghost use Rattle.steps.specs.Changes.{moveOf, Placed};
+ghost use Rattle.steps.specs.Changes.{Placed};
 ghost use Rattle.shared.specs.SharedRecord.{noShared, shares, sharedWidth};
 ghost use Rattle.shared_steps.specs.Changes.{carriedMove, SharedDone};
 

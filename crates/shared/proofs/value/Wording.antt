@@ -4,35 +4,22 @@ use mathlib.Core.Path.{_≡_, refl, sym, ap, _∙_, subst}
 use mathlib.Core.Bool.{Bool, true, false, _&&_}
 use mathlib.Core.List.{List}
 use Prim.Native.Nat.{ℕ, _+_, _/_, _^_, _≤_, _<_, zero-le}
-use native.Mathlib.Numerals.{add-one}
 use native.Mathlib.Omega.{arith}
 use borrow.Author.Tests.{eqb-true}
 use lib.Bits.{bitXor, xor-lt}
 use lib.Dec.{eqb, lit<}
-use lib.ListN.{length, getD, drop, drop-of-length-le}
-use lib.Seq.{drop-cons}
+use lib.ListN.{length, getD, drop}
 use Rattle.bits.specs.Bits.{bit}
 use Rattle.bits.specs.Sums.{_⊕_, oneIf, sum, All}
 use Rattle.bits.proofs.Bools.{xor-assoc, xor-false, and-true, all-at}
 use Rattle.bits.proofs.Bits.{bit-lt, bit-high, bit-ext-below}
-use Rattle.bits.proofs.Sums.{all-get}
+use Rattle.bits.proofs.Sums.{sum-on, sum-end, all-get}
 use Rattle.records.proofs.Records.{length-list}
 use Rattle.cube.specs.Cubes.{holds, HoldsAt}
 use Rattle.shared.specs.declared.Shared.{Shared}
 use Rattle.shared.specs.SharedRecord.{noShared, shares, sharesOf, sharedWidth, Fine}
 use Rattle.shared.specs.Outputs.{carries, outputCount, valueWord}
 use Rattle.shared.proofs.Outputs.{output-sum, word-lt, word-bit, carries-xor}
-
--- ---- a sum from the front, of any weight: what is left from place i on
-
-module _ {A : Type 0} (w : A → Bool) (d : A) (l : List A) (i : ℕ) where
-  sum-on : i < length l → sum w (drop i l) ≡ w (getD l i d) ⊕ sum w (drop (i + 1) l)
-  unfolding sum
-  sum-on h = rw (add-one i, drop-cons l i d h)
-
-  sum-end : length l ≤ i → sum w (drop i l) ≡ false
-  unfolding sum
-  sum-end h = rw (drop-of-length-le l {i = i} h)
 
 -- ---- the loop
 

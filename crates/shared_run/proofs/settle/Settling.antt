@@ -11,7 +11,7 @@ use lib.Dec.{leb}
 use lib.ListN.{length, getD, take}
 use Rattle.records.specs.declared.Refusal.{Refusal}
 use Rattle.records.specs.Records.{listOf, image, filledBy, zeros}
-use Rattle.records.specs.Answers.{Outcome, accepted, refused, refusal, unless, andThen}
+use Rattle.records.specs.Answers.{Outcome, accepted, refused, refusal, unless}
 use Rattle.records.proofs.Answers.{unless-passes, unless-fails}
 use Rattle.records.proofs.Records.{length-list, capacity-fits, capacity-most}
 use Rattle.cube.specs.Lists.{mostRecords}
@@ -26,7 +26,7 @@ use Rattle.shared.specs.Calls.{checkShared}
 use Rattle.shared.proofs.SharedRecord.{shared-lawful, shared-bytes}
 use Rattle.shared.proofs.Lists.{shared-accepts, shared-count-is}
 use Rattle.shared_run.specs.SharedScripts.{checkSharedScript, sharedStepsOf}
-use Rattle.shared_run.specs.SharedRun.{sharedRun, sharedBurned}
+use Rattle.shared_run.specs.SharedRun.{sharedBurned}
 use Rattle.shared_run.specs.Calls.{checkSharedRun, sharedRunOf, sharedRunOutcome, sharedRunAfter, checkSharedSettle, ranShared, sharedSettleOutcome, sharedSettleWork, ranSharedOut, sharedSettleOut}
 use Rattle.shared_run.proofs.Counts.{shared-peak-capacity, shared-last}
 

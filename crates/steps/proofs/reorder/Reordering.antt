@@ -9,10 +9,10 @@ use native.Mathlib.Omega.{arith}
 use lib.ListN.{length, getD, set}
 use Rattle.bits.specs.Sums.{All}
 use Rattle.records.specs.Records.{Codec, stored, records, listOf, image, Holds, Held}
-use Rattle.records.proofs.Records.{Lawful, length-records, length-stored, list-at, held-fits, holds-load, holds-place, holds-store}
+use Rattle.records.proofs.Records.{Lawful, length-records, length-stored, list-at, holds-load, holds-place, holds-store}
 use Rattle.cube.specs.declared.Cube.{Cube}
 use Rattle.cube.specs.Cubes.{one, Good}
-use Rattle.cube.specs.Lists.{cubes, cubesOf, recordWidth, mostVariables}
+use Rattle.cube.specs.Lists.{cubes, cubesOf, mostVariables}
 use Rattle.cube.proofs.Lists.{lawful, good-at}
 use Rattle.steps.specs.declared.reorder.Masks.{Masks}
 use Rattle.steps.specs.Steps.{reordered}
