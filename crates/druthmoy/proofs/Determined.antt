@@ -43,6 +43,14 @@ use Rattle.druthmoy.proofs.dm_wide_from_narrow.Kinds as dm-wide-from-na
 use Rattle.druthmoy.proofs.dm_wide_from_narrow.Reads as dm-wide-from-narrow-reads
 use Rattle.druthmoy.proofs.dm_narrow_from_wide.Kinds as dm-narrow-from-wide-kinds
 use Rattle.druthmoy.proofs.dm_narrow_from_wide.Reads as dm-narrow-from-wide-reads
+use Rattle.druthmoy.proofs.dm_shared_check.Kinds as dm-shared-check-kinds
+use Rattle.druthmoy.proofs.dm_shared_check.Reads as dm-shared-check-reads
+use Rattle.druthmoy.proofs.dm_shared_value.Kinds as dm-shared-value-kinds
+use Rattle.druthmoy.proofs.dm_shared_value.Reads as dm-shared-value-reads
+use Rattle.druthmoy.proofs.dm_shared_run.Kinds as dm-shared-run-kinds
+use Rattle.druthmoy.proofs.dm_shared_run.Reads as dm-shared-run-reads
+use Rattle.druthmoy.proofs.dm_shared_settle.Kinds as dm-shared-settle-kinds
+use Rattle.druthmoy.proofs.dm_shared_settle.Reads as dm-shared-settle-reads
 
 pub dm-check-determined : Determined 2 dm-check-kinds.ps dm-check-kinds.r dm-check-reads.Learnt
 dm-check-determined κs a z z′ ws ws′ p q = (refl, ap (λ (w : List ℕ). (tt, (tt, (w, tt)))) (same p q))
@@ -120,3 +128,20 @@ dm-wide-from-narrow-determined κs a z z′ ws ws′ p q = (refl, ap₂ (λ (w b
 
 pub dm-narrow-from-wide-determined : Determined 3 dm-narrow-from-wide-kinds.ps dm-narrow-from-wide-kinds.r dm-narrow-from-wide-reads.Learnt
 dm-narrow-from-wide-determined κs a z z′ ws ws′ p q = (refl, ap₂ (λ (w b : List ℕ). (tt, (tt, (b, (w, tt))))) (same (p .0) (q .0)) (same (p .1) (q .1)))
+
+pub dm-shared-check-determined : Determined 2 dm-shared-check-kinds.ps dm-shared-check-kinds.r dm-shared-check-reads.Learnt
+dm-shared-check-determined κs a z z′ ws ws′ p q = (refl, ap (λ (w : List ℕ). (tt, (tt, (w, tt)))) (same p q))
+
+pub dm-shared-value-determined : Determined 2 dm-shared-value-kinds.ps dm-shared-value-kinds.r dm-shared-value-reads.Learnt
+dm-shared-value-determined κs a z z′ ws ws′ p q = (refl, ap (λ (w : List ℕ). (tt, (tt, (tt, (w, tt))))) (same p q))
+
+pub dm-shared-run-determined : Determined 4 dm-shared-run-kinds.ps dm-shared-run-kinds.r dm-shared-run-reads.Learnt
+dm-shared-run-determined κs a z z′ ws ws′ p q = (refl, ap₂ (λ (w b : List ℕ). (tt, (tt, (tt, (b, (w, tt)))))) (same (p .0) (q .0)) (same (p .1) (q .1)))
+
+pub dm-shared-settle-determined : Determined 5 dm-shared-settle-kinds.ps dm-shared-settle-kinds.r dm-shared-settle-reads.Learnt
+dm-shared-settle-determined κs a z z′ ws ws′ p q = (
+  refl,
+  ap₂ (λ (w : List ℕ) (bs : List ℕ × List ℕ). (tt, (tt, (tt, (bs .0, (bs .1, (w, tt)))))))
+      (same (p .0) (q .0))
+      (ap₂ (λ (b d : List ℕ). (b, d)) (same (p .1 .0) (q .1 .0)) (same (p .1 .1) (q .1 .1))),
+)

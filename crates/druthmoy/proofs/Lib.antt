@@ -1,2 +1,2 @@
-pub mod Words
+pub mod Starts
 pub mod Determined

@@ -1,6 +1,4 @@
 // The calls for C and Rust: a slice passes as a pointer and a length, and every answer is eight words.
-mod answers;
-
 use index::GROUPS;
 ghost use mathlib.Core.Path.{_≡_};
 ghost use lib.ListN.{length, getD};
@@ -19,6 +17,8 @@ ghost use Rattle.indexed.specs.Calls.{begun, indexedOutcome, indexedStarts, ind
 ghost use Rattle.writer.specs.Calls.{writeOutcome, writeWork, writeSteps};
 ghost use Rattle.compactor.specs.Calls.{compactOutcome, compactAfter};
 ghost use Rattle.settling.specs.Calls.{settleOutcome, settleWork, settleOut};
+ghost use Rattle.shared.specs.Calls.{checkShared, wordOutcome};
+ghost use Rattle.shared_run.specs.Calls.{sharedRunOutcome, sharedRunAfter, sharedSettleOutcome, sharedSettleWork, sharedSettleOut};
 ghost use Rattle.druthmoy.specs.Faces.{words, settledWords, withStart, startsIf};
 
 // Checking a list. Values: its count.
@@ -27,7 +27,7 @@ pub extern "C" fn dm_check(n: u64, list: &[u8], answer: &mut [u64; 8])
     ensures { λ _. ⌜ now (answer .exit) ≡ words (checkList mostVariables n (now (list .entry))) ⌝ }
 {
     let counted = cube::list::check(n as usize, list);
-    answers::put_counted(answer, counted);
+    words::put_counted(answer, counted);
 }
 
 // The value of a list at the assignment a. Values: the bit and the number of true products.
@@ -36,7 +36,7 @@ pub extern "C" fn dm_value(n: u64, list: &[u8], a: u64, answer: &mut [u64; 8])
     ensures { λ _. ⌜ now (answer .exit) ≡ words (valueOutcome n (now (list .entry)) a) ⌝ }
 {
     let valued = cube::value::value(n as usize, list, a);
-    answers::put_valued(answer, valued);
+    words::put_valued(answer, valued);
 }
 
 // The places of the products of a list that are true at the assignment a. Values: their number and the bit.
@@ -46,7 +46,7 @@ pub extern "C" fn dm_reasons(n: u64, list: &[u8], a: u64, out: &mut [u8], answer
     ensures { λ _. ⌜ now (out .exit) ≡ reasonsAfter n (now (list .entry)) a (now (out .entry)) ⌝ }
 {
     let reasoned = reasons::reasons(n as usize, list, a, out);
-    answers::put_reasoned(answer, reasoned);
+    words::put_reasoned(answer, reasoned);
 }
 
 // The truth vector of a list. Values: 2^n.
@@ -56,7 +56,7 @@ pub extern "C" fn dm_truth_vector(n: u64, list: &[u8], out: &mut [u8], answer: &
     ensures { λ _. ⌜ now (out .exit) ≡ vectorAfter n (now (list .entry)) (now (out .entry)) ⌝ }
 {
     let counted = cube::value::truth_vector(n as usize, list, out);
-    answers::put_counted(answer, counted);
+    words::put_counted(answer, counted);
 }
 
 // The coefficients of a truth vector under the polarity p. Values: 2^n.
@@ -72,7 +72,7 @@ pub extern "C" fn dm_coefficients(
     ensures { λ _. ⌜ now (out .exit) ≡ coefficientsAfter n (now (vector .entry)) p (now (out .entry)) ⌝ }
 {
     let counted = polarity::transform::coefficients(n as usize, vector, p, out);
-    answers::put_counted(answer, counted);
+    words::put_counted(answer, counted);
 }
 
 // The truth vector of coefficients under the polarity p. Values: 2^n.
@@ -88,7 +88,7 @@ pub extern "C" fn dm_vector(
     ensures { λ _. ⌜ now (out .exit) ≡ backAfter n (now (coefficients .entry)) p (now (out .entry)) ⌝ }
 {
     let counted = polarity::transform::vector_back(n as usize, coefficients, p, out);
-    answers::put_counted(answer, counted);
+    words::put_counted(answer, counted);
 }
 
 // The list of a form from its coefficients under the polarity p. Values: its count.
@@ -104,7 +104,7 @@ pub extern "C" fn dm_write_form(
     ensures { λ _. ⌜ now (out .exit) ≡ formAfter n (now (coefficients .entry)) p (now (out .entry)) ⌝ }
 {
     let counted = polarity::form::write_form(n as usize, coefficients, p, out);
-    answers::put_counted(answer, counted);
+    words::put_counted(answer, counted);
 }
 
 // The best polarity of a truth vector. Values: it and its size.
@@ -113,7 +113,7 @@ pub extern "C" fn dm_best_polarity(n: u64, vector: &[u8], answer: &mut [u64; 8])
     ensures { λ _. ⌜ now (answer .exit) ≡ words (bestOutcome n (now (vector .entry))) ⌝ }
 {
     let best = polarity::choose::best_polarity(n as usize, vector);
-    answers::put_best(answer, best);
+    words::put_best(answer, best);
 }
 
 // The list of a truth vector's cheapest tree. Values: its products and its cost.
@@ -123,7 +123,7 @@ pub extern "C" fn dm_write_tree(n: u64, vector: &[u8], out: &mut [u8], answer: &
     ensures { λ _. ⌜ now (out .exit) ≡ treeAfter n (now (vector .entry)) (now (out .entry)) ⌝ }
 {
     let listed = trees::tree::write_tree(n as usize, vector, out);
-    answers::put_listed(answer, listed);
+    words::put_listed(answer, listed);
 }
 
 // The list of a truth vector's cheapest choice of one expansion for each variable. Values: its cost, the choice and its products.
@@ -133,7 +133,7 @@ pub extern "C" fn dm_write_kronecker(n: u64, vector: &[u8], out: &mut [u8], answ
     ensures { λ _. ⌜ now (out .exit) ≡ kroneckerAfter n (now (vector .entry)) (now (out .entry)) ⌝ }
 {
     let listed = kronecker::choice::write_kronecker(n as usize, vector, out);
-    answers::put_kronecker_listed(answer, listed);
+    words::put_kronecker_listed(answer, listed);
 }
 
 // Runs a script on a list. Values: the count and the peak.
@@ -143,7 +143,7 @@ pub extern "C" fn dm_run(n: u64, list: &[u8], script: &[u8], work: &mut [u8], an
     ensures { λ _. ⌜ now (work .exit) ≡ runAfter n (now (list .entry)) (now (script .entry)) (now (work .entry)) ⌝ }
 {
     let finished = script::run::run(n as usize, list, script, work);
-    answers::put_finished(answer, finished);
+    words::put_finished(answer, finished);
 }
 
 // The index of a list by number of literals. Values: its count. The starts are written where it is accepted.
@@ -160,7 +160,7 @@ pub extern "C" fn dm_index(
     ensures { λ _. ⌜ now (starts .exit) ≡ afterCall (buildOutcome n (now (list .entry)) (length (now (index .entry)))) (listStarts (cubesOf (now (list .entry)))) (now (starts .entry)) ⌝ }
 {
     let indexed = index::build::build(n as usize, list, index);
-    answers::put_indexed(answer, starts, indexed);
+    words::put_indexed(answer, starts, indexed);
 }
 
 // The group of a number in a lent index. Values: how many entries its run has, and the entry that it begins at.
@@ -177,8 +177,8 @@ pub extern "C" fn dm_group(
 {
     let s = *starts;
     let counted = index::group::group_count(n as usize, list, index, s, number as usize);
-    let start = answers::start_at(s, number as usize);
-    answers::put_group(answer, counted, start);
+    let start = words::start_at(s, number as usize);
+    words::put_group(answer, counted, start);
 }
 
 // Runs a script on a list and keeps an index for the work list. Values: the count and the peak. The starts are written where the run came to the steps.
@@ -204,7 +204,7 @@ pub extern "C" fn dm_run_indexed(
     if begun {
         *starts = kept;
     }
-    answers::put_finished(answer, finished);
+    words::put_finished(answer, finished);
 }
 
 // Writes the easy script of a list. Values: the number of its steps, and 1 where no pair is left, else 0.
@@ -221,7 +221,7 @@ pub extern "C" fn dm_write_script(
     ensures { λ _. ⌜ now (script .exit) ≡ writeSteps n (now (list .entry)) (length (now (work .entry))) (now (script .entry)) ⌝ }
 {
     let wrote = writer::write::write_script(n as usize, list, work, script);
-    answers::put_wrote(answer, wrote);
+    words::put_wrote(answer, wrote);
 }
 
 // Compacts a script, for lists of so many products. Values: the number of steps left.
@@ -237,7 +237,7 @@ pub extern "C" fn dm_compact(
     ensures { λ _. ⌜ now (out .exit) ≡ compactAfter n count (now (script .entry)) (now (out .entry)) ⌝ }
 {
     let counted = compactor::compact::compact(n as usize, count as usize, script, out);
-    answers::put_counted(answer, counted);
+    words::put_counted(answer, counted);
 }
 
 // Settles a map. Values: given, peak, the script's count, the best polarity and its size (both all ones above 8 variables), burned.
@@ -255,7 +255,7 @@ pub extern "C" fn dm_settle(
     ensures { λ _. ⌜ now (out .exit) ≡ settleOut n (now (list .entry)) (now (script .entry)) (length (now (work .entry))) (now (out .entry)) ⌝ }
 {
     let settled = settling::settle::settle(n as usize, list, script, work, out);
-    answers::put_settled(answer, settled);
+    words::put_settled(answer, settled);
 }
 
 // Wide from narrow: an old list of 4-byte records as a list of 8-byte records. Values: its count.
@@ -265,7 +265,7 @@ pub extern "C" fn dm_wide_from_narrow(n: u64, list: &[u8], out: &mut [u8], answe
     ensures { λ _. ⌜ now (out .exit) ≡ wideAfter n (now (list .entry)) (now (out .entry)) ⌝ }
 {
     let counted = converters::wide_from_narrow::wide_from_narrow(n as usize, list, out);
-    answers::put_counted(answer, counted);
+    words::put_counted(answer, counted);
 }
 
 // Narrow from wide: a list of at most 16 variables as a list of 4-byte records. Values: its count.
@@ -275,5 +275,57 @@ pub extern "C" fn dm_narrow_from_wide(n: u64, list: &[u8], out: &mut [u8], answe
     ensures { λ _. ⌜ now (out .exit) ≡ narrowAfter n (now (list .entry)) (now (out .entry)) ⌝ }
 {
     let counted = converters::narrow_from_wide::narrow_from_wide(n as usize, list, out);
-    answers::put_counted(answer, counted);
+    words::put_counted(answer, counted);
+}
+
+// Checking a list of shared products. Values: its count.
+#[no_mangle]
+pub extern "C" fn dm_shared_check(n: u64, list: &[u8], answer: &mut [u64; 8])
+    ensures { λ _. ⌜ now (answer .exit) ≡ words (checkShared n (now (list .entry))) ⌝ }
+{
+    let counted = shared::list::check(n as usize, list);
+    words::put_counted(answer, counted);
+}
+
+// The values of all outputs of a list of shared products at the assignment a. Values: one word, bit k for output k.
+#[no_mangle]
+pub extern "C" fn dm_shared_value(n: u64, list: &[u8], a: u64, answer: &mut [u64; 8])
+    ensures { λ _. ⌜ now (answer .exit) ≡ words (wordOutcome n (now (list .entry)) a) ⌝ }
+{
+    let worded = shared::value::value(n as usize, list, a);
+    words::put_worded(answer, worded);
+}
+
+// Runs a script on a list of shared products. Values: the count and the peak.
+#[no_mangle]
+pub extern "C" fn dm_shared_run(
+    n: u64,
+    list: &[u8],
+    script: &[u8],
+    work: &mut [u8],
+    answer: &mut [u64; 8],
+)
+    ensures { λ _. ⌜ now (answer .exit) ≡ words (sharedRunOutcome n (now (list .entry)) (now (script .entry)) (length (now (work .entry)))) ⌝ }
+    ensures { λ _. ⌜ now (work .exit) ≡ sharedRunAfter n (now (list .entry)) (now (script .entry)) (now (work .entry)) ⌝ }
+{
+    let finished = shared_run::run::run(n as usize, list, script, work);
+    words::put_finished(answer, finished);
+}
+
+// Settles a list of shared products. Values: given, peak, the script's count, burned.
+#[no_mangle]
+pub extern "C" fn dm_shared_settle(
+    n: u64,
+    list: &[u8],
+    script: &[u8],
+    work: &mut [u8],
+    out: &mut [u8],
+    answer: &mut [u64; 8],
+)
+    ensures { λ _. ⌜ now (answer .exit) ≡ words (sharedSettleOutcome n (now (list .entry)) (now (script .entry)) (length (now (work .entry))) (length (now (out .entry)))) ⌝ }
+    ensures { λ _. ⌜ now (work .exit) ≡ sharedSettleWork n (now (list .entry)) (now (script .entry)) (now (work .entry)) (length (now (out .entry))) ⌝ }
+    ensures { λ _. ⌜ now (out .exit) ≡ sharedSettleOut n (now (list .entry)) (now (script .entry)) (length (now (work .entry))) (now (out .entry)) ⌝ }
+{
+    let settled = shared_run::settle::settle(n as usize, list, script, work, out);
+    words::put_shared_settled(answer, settled);
 }

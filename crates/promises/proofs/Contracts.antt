@@ -16,6 +16,8 @@ use Rattle.index.specs.Calls.{buildStarts}
 use Rattle.indexed.specs.Calls.{checkIndexed, indexedStarts, startsAfter, accepts, begun}
 use Rattle.writer.specs.Calls.{wrote}
 use Rattle.settling.specs.Calls.{settled}
+use Rattle.shared.specs.Calls.{worded}
+use Rattle.shared_run.specs.Calls.{sharedSettled}
 use Rattle.druthmoy.specs.Faces.{startsIf}
 use Rattle.cube.proofs.list.check.Kinds as check-kinds
 use Rattle.cube.proofs.list.check.Reads as check-reads
@@ -55,6 +57,14 @@ use Rattle.compactor.proofs.compact.compact.Kinds as compact-kinds
 use Rattle.compactor.proofs.compact.compact.Reads as compact-reads
 use Rattle.settling.proofs.settle.settle.Kinds as settle-kinds
 use Rattle.settling.proofs.settle.settle.Reads as settle-reads
+use Rattle.shared.proofs.list.check.Kinds as shared-check-kinds
+use Rattle.shared.proofs.list.check.Reads as shared-check-reads
+use Rattle.shared.proofs.value.value.Kinds as shared-value-kinds
+use Rattle.shared.proofs.value.value.Reads as shared-value-reads
+use Rattle.shared_run.proofs.run.run.Kinds as shared-run-kinds
+use Rattle.shared_run.proofs.run.run.Reads as shared-run-reads
+use Rattle.shared_run.proofs.settle.settle.Kinds as shared-settle-kinds
+use Rattle.shared_run.proofs.settle.settle.Reads as shared-settle-reads
 use Rattle.druthmoy.proofs.dm_check.Kinds as dm-check-kinds
 use Rattle.druthmoy.proofs.dm_check.Reads as dm-check-reads
 use Rattle.druthmoy.proofs.dm_value.Kinds as dm-value-kinds
@@ -93,7 +103,15 @@ use Rattle.druthmoy.proofs.dm_wide_from_narrow.Kinds as dm-wide-from-narrow-kin
 use Rattle.druthmoy.proofs.dm_wide_from_narrow.Reads as dm-wide-from-narrow-reads
 use Rattle.druthmoy.proofs.dm_narrow_from_wide.Kinds as dm-narrow-from-wide-kinds
 use Rattle.druthmoy.proofs.dm_narrow_from_wide.Reads as dm-narrow-from-wide-reads
-use Rattle.promises.specs.Calls.{Call, check, value, reasons, truthVector, coefficients, vectorBack, writeForm, bestPolarity, writeTree, writeKronecker, run, buildIndex, group, runIndexed, writeScript, compact, settle, wideFromNarrow, narrowFromWide, answers, leaves, wordsOf, Faced}
+use Rattle.druthmoy.proofs.dm_shared_check.Kinds as dm-shared-check-kinds
+use Rattle.druthmoy.proofs.dm_shared_check.Reads as dm-shared-check-reads
+use Rattle.druthmoy.proofs.dm_shared_value.Kinds as dm-shared-value-kinds
+use Rattle.druthmoy.proofs.dm_shared_value.Reads as dm-shared-value-reads
+use Rattle.druthmoy.proofs.dm_shared_run.Kinds as dm-shared-run-kinds
+use Rattle.druthmoy.proofs.dm_shared_run.Reads as dm-shared-run-reads
+use Rattle.druthmoy.proofs.dm_shared_settle.Kinds as dm-shared-settle-kinds
+use Rattle.druthmoy.proofs.dm_shared_settle.Reads as dm-shared-settle-reads
+use Rattle.promises.specs.Calls.{Call, check, value, reasons, truthVector, coefficients, vectorBack, writeForm, bestPolarity, writeTree, writeKronecker, run, buildIndex, group, runIndexed, writeScript, compact, settle, wideFromNarrow, narrowFromWide, sharedCheck, sharedValue, sharedRun, sharedSettle, answers, leaves, wordsOf, Faced}
 use Rattle.promises.specs.Contracts.{IsCalled, IsCalledBy, IsFaced}
 
 -- ---- from Rattle
@@ -225,6 +243,30 @@ pub narrow-from-wide-called : IsCalled 2 narrow-from-wide-kinds.ps narrow-from-w
 unfolding answers leaves
 narrow-from-wide-called κs a z ws p = record { answer = p .0; left = ap (λ (b : List ℕ). b ∷ []) (p .1) }
 
+pub shared-check-called : IsCalled 1 shared-check-kinds.ps shared-check-kinds.r shared-check-reads.Learnt
+    (λ κs a. sharedCheck (a .0) (a .1 .0 .now))
+    (λ κs a ws. []) (λ κs z. counted z)
+unfolding answers leaves
+shared-check-called κs a z ws p = record { answer = p; left = refl }
+
+pub shared-value-called : IsCalled 1 shared-value-kinds.ps shared-value-kinds.r shared-value-reads.Learnt
+    (λ κs a. sharedValue (a .0) (a .1 .0 .now) (a .1 .1 .0))
+    (λ κs a ws. []) (λ κs z. worded z)
+unfolding answers leaves
+shared-value-called κs a z ws p = record { answer = p; left = refl }
+
+pub shared-run-called : IsCalled 3 shared-run-kinds.ps shared-run-kinds.r shared-run-reads.Learnt
+    (λ κs a. sharedRun (a .0) (a .1 .0 .now) (a .1 .1 .0 .now) (a .1 .1 .1 .0 .now))
+    (λ κs a ws. ws .1 .1 .1 .0 ∷ []) (λ κs z. finished z)
+unfolding answers leaves
+shared-run-called κs a z ws p = record { answer = p .0; left = ap (λ (b : List ℕ). b ∷ []) (p .1) }
+
+pub shared-settle-called : IsCalled 4 shared-settle-kinds.ps shared-settle-kinds.r shared-settle-reads.Learnt
+    (λ κs a. sharedSettle (a .0) (a .1 .0 .now) (a .1 .1 .0 .now) (a .1 .1 .1 .0 .now) (a .1 .1 .1 .1 .0 .now))
+    (λ κs a ws. ws .1 .1 .1 .0 ∷ ws .1 .1 .1 .1 .0 ∷ []) (λ κs z. sharedSettled z)
+unfolding answers leaves
+shared-settle-called κs a z ws p = record { answer = p .0; left = ap₂ (λ (b d : List ℕ). b ∷ d ∷ []) (p .1 .0) (p .1 .1) }
+
 -- ---- from C and Rust
 
 -- what a face leaves is of the call's own outcome
@@ -344,3 +386,27 @@ pub dm-narrow-from-wide-faced : IsFaced 3 dm-narrow-from-wide-kinds.ps dm-narrow
     (λ κs a ws. ws .1 .1 .0 ∷ []) (λ κs a ws. ws .1 .1 .1 .0)
 unfolding answers leaves wordsOf
 dm-narrow-from-wide-faced κs a z ws p = faced _ _ _ (p .0) (ap (λ (b : List ℕ). b ∷ []) (p .1))
+
+pub dm-shared-check-faced : IsFaced 2 dm-shared-check-kinds.ps dm-shared-check-kinds.r dm-shared-check-reads.Learnt
+    (λ κs a. sharedCheck (a .0) (a .1 .0 .now))
+    (λ κs a ws. []) (λ κs a ws. ws .1 .1 .0)
+unfolding answers leaves wordsOf
+dm-shared-check-faced κs a z ws p = faced _ _ _ p refl
+
+pub dm-shared-value-faced : IsFaced 2 dm-shared-value-kinds.ps dm-shared-value-kinds.r dm-shared-value-reads.Learnt
+    (λ κs a. sharedValue (a .0) (a .1 .0 .now) (a .1 .1 .0))
+    (λ κs a ws. []) (λ κs a ws. ws .1 .1 .1 .0)
+unfolding answers leaves wordsOf
+dm-shared-value-faced κs a z ws p = faced _ _ _ p refl
+
+pub dm-shared-run-faced : IsFaced 4 dm-shared-run-kinds.ps dm-shared-run-kinds.r dm-shared-run-reads.Learnt
+    (λ κs a. sharedRun (a .0) (a .1 .0 .now) (a .1 .1 .0 .now) (a .1 .1 .1 .0 .now))
+    (λ κs a ws. ws .1 .1 .1 .0 ∷ []) (λ κs a ws. ws .1 .1 .1 .1 .0)
+unfolding answers leaves wordsOf
+dm-shared-run-faced κs a z ws p = faced _ _ _ (p .0) (ap (λ (b : List ℕ). b ∷ []) (p .1))
+
+pub dm-shared-settle-faced : IsFaced 5 dm-shared-settle-kinds.ps dm-shared-settle-kinds.r dm-shared-settle-reads.Learnt
+    (λ κs a. sharedSettle (a .0) (a .1 .0 .now) (a .1 .1 .0 .now) (a .1 .1 .1 .0 .now) (a .1 .1 .1 .1 .0 .now))
+    (λ κs a ws. ws .1 .1 .1 .0 ∷ ws .1 .1 .1 .1 .0 ∷ []) (λ κs a ws. ws .1 .1 .1 .1 .1 .0)
+unfolding answers leaves wordsOf
+dm-shared-settle-faced κs a z ws p = faced _ _ _ (p .0) (ap₂ (λ (b d : List ℕ). b ∷ d ∷ []) (p .1 .0) (p .1 .1))

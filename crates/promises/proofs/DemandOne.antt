@@ -4,10 +4,11 @@
 -- Assumes nothing.
 use mathlib.Core.Path.{_≡_, refl, sym, ap, _∙_, subst}
 use mathlib.Core.Logic.{_⊎_, inl, inr}
-use mathlib.Core.Bool.{Bool, true, false, cond, true≢false}
+use mathlib.Core.Bool.{Bool, true, false, cond, _||_, true≢false}
 use mathlib.Core.List.{List, [], _∷_}
 use Prim.Native.Nat.{ℕ, zero, suc, _≤_}
 use native.Mathlib.Omega.{arith}
+use lib.Dec.{eqb}
 use lib.ListN.{length, getD}
 use Rattle.records.specs.declared.Refusal.{Refusal}
 use Rattle.records.specs.Records.{zeros}
@@ -17,17 +18,25 @@ use Rattle.cube.specs.declared.Cube.{Cube}
 use Rattle.cube.specs.Lists.{cubesOf, cubeCapacity}
 use Rattle.steps.specs.declared.StepRefusal.{StepRefusal}
 use Rattle.steps.specs.Steps.{Step, drop}
-use Rattle.steps.specs.Effects.{byCubes, byStep, differingOf}
+use Rattle.steps.specs.Effects.{byCubes, differingOf}
 use Rattle.steps.proofs.Inversion.{step-refused, step-number, step-third}
 use Rattle.script.specs.Run.{Ran, stopped, ended}
 use Rattle.script.specs.Scripts.{stepsOf}
-use Rattle.script.specs.Calls.{runOf, atStep, ofStep, ranOutcome, ranWork}
+use Rattle.script.specs.Calls.{runOf, atStep, ofStep, ranOutcome, ranWorkBy, ranWork}
 use Rattle.indexed.specs.Calls.{ranIndex, ranStarts}
 use Rattle.script.proofs.Refusals.{stopped-steps, refused-stops}
 use Rattle.settling.specs.Calls.{ranSettled, ranBurned}
-use Rattle.promises.specs.Calls.{Call, check, value, reasons, truthVector, coefficients, vectorBack, writeForm, bestPolarity, writeTree, writeKronecker, run, buildIndex, group, runIndexed, writeScript, compact, settle, wideFromNarrow, narrowFromWide, answers, lent, leaves, Called}
-use Rattle.promises.specs.Refusals.{NoneWrong, FirstWrong, faults, beforeSteps, RefusedBefore, StepStops, Stopped, RefusedAtStep, in-run, in-run-indexed, in-settle}
-use Rattle.promises.specs.Accepted.{goesOn, goesOnLeaving, ScriptStops, run-stops, run-indexed-stops, settle-stops, ScriptEnds}
+use Rattle.shared.specs.declared.Shared.{Shared}
+use Rattle.shared.specs.SharedRecord.{shares, sharesOf, sharedCapacity}
+use Rattle.shared_steps.specs.SharedSteps.{SharedStep, plain}
+use Rattle.shared_steps.specs.Effects.{SharedStepRefused, byShared, sharedDiffering}
+use Rattle.shared_steps.proofs.Inversion.{shared-refused, shared-number, shared-third}
+use Rattle.shared_run.specs.SharedScripts.{sharedStepsOf}
+use Rattle.shared_run.specs.Calls.{sharedRunOf, ranShared, ranSharedOut}
+use Rattle.shared_run.proofs.Refusals as shared-refusals
+use Rattle.promises.specs.Calls.{Call, check, value, reasons, truthVector, coefficients, vectorBack, writeForm, bestPolarity, writeTree, writeKronecker, run, buildIndex, group, runIndexed, writeScript, compact, settle, wideFromNarrow, narrowFromWide, sharedCheck, sharedValue, sharedRun, sharedSettle, answers, lent, leaves, Called}
+use Rattle.promises.specs.Refusals.{NoneWrong, FirstWrong, faults, beforeSteps, RefusedBefore, StepStops, Stopped, SharedStepStops, SharedStopped, RefusedAtStep, in-run, in-run-indexed, in-settle, in-shared-run, in-shared-settle}
+use Rattle.promises.specs.Accepted.{goesOn, goesOnLeaving, ScriptStops, run-stops, run-indexed-stops, settle-stops, shared-run-stops, shared-settle-stops, ScriptEnds}
 use Rattle.promises.proofs.Chains.{first-only, first-number, not-none}
 use Rattle.promises.proofs.Numbers.{numbered}
 use Rattle.promises.proofs.Judging.{Outcomes, judged}
@@ -48,6 +57,27 @@ stops n list script work r e =
       third = step-third n cap x (t .between) (ofStep r) (t .here);
     }
 
+shared-stops : (n : ℕ) (list script work : List ℕ) (r : Refusal) → sharedRunOf n list script (length work) ≡ stopped (ofStep r) (r .place) → SharedStopped n list script work r
+unfolding sharedRunOf
+shared-stops n list script work r e =
+    let cap : ℕ = sharedCapacity (length work) in
+    let x : SharedStep = getD (sharedStepsOf script) (r .place) (plain (drop 0 0)) in
+    let t : SharedStepStops n list script work (ofStep r) (r .place) = shared-refusals.stopped-steps n cap (sharedStepsOf script) (sharesOf list) (ofStep r) (r .place) e in
+    let why : SharedStepRefused n cap x (t .between) (ofStep r) = shared-refused n cap x (t .between) (ofStep r) (t .here) in
+    record {
+      steps = t;
+      why = why;
+      number = shared-number n cap x (t .between) (ofStep r) why;
+      third = shared-third n cap x (t .between) (ofStep r) why;
+    }
+
+-- a run that a call tells as a refusal was stopped, at the place that is told
+module _ {A : Type 0} (tell : Ran A → Outcome) (stop-is : (why : StepRefusal) (k : ℕ) → tell (stopped why k) ≡ refused (atStep why k))
+    (end-is : (l : List A) (peak : ℕ) (r : Refusal) → tell (ended l peak) ≡ refused r → ⊥) where
+  told-stopped : (ran : Ran A) (r : Refusal) → tell ran ≡ refused r → ran ≡ stopped (ofStep r) (r .place)
+  told-stopped (ended l peak) r e = absurd (end-is l peak r e)
+  told-stopped (stopped why k) r e = ap (λ (q : Refusal). stopped (ofStep q) (q .place)) (refused-same (sym (stop-is why k) ∙ e))
+
 -- a call that went on and was refused has a script, and was refused at a step of it
 at-step : (c : Call) (r : Refusal) (buffers : List (List ℕ)) → NoneWrong (faults c) → goesOn c ≡ refused r → buffers ≡ goesOnLeaving c → RefusedAtStep r buffers c
 unfolding goesOn goesOnLeaving
@@ -67,53 +97,64 @@ at-step (writeScript n list work script) r buffers none e f = absurd (not-both e
 at-step (compact n count script out) r buffers none e f = absurd (not-both e)
 at-step (wideFromNarrow n list out) r buffers none e f = absurd (not-both e)
 at-step (narrowFromWide n list out) r buffers none e f = absurd (not-both e)
-at-step (run n list script work) r buffers none e f = go (runOf n list script (length work)) refl e f
-  where
-    go : (ran : Ran Cube) → runOf n list script (length work) ≡ ran → ranOutcome ran ≡ refused r → buffers ≡ ranWork (length work) ran ∷ []
-        → RefusedAtStep r buffers (run n list script work)
-    go (ended l peak) is e f = absurd (not-both e)
-    go (stopped why step) is e f =
-        in-run n list script work none (stops n list script work r (is ∙ ap (λ (q : Refusal). stopped (ofStep q) (q .place)) (refused-same e))) f
-at-step (runIndexed n list script work index starts) r buffers none e f = go (runOf n list script (length work)) refl e f
-  where
-    go : (ran : Ran Cube) → runOf n list script (length work) ≡ ran → ranOutcome ran ≡ refused r
-        → buffers ≡ ranWork (length work) ran ∷ ranIndex (length index) ran ∷ ranStarts ran ∷ []
-        → RefusedAtStep r buffers (runIndexed n list script work index starts)
-    go (ended l peak) is e f = absurd (not-both e)
-    go (stopped why step) is e f =
-        in-run-indexed n list script work index starts none (stops n list script work r (is ∙ ap (λ (q : Refusal). stopped (ofStep q) (q .place)) (refused-same e))) f
-at-step (settle n list script work out) r buffers none e f = go (runOf n list script (length work)) refl e f
-  where
-    go : (ran : Ran Cube) → runOf n list script (length work) ≡ ran → ranSettled n (cubesOf list) ran ≡ refused r
-        → buffers ≡ zeros (length work) ∷ ranBurned n (cubesOf list) ran out ∷ []
-        → RefusedAtStep r buffers (settle n list script work out)
-    go (ended l peak) is e f = absurd (not-both e)
-    go (stopped why step) is e f =
-        in-settle n list script work out none (stops n list script work r (is ∙ ap (λ (q : Refusal). stopped (ofStep q) (q .place)) (refused-same e))) f
+at-step (sharedCheck n list) r buffers none e f = absurd (not-both e)
+at-step (sharedValue n list a) r buffers none e f = absurd (not-both e)
+at-step (run n list script work) r buffers none e f =
+    let s = told-stopped ranOutcome (λ why k. refl) (λ l peak r. not-both) (runOf n list script (length work)) r e in
+    in-run n list script work none (stops n list script work r s) (f ∙ ap (λ (ran : Ran Cube). ranWork (length work) ran ∷ []) s)
+at-step (runIndexed n list script work index starts) r buffers none e f =
+    let s = told-stopped ranOutcome (λ why k. refl) (λ l peak r. not-both) (runOf n list script (length work)) r e in
+    in-run-indexed n list script work index starts none (stops n list script work r s)
+    (f ∙ ap (λ (ran : Ran Cube). ranWork (length work) ran ∷ ranIndex (length index) ran ∷ ranStarts ran ∷ []) s)
+at-step (settle n list script work out) r buffers none e f =
+    let s = told-stopped (ranSettled n (cubesOf list)) (λ why k. refl) (λ l peak r. not-both) (runOf n list script (length work)) r e in
+    in-settle n list script work out none (stops n list script work r s)
+    (f ∙ ap (λ (ran : Ran Cube). zeros (length work) ∷ ranBurned n (cubesOf list) ran out ∷ []) s)
+at-step (sharedRun n list script work) r buffers none e f =
+    let s = told-stopped ranOutcome (λ why k. refl) (λ l peak r. not-both) (sharedRunOf n list script (length work)) r e in
+    in-shared-run n list script work none (shared-stops n list script work r s) (f ∙ ap (λ (ran : Ran Shared). ranWorkBy shares (length work) ran ∷ []) s)
+at-step (sharedSettle n list script work out) r buffers none e f =
+    let s = told-stopped (ranShared (sharesOf list)) (λ why k. refl) (λ l peak r. not-both) (sharedRunOf n list script (length work)) r e in
+    in-shared-settle n list script work out none (shared-stops n list script work r s)
+    (f ∙ ap (λ (ran : Ran Shared). zeros (length work) ∷ ranSharedOut (sharesOf list) ran out ∷ []) s)
 
 -- its number, and its third answer where the cubes are as the step needs
 record StepTold (r : Refusal) : Type 0 where
-  number-is : byStep (r .number) ≡ true
+  number-is : byShared (r .number) ≡ true
   third-else : byCubes (r .number) ≡ false → r .differing ≡ 0
 
 stop-told : (n : ℕ) (list script work : List ℕ) (r : Refusal) → Stopped n list script work r → StepTold r
 stop-told n list script work r s =
     let many : ℕ = differingOf n (getD (stepsOf script) (r .place) (drop 0 0)) (s .steps .between) in
+    record {
+      number-is = ap (λ (b : Bool). b || (eqb (r .number) 22 || eqb (r .number) 23)) (s .number);
+      third-else = λ e. s .third ∙ ap (λ (b : Bool). cond b many 0) e;
+    }
+
+shared-told : (n : ℕ) (list script work : List ℕ) (r : Refusal) → SharedStopped n list script work r → StepTold r
+shared-told n list script work r s =
+    let many : ℕ = sharedDiffering n (getD (sharedStepsOf script) (r .place) (plain (drop 0 0))) (s .steps .between) in
     record { number-is = s .number; third-else = λ e. s .third ∙ ap (λ (b : Bool). cond b many 0) e }
 
 step-told : {r : Refusal} {buffers : List (List ℕ)} {c : Call} → RefusedAtStep r buffers c → StepTold r
 step-told (in-run n list script work none s e) = stop-told n list script work _ s
 step-told (in-run-indexed n list script work index starts none s e) = stop-told n list script work _ s
 step-told (in-settle n list script work out none s e) = stop-told n list script work _ s
+step-told (in-shared-run n list script work none s e) = shared-told n list script work _ s
+step-told (in-shared-settle n list script work out none s e) = shared-told n list script work _ s
 
 -- where nothing is wrong and a step of the script is refused, the call is
 refuses : {c : Call} {why : StepRefusal} {k : ℕ} → ScriptStops why k c → goesOn c ≡ refused (atStep why k)
-unfolding goesOn runOf
+unfolding goesOn runOf sharedRunOf
 refuses (run-stops n list script work s) = ap ranOutcome (refused-stops n (cubeCapacity (length work)) (stepsOf script) (cubesOf list) _ _ s)
 refuses (run-indexed-stops n list script work index starts s) =
     ap ranOutcome (refused-stops n (cubeCapacity (length work)) (stepsOf script) (cubesOf list) _ _ s)
 refuses (settle-stops n list script work out s) =
     ap (ranSettled n (cubesOf list)) (refused-stops n (cubeCapacity (length work)) (stepsOf script) (cubesOf list) _ _ s)
+refuses (shared-run-stops n list script work s) =
+    ap ranOutcome (shared-refusals.refused-stops n (sharedCapacity (length work)) (sharedStepsOf script) (sharesOf list) _ _ s)
+refuses (shared-settle-stops n list script work out s) =
+    ap (ranShared (sharesOf list)) (shared-refusals.refused-stops n (sharedCapacity (length work)) (sharedStepsOf script) (sharesOf list) _ _ s)
 
 -- where nothing is wrong and the script, if there is one, ends, the call is accepted
 accepts : (c : Call) → ScriptEnds c → (v : List ℕ) × (goesOn c ≡ accepted v)
@@ -137,6 +178,10 @@ accepts (compact n count script out) s = (_, refl)
 accepts (settle n list script work out) s = (_, ap (ranSettled n (cubesOf list)) (s .is))
 accepts (wideFromNarrow n list out) s = (_, refl)
 accepts (narrowFromWide n list out) s = (_, refl)
+accepts (sharedCheck n list) s = (_, refl)
+accepts (sharedValue n list a) s = (_, refl)
+accepts (sharedRun n list script work) s = (_, ap ranOutcome (s .is))
+accepts (sharedSettle n list script work out) s = (_, ap (ranShared (sharesOf list)) (s .is))
 
 -- ---- the demand
 
@@ -171,18 +216,19 @@ module _ (c : Call) (o : Outcome) (buffers : List (List ℕ)) (called : Called c
           })
       go (judging.right none e k) = inr (at-step c r buffers none (sym e ∙ sym (called .answer) ∙ is) (called .left ∙ k))
 
-  -- Every refusal is by 1 to 9, 14, 15, 20, 21 or 25, found before the first step, or by 10, 11, 13 or one of 16 to 19, found at a step. So none is 0.
-  pub refused-number : (r : Refusal) → o ≡ refused r → (beforeSteps (r .number) ≡ true) ⊎ (byStep (r .number) ≡ true)
+  -- Every refusal is by 1 to 9, 14, 15, 20, 21 or 25, found before the first step, or by 10, 11, 13, one of 16 to 19, 22 or 23, found at a step; 22 and 23 only of
+  -- shared products, as `Stopped` says. So none is 0.
+  pub refused-number : (r : Refusal) → o ≡ refused r → (beforeSteps (r .number) ≡ true) ⊎ (byShared (r .number) ≡ true)
   refused-number r is = go (refused-call r is)
     where
-      go : RefusedBefore r buffers c ⊎ RefusedAtStep r buffers c → (beforeSteps (r .number) ≡ true) ⊎ (byStep (r .number) ≡ true)
+      go : RefusedBefore r buffers c ⊎ RefusedAtStep r buffers c → (beforeSteps (r .number) ≡ true) ⊎ (byShared (r .number) ≡ true)
       go (inl b) = inl (b .number)
       go (inr s) = inr (step-told s .number-is)
 
   pub refused-above-0 : (r : Refusal) → o ≡ refused r → 1 ≤ r .number
   refused-above-0 r is = go (r .number) (refused-number r is)
     where
-      go : (k : ℕ) → (beforeSteps k ≡ true) ⊎ (byStep k ≡ true) → 1 ≤ k
+      go : (k : ℕ) → (beforeSteps k ≡ true) ⊎ (byShared k ≡ true) → 1 ≤ k
       go zero (inl e) = absurd (true≢false (sym e))
       go zero (inr e) = absurd (true≢false (sym e))
       go (suc k) e = omega arith

@@ -14,7 +14,7 @@ use Rattle.settling.specs.declared.Settled.the-variants as settled-is
 use Rattle.settling.specs.declared.Settlement.{Settlement}
 use Rattle.settling.specs.Calls.{settled}
 use Rattle.druthmoy.specs.Faces.{eight, words, settledWords, withStart}
-use Rattle.promises.specs.Calls.{Call, check, value, reasons, truthVector, coefficients, vectorBack, writeForm, bestPolarity, writeTree, writeKronecker, run, buildIndex, group, runIndexed, writeScript, compact, settle, wideFromNarrow, narrowFromWide, wordsOf, Faced}
+use Rattle.promises.specs.Calls.{Call, check, value, reasons, truthVector, coefficients, vectorBack, writeForm, bestPolarity, writeTree, writeKronecker, run, buildIndex, group, runIndexed, writeScript, compact, settle, wideFromNarrow, narrowFromWide, sharedCheck, sharedValue, sharedRun, sharedSettle, wordsOf, Faced}
 use Rattle.promises.specs.Faced.{polarityWord, sizeWord, SettledFace}
 use Rattle.promises.proofs.DemandOne.{refused-above-0}
 use Rattle.promises.proofs.Calling.{accepted-settled}
@@ -43,6 +43,10 @@ words-by o P w s g (compact n count script out) = w
 words-by o P w s g (settle n list script work out) = s
 words-by o P w s g (wideFromNarrow n list out) = w
 words-by o P w s g (narrowFromWide n list out) = w
+words-by o P w s g (sharedCheck n list) = w
+words-by o P w s g (sharedValue n list a) = w
+words-by o P w s g (sharedRun n list script work) = w
+words-by o P w s g (sharedSettle n list script work out) = w
 
 words-refused : (c : Call) (r : Refusal) → wordsOf c (refused r) ≡ eight (r .number) (r .place) (r .differing ∷ [])
 unfolding words settledWords

@@ -16,6 +16,7 @@ use Rattle.records.specs.Records.{Codec, records, listOf}
 use Rattle.records.specs.Places.{placeWidth, places}
 use Rattle.records.specs.Answers.{Outcome, accepted, refused, refusal, unless, andThen}
 use Rattle.records.proofs.Answers.{and-then, and-not, after-refused, after-accepted}
+use Rattle.records.proofs.Checks.{checked}
 use Rattle.cube.specs.declared.Cube.{Cube}
 use Rattle.cube.specs.Cubes.{good, one}
 use Rattle.cube.specs.Lists.{mostVariables, vectorVariables, mostRecords, recordWidth, cubes, cubesOf, cubeCapacity}
@@ -31,7 +32,7 @@ use Rattle.trees.specs.Calls.{treeOutcome, treeAfter}
 use Rattle.kronecker.specs.Choices.{kroneckerList}
 use Rattle.kronecker.specs.Calls.{kroneckerVariables, kroneckerOutcome, kroneckerAfter}
 use Rattle.script.specs.Scripts.{stepRecords, stepWidth, mostSteps, fits}
-use Rattle.script.specs.Calls.{checkScript, checkRun, runOf, runOutcome, workAfter, runAfter}
+use Rattle.script.specs.Calls.{checkScript, checkRun, runOf, runOutcome, workAfterBy, workAfter, runAfter}
 use Rattle.index.specs.Index.{groupCount, listIndex, listStarts, listGroup}
 use Rattle.index.specs.Calls.{firstApart, unlessRight, ownOutcome, buildOutcome, buildAfter, groupOutcome}
 use Rattle.index.proofs.Apart.{is-first}
@@ -40,8 +41,12 @@ use Rattle.writer.specs.Calls.{writeOutcome, writeWork, writeSteps}
 use Rattle.compactor.specs.Calls.{compactOutcome, compactAfter}
 use Rattle.druthmoy.specs.Faces.{startsIf}
 use Rattle.settling.specs.Calls.{checkSettle, settleOutcome, settleWorkBy, settleWork, settleOutBy, settleOut}
-use Rattle.promises.specs.Calls.{Call, check, value, reasons, truthVector, coefficients, vectorBack, writeForm, bestPolarity, writeTree, writeKronecker, run, buildIndex, group, runIndexed, writeScript, compact, settle, wideFromNarrow, narrowFromWide, answers, lent, leaves}
-use Rattle.promises.specs.Refusals.{Fault, at, Lowest, NoneWrong, FirstWrong, recordFaults, listFaults, atFaults, scriptFaults, vectorFaults, indexFaults, notRight, faults}
+use Rattle.shared.specs.SharedRecord.{noShared, shares, sharesOf, sharedCapacity, fine}
+use Rattle.shared.specs.Calls.{checkShared, checkSharedAt, wordOutcome}
+use Rattle.shared_run.specs.SharedScripts.{sharedFits, checkSharedScript}
+use Rattle.shared_run.specs.Calls.{checkSharedRun, sharedRunOf, sharedRunOutcome, sharedRunAfter, checkSharedSettle, sharedSettleOutcome, sharedSettleWork, sharedSettleOut}
+use Rattle.promises.specs.Calls.{Call, check, value, reasons, truthVector, coefficients, vectorBack, writeForm, bestPolarity, writeTree, writeKronecker, run, buildIndex, group, runIndexed, writeScript, compact, settle, wideFromNarrow, narrowFromWide, sharedCheck, sharedValue, sharedRun, sharedSettle, answers, lent, leaves}
+use Rattle.promises.specs.Refusals.{Fault, at, lowest, Lowest, NoneWrong, FirstWrong, recordFaults, listFaults, atFaults, scriptFaults, vectorFaults, indexFaults, notRight, sharedFaults, sharedScriptFaults, faults}
 use Rattle.promises.specs.Accepted.{goesOn, goesOnLeaving}
 use Rattle.promises.proofs.Chains.{Judged, judge-end, judge-unless, judge-lowest, judge-and}
 use Rattle.promises.proofs.Chains as chains
@@ -60,15 +65,21 @@ module _ {xs : List Fault} {o rest : Outcome} (j : Judged xs o rest) where
 
 -- ---- the chains
 
--- 2 to 4, and 1 to 4, of a list of any kind of record
-by-records : (C : Codec Cube) (n : ℕ) (list : List ℕ) → Judged (recordFaults C n list) (checkRecords C n list) (accepted (length (listOf C list) ∷ []))
-unfolding recordFaults
-by-records C n list =
+-- the test of a buffer of any kind of record, by its three numbers
+by-checked : {A : Type 0} (C : Codec A) (test : A → Bool) (d : A) (cut many bad most : ℕ) (b : List ℕ)
+    → Judged (at cut 0 (length b % C .width ≡ 0 → ⊥) ∷ at many 0 (most < length b / C .width) ∷ lowest bad test d (listOf C b) ∷ [])
+    (checked C test cut many bad most b) (accepted (length (listOf C b) ∷ []))
+by-checked C test d cut many bad most b =
     unless-eq
     (unless-le
-    (judge-lowest (good n) one 4 (listOf C list) (judge-end (accepted (length (listOf C list) ∷ []))))
-    (length list / C .width) mostRecords 3 0)
-    (length list % C .width) 0 2 0
+    (judge-lowest test d bad (listOf C b) (judge-end (accepted (length (listOf C b) ∷ []))))
+    (length b / C .width) most many 0)
+    (length b % C .width) 0 cut 0
+
+-- 2 to 4, and 1 to 4, of a list of any kind of cube record
+by-records : (C : Codec Cube) (n : ℕ) (list : List ℕ) → Judged (recordFaults C n list) (checkRecords C n list) (accepted (length (listOf C list) ∷ []))
+unfolding recordFaults
+by-records C n list = by-checked C (good n) one 2 3 4 mostRecords list
 
 pub by-list : (C : Codec Cube) (limit n : ℕ) (list : List ℕ) → Judged (listFaults C limit n list) (checkListOf C limit n list) (accepted (length (listOf C list) ∷ []))
 unfolding checkListOf listFaults
@@ -76,12 +87,16 @@ by-list C limit n list = unless-le (by-records C n list) n limit 1 0
 
 pub by-script : (n : ℕ) (script : List ℕ) → Judged (scriptFaults n script) (checkScript n script) (accepted (length (listOf stepRecords script) ∷ []))
 unfolding checkScript scriptFaults
-by-script n script =
-    unless-eq
-    (unless-le
-    (judge-lowest (fits n) (stepRecords .none) 9 (listOf stepRecords script) (judge-end (accepted (length (listOf stepRecords script) ∷ []))))
-    (length script / stepWidth) mostSteps 8 0)
-    (length script % stepWidth) 0 7 0
+by-script n script = by-checked stepRecords (fits n) (stepRecords .none) 7 8 9 mostSteps script
+
+-- the same of shared products, and of a script on them
+pub by-shared : (n : ℕ) (list : List ℕ) → Judged (sharedFaults n list) (checkShared n list) (accepted (length (sharesOf list) ∷ []))
+unfolding checkShared sharedFaults
+by-shared n list = unless-le (by-checked shares (fine n) noShared 2 3 4 mostRecords list) n mostVariables 1 0
+
+pub by-shared-script : (n : ℕ) (script : List ℕ) → Judged (sharedScriptFaults n script) (checkSharedScript n script) (accepted (length (listOf stepRecords script) ∷ []))
+unfolding checkSharedScript sharedScriptFaults
+by-shared-script n script = by-checked stepRecords (sharedFits n) (stepRecords .none) 7 8 9 mostSteps script
 
 pub by-vector : (n : ℕ) (l : List ℕ) → Judged (vectorFaults n l) (checkVector n l) (accepted (2 ^ n ∷ []))
 unfolding checkVector vectorFaults
@@ -96,6 +111,10 @@ by-vector n l =
 after-list : (C : Codec Cube) (limit n : ℕ) (list : List ℕ) (ys : List Fault) (o rest : Outcome)
     → Judged ys o rest → Judged (listFaults C limit n list ++ ys) (andThen (checkListOf C limit n list) o) rest
 after-list C limit n list ys o rest j = judge-and (listFaults C limit n list) ys (checkListOf C limit n list) o rest _ (by-list C limit n list) j
+
+after-shared : (n : ℕ) (list : List ℕ) (ys : List Fault) (o rest : Outcome)
+    → Judged ys o rest → Judged (sharedFaults n list ++ ys) (andThen (checkShared n list) o) rest
+after-shared n list ys o rest j = judge-and (sharedFaults n list) ys (checkShared n list) o rest _ (by-shared n list) j
 
 pub by-at : (n : ℕ) (list : List ℕ) (a : ℕ) → Judged (atFaults n list a) (checkAt n list a) (accepted (length (cubesOf list) ∷ []))
 unfolding checkAt atFaults
@@ -173,7 +192,7 @@ one-buffer : {b d : List ℕ} → b ≡ d → b ∷ [] ≡ d ∷ []
 one-buffer e = ap (λ (x : List ℕ). x ∷ []) e
 
 pub judged : (c : Call) → Outcomes c
-unfolding answers lent leaves faults goesOn goesOnLeaving valueOutcome reasonsOutcome reasonsAfter vectorOutcome vectorAfter coefficientsOutcome coefficientsAfter backAfter formOutcome formAfter bestOutcome treeOutcome treeAfter kroneckerOutcome kroneckerAfter runOutcome runAfter checkRun writeOutcome writeWork writeSteps compactOutcome compactAfter checkSettle settleOutcome settleWork settleOut wideOutcome wideAfter narrowOutcome narrowAfter buildOutcome buildAfter checkIndexed indexedOutcome indexedWork indexedIndex indexedStarts begun indexFaults
+unfolding answers lent leaves faults goesOn goesOnLeaving valueOutcome reasonsOutcome reasonsAfter vectorOutcome vectorAfter coefficientsOutcome coefficientsAfter backAfter formOutcome formAfter bestOutcome treeOutcome treeAfter kroneckerOutcome kroneckerAfter runOutcome runAfter checkRun writeOutcome writeWork writeSteps compactOutcome compactAfter checkSettle settleOutcome settleWork settleOut wideOutcome wideAfter narrowOutcome narrowAfter buildOutcome buildAfter checkIndexed indexedOutcome indexedWork indexedIndex indexedStarts begun indexFaults checkSharedAt wordOutcome checkSharedRun sharedRunOutcome sharedRunAfter checkSharedSettle sharedSettleOutcome sharedSettleWork sharedSettleOut
 judged (check n list) = by-tests (check n list) (checkList mostVariables n list) _ (by-list cubes mostVariables n list) (λ r e. (e, refl)) (λ e. (e, refl))
 judged (value n list a) =
     by-tests (value n list a) (checkAt n list a) _ (by-at n list a) (λ r e. (and-not _ _ r e, refl)) (λ e. (and-then _ _ _ e, refl))
@@ -273,3 +292,19 @@ judged (narrowFromWide n list out) =
     n narrowVariables 20 0)
     n mostVariables 1 0)
     (λ r e. (e, one-buffer (after-refused _ _ out r e))) (λ e. (e, one-buffer (after-accepted _ _ out _ e)))
+judged (sharedCheck n list) = by-tests (sharedCheck n list) (checkShared n list) _ (by-shared n list) (λ r e. (e, refl)) (λ e. (e, refl))
+judged (sharedValue n list a) =
+    by-tests (sharedValue n list a) (checkSharedAt n list a) _
+    (after-shared n list _ _ _ (unless-lt (judge-end _) a (2 ^ n) 6 0))
+    (λ r e. (and-not _ _ r e, refl)) (λ e. (and-then _ _ _ e, refl))
+judged (sharedRun n list script work) =
+    by-tests (sharedRun n list script work) (checkSharedRun n list script (length work)) _
+    (after-shared n list _ _ _ (unless-le (by-shared-script n script) (length (sharesOf list)) (sharedCapacity (length work)) 5 0))
+    (λ r e. (and-not _ _ r e, one-buffer (ap (λ (o : Outcome). workAfterBy shares o work (sharedRunOf n list script (length work))) e)))
+    (λ e. (and-then _ _ _ e, one-buffer (ap (λ (o : Outcome). workAfterBy shares o work (sharedRunOf n list script (length work))) e)))
+judged (sharedSettle n list script work out) =
+    by-tests (sharedSettle n list script work out) (checkSharedSettle n list script (length work) (length out)) _
+    (after-shared n list _ _ _
+    (unless-le (unless-le (by-shared-script n script) (length (sharesOf list)) (sharedCapacity (length out)) 5 0) (length (sharesOf list)) (sharedCapacity (length work)) 5 0))
+    (λ r e. (and-not _ _ r e, ap₂ (λ (b d : List ℕ). b ∷ d ∷ []) (after-refused _ _ work r e) (after-refused _ _ out r e)))
+    (λ e. (and-then _ _ _ e, ap₂ (λ (b d : List ℕ). b ∷ d ∷ []) (after-accepted _ _ work _ e) (after-accepted _ _ out _ e)))

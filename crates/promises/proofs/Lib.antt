@@ -21,5 +21,6 @@ pub mod WrittenList
 pub mod CheapestTree
 pub mod OneChoice
 pub mod ByLiterals
+pub mod SharedOutputs
 pub mod Faces
 pub mod Examples

@@ -28,12 +28,17 @@ use Rattle.polarity.proofs.Vectors.{check-accepts}
 use Rattle.steps.specs.Steps.{Allowed, meaning}
 use Rattle.script.specs.Scripts.{stepRecords, fits, stepsOf}
 use Rattle.script.specs.Calls.{checkScript}
-use Rattle.script.proofs.Scripts.{meaning-fits}
-use Rattle.script.proofs.Scripts.{script-accepts}
+use Rattle.script.proofs.Scripts.{meaning-fits, script-accepts}
+use Rattle.shared.specs.SharedRecord.{sharesOf, Fine}
+use Rattle.shared.specs.Calls.{checkShared}
+use Rattle.shared.proofs.Lists.{shared-accepts}
+use Rattle.shared_steps.specs.SharedSteps.{SharedAllowed}
+use Rattle.shared_run.specs.SharedScripts.{checkSharedScript, sharedStepsOf}
+use Rattle.shared_run.proofs.SharedScripts.{shared-script-accepts, shared-script-fits}
 use Rattle.promises.specs.Calls as call
-use Rattle.promises.specs.Refusals.{NoneWrong, recordFaults, listFaults, atFaults, scriptFaults, vectorFaults, faults}
+use Rattle.promises.specs.Refusals.{NoneWrong, recordFaults, listFaults, atFaults, scriptFaults, vectorFaults, sharedFaults, sharedScriptFaults, faults}
 use Rattle.promises.proofs.Chains.{none-both, judged-right}
-use Rattle.promises.proofs.Judging.{by-list, by-script, by-vector}
+use Rattle.promises.proofs.Judging.{by-list, by-script, by-vector, by-shared, by-shared-script}
 
 -- ---- a fault that is not there
 
@@ -45,7 +50,7 @@ not-below a b none = let l : a < suc b = lt-of-not-le (λ h. none 0 (refl, h)) i
 
 -- ---- what is known where nothing is wrong
 
--- a list's cubes are good, a script's steps fit, a vector is one
+-- a list's cubes are good, a script's steps are allowed
 pub good-list : (limit n : ℕ) (list : List ℕ) → NoneWrong (listFaults cubes limit n list) → All (Good n) (cubesOf list)
 good-list limit n list none = list-laws.check-accepts cubes limit n list _ (judged-right (listFaults cubes limit n list) (checkList limit n list) _ (by-list cubes limit n list) none) .good
 
@@ -55,6 +60,16 @@ fit-script n script none =
     let s = script-accepts n script _ (judged-right (scriptFaults n script) (checkScript n script) _ (by-script n script) none) in
     all-map (λ r. fits n r ≡ true) (Allowed n) meaning (meaning-fits n) (listOf stepRecords script) (s .each)
 
+-- a list's shared products are fine, the steps of a script on them are allowed
+pub fine-shared : (n : ℕ) (list : List ℕ) → NoneWrong (sharedFaults n list) → All (Fine n) (sharesOf list)
+fine-shared n list none = shared-accepts n list _ (judged-right (sharedFaults n list) (checkShared n list) _ (by-shared n list) none) .good
+
+pub fit-shared-script : (n : ℕ) (script : List ℕ) → NoneWrong (sharedScriptFaults n script) → All (SharedAllowed n) (sharedStepsOf script)
+fit-shared-script n script none =
+    let s = shared-script-accepts n script _ (judged-right (sharedScriptFaults n script) (checkSharedScript n script) _ (by-shared-script n script) none) in
+    shared-script-fits n script (s .each)
+
+-- a vector is one
 pub is-vector : (n : ℕ) (l : List ℕ) → NoneWrong (vectorFaults n l) → Vector n l
 is-vector n l none = check-accepts n l _ (judged-right (vectorFaults n l) (checkVector n l) _ (by-vector n l) none)
 

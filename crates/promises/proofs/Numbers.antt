@@ -5,8 +5,8 @@ use mathlib.Core.List.{List}
 use Prim.Native.Nat.{ℕ}
 use Rattle.records.specs.Records.{Codec}
 use Rattle.cube.specs.declared.Cube.{Cube}
-use Rattle.promises.specs.Calls.{Call, check, value, reasons, truthVector, coefficients, vectorBack, writeForm, bestPolarity, writeTree, writeKronecker, run, buildIndex, group, runIndexed, writeScript, compact, settle, wideFromNarrow, narrowFromWide}
-use Rattle.promises.specs.Refusals.{recordFaults, listFaults, atFaults, scriptFaults, vectorFaults, indexFaults, faults}
+use Rattle.promises.specs.Calls.{Call, check, value, reasons, truthVector, coefficients, vectorBack, writeForm, bestPolarity, writeTree, writeKronecker, run, buildIndex, group, runIndexed, writeScript, compact, settle, wideFromNarrow, narrowFromWide, sharedCheck, sharedValue, sharedRun, sharedSettle}
+use Rattle.promises.specs.Refusals.{recordFaults, listFaults, atFaults, scriptFaults, vectorFaults, indexFaults, sharedFaults, sharedScriptFaults, faults}
 use Rattle.promises.proofs.Chains.{Numbered, numbered-both}
 
 records-numbered : (C : Codec Cube) (n : ℕ) (list : List ℕ) → Numbered (recordFaults C n list)
@@ -33,6 +33,14 @@ index-numbered : (n : ℕ) (list index : List ℕ) → Numbered (indexFaults n l
 unfolding indexFaults
 index-numbered n list index = numbered-both (listFaults _ _ n list) _ (list-numbered _ _ n list) (refl, tt)
 
+shared-numbered : (n : ℕ) (list : List ℕ) → Numbered (sharedFaults n list)
+unfolding sharedFaults
+shared-numbered n list = (refl, (refl, (refl, (refl, tt))))
+
+shared-script-numbered : (n : ℕ) (script : List ℕ) → Numbered (sharedScriptFaults n script)
+unfolding sharedScriptFaults
+shared-script-numbered n script = (refl, (refl, (refl, tt)))
+
 pub numbered : (c : Call) → Numbered (faults c)
 unfolding faults
 numbered (check n list) = list-numbered _ _ n list
@@ -57,3 +65,8 @@ numbered (settle n list script work out) =
 numbered (wideFromNarrow n list out) = numbered-both (listFaults _ _ n list) _ (list-numbered _ _ n list) (refl, tt)
 numbered (narrowFromWide n list out) =
     (refl, (refl, numbered-both (recordFaults _ n list) _ (records-numbered _ n list) (refl, tt)))
+numbered (sharedCheck n list) = shared-numbered n list
+numbered (sharedValue n list a) = numbered-both (sharedFaults n list) _ (shared-numbered n list) (refl, tt)
+numbered (sharedRun n list script work) = numbered-both (sharedFaults n list) _ (shared-numbered n list) (refl, shared-script-numbered n script)
+numbered (sharedSettle n list script work out) =
+    numbered-both (sharedFaults n list) _ (shared-numbered n list) (refl, (refl, shared-script-numbered n script))

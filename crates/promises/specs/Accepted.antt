@@ -2,7 +2,8 @@
 -- the record count; value, the bit; truth vector and coefficients, either way, 2^n; writing a form, its count; best polarity, p and the size; run, count
 -- and peak; settle, the counts that the program prints." With document 02, One: value answers "the number of true products" too, and reasons "their number and the
 -- bit"; Three: the writer "answers the number of steps and which"; Six: the list of a tree is written, "answering its products and cost"; Ten: of a choice, "the least
--- cost and, among those, the smallest choice", then the products; Eleven: the compactor "answers the steps left". The converters answer the count.
+-- cost and, among those, the smallest choice", then the products; Eleven: the compactor "answers the steps left"; Nine: of shared products
+-- value "answers all 32 as one word", and settle given, peak, script's count and burned. The converters answer the count.
 -- Assumes nothing.
 use mathlib.Core.Path.{_≡_}
 use mathlib.Core.List.{List, [], _∷_, _++_, map}
@@ -23,16 +24,20 @@ use Rattle.trees.specs.Least.{treeList}
 use Rattle.kronecker.specs.Choices.{bestChoice, kroneckerList}
 use Rattle.script.specs.Run.{ended}
 use Rattle.script.specs.Scripts.{stepRecords, mostSteps, recordOf, stepsOf}
-use Rattle.script.specs.Calls.{runOf, ranOutcome, ranWork}
+use Rattle.script.specs.Calls.{runOf, ranOutcome, ranWorkBy, ranWork}
 use Rattle.writer.specs.Easy.{easySteps, easyEnd, easyFinished}
 use Rattle.compactor.specs.Compact.{compacted}
 use Rattle.index.specs.Index.{listIndex, listStarts, listGroup}
 use Rattle.indexed.specs.Calls.{ranIndex, ranStarts}
 use Rattle.settling.specs.Calls.{ranSettled, ranBurned}
+use Rattle.shared.specs.declared.Shared.{Shared}
+use Rattle.shared.specs.SharedRecord.{shares, sharesOf}
+use Rattle.shared.specs.Outputs.{valueWord}
+use Rattle.shared_run.specs.Calls.{sharedRunOf, ranShared, ranSharedOut}
 use Rattle.steps.specs.declared.StepRefusal.{StepRefusal}
 use Rattle.promises.specs.Calls.{Call}
 use Rattle.promises.specs.Calls as call
-use Rattle.promises.specs.Refusals.{StepStops}
+use Rattle.promises.specs.Refusals.{StepStops, SharedStepStops}
 
 unfoldable pub goesOn : Call → Outcome
 goesOn (call.check n list) = accepted (length (cubesOf list) ∷ [])
@@ -56,6 +61,10 @@ goesOn (call.compact n count script out) = accepted (length (compacted count (st
 goesOn (call.settle n list script work out) = ranSettled n (cubesOf list) (runOf n list script (length work))
 goesOn (call.wideFromNarrow n list out) = accepted (length (narrowCubesOf list) ∷ [])
 goesOn (call.narrowFromWide n list out) = accepted (length (cubesOf list) ∷ [])
+goesOn (call.sharedCheck n list) = accepted (length (sharesOf list) ∷ [])
+goesOn (call.sharedValue n list a) = accepted (valueWord n (sharesOf list) a ∷ [])
+goesOn (call.sharedRun n list script work) = ranOutcome (sharedRunOf n list script (length work))
+goesOn (call.sharedSettle n list script work out) = ranShared (sharesOf list) (sharedRunOf n list script (length work))
 
 -- "Other calls write the bytes they name and no more"
 unfoldable pub goesOnLeaving : Call → List (List ℕ)
@@ -83,6 +92,10 @@ goesOnLeaving (call.compact n count script out) = written stepRecords 0 (map rec
 goesOnLeaving (call.settle n list script work out) = zeros (length work) ∷ ranBurned n (cubesOf list) (runOf n list script (length work)) out ∷ []
 goesOnLeaving (call.wideFromNarrow n list out) = written cubes 0 (narrowCubesOf list) out ∷ []
 goesOnLeaving (call.narrowFromWide n list out) = written narrowCubes 0 (cubesOf list) out ∷ []
+goesOnLeaving (call.sharedCheck n list) = []
+goesOnLeaving (call.sharedValue n list a) = []
+goesOnLeaving (call.sharedRun n list script work) = ranWorkBy shares (length work) (sharedRunOf n list script (length work)) ∷ []
+goesOnLeaving (call.sharedSettle n list script work out) = zeros (length work) ∷ ranSharedOut (sharesOf list) (sharedRunOf n list script (length work)) out ∷ []
 
 -- the script ends: no step of it is refused
 pub record EndOfScript (n : ℕ) (list script work : List ℕ) : Type 0 where
@@ -90,11 +103,19 @@ pub record EndOfScript (n : ℕ) (list script work : List ℕ) : Type 0 where
   pub peak : ℕ
   pub is : runOf n list script (length work) ≡ ended result peak
 
+-- the same of a script on shared products
+pub record SharedEnd (n : ℕ) (list script work : List ℕ) : Type 0 where
+  pub result : List Shared
+  pub peak : ℕ
+  pub is : sharedRunOf n list script (length work) ≡ ended result peak
+
 -- step k of the script is refused
 pub data ScriptStops (why : StepRefusal) (k : ℕ) : Call → Type 0 where
   run-stops : (n : ℕ) (list script work : List ℕ) → StepStops n list script work why k → ScriptStops why k (call.run n list script work)
   run-indexed-stops : (n : ℕ) (list script work index starts : List ℕ) → StepStops n list script work why k → ScriptStops why k (call.runIndexed n list script work index starts)
   settle-stops : (n : ℕ) (list script work out : List ℕ) → StepStops n list script work why k → ScriptStops why k (call.settle n list script work out)
+  shared-run-stops : (n : ℕ) (list script work : List ℕ) → SharedStepStops n list script work why k → ScriptStops why k (call.sharedRun n list script work)
+  shared-settle-stops : (n : ℕ) (list script work out : List ℕ) → SharedStepStops n list script work why k → ScriptStops why k (call.sharedSettle n list script work out)
 
 -- no step of it is, where the call has one
 unfoldable pub ScriptEnds : Call → Type 0
@@ -117,3 +138,7 @@ ScriptEnds (call.compact n count script out) = Unit {0}
 ScriptEnds (call.settle n list script work out) = EndOfScript n list script work
 ScriptEnds (call.wideFromNarrow n list out) = Unit {0}
 ScriptEnds (call.narrowFromWide n list out) = Unit {0}
+ScriptEnds (call.sharedCheck n list) = Unit {0}
+ScriptEnds (call.sharedValue n list a) = Unit {0}
+ScriptEnds (call.sharedRun n list script work) = SharedEnd n list script work
+ScriptEnds (call.sharedSettle n list script work out) = SharedEnd n list script work

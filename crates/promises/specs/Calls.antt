@@ -19,6 +19,8 @@ use Rattle.indexed.specs.Calls.{begun, indexedOutcome, indexedStarts, indexedWo
 use Rattle.writer.specs.Calls.{writeOutcome, writeWork, writeSteps}
 use Rattle.compactor.specs.Calls.{compactOutcome, compactAfter}
 use Rattle.settling.specs.Calls.{settleOutcome, settleWork, settleOut}
+use Rattle.shared.specs.Calls.{checkShared, wordOutcome}
+use Rattle.shared_run.specs.Calls.{sharedRunOutcome, sharedRunAfter, sharedSettleOutcome, sharedSettleWork, sharedSettleOut}
 use Rattle.druthmoy.specs.Faces.{words, settledWords, withStart, startsIf}
 
 -- a call, with its arguments in order; `out`, `work` and, where a script is written, `script` are the bytes that the lent buffers held before it
@@ -59,6 +61,14 @@ pub data Call : Type 0 where
   -- "wide from narrow" and "narrow from wide" (document 02, Seven): n, the list, out
   wideFromNarrow : ℕ → List ℕ → List ℕ → Call
   narrowFromWide : ℕ → List ℕ → List ℕ → Call
+  -- "Several slot bits in one list" (document 02, Nine), on lists of shared products. Checking one: n, the list
+  sharedCheck : ℕ → List ℕ → Call
+  -- "the value call answers all 32 as one word": n, the list, the assignment
+  sharedValue : ℕ → List ℕ → ℕ → Call
+  -- run, with "a new step, op 6": n, the list, the script, work
+  sharedRun : ℕ → List ℕ → List ℕ → List ℕ → Call
+  -- "For these lists settling compares only the script's result and the given list": n, the list, the script, work, out
+  sharedSettle : ℕ → List ℕ → List ℕ → List ℕ → List ℕ → Call
 
 -- what its contract says that it answers
 unfoldable pub answers : Call → Outcome
@@ -81,6 +91,10 @@ answers (compact n count script out) = compactOutcome n count script (length out
 answers (settle n list script work out) = settleOutcome n list script (length work) (length out)
 answers (wideFromNarrow n list out) = wideOutcome n list (length out)
 answers (narrowFromWide n list out) = narrowOutcome n list (length out)
+answers (sharedCheck n list) = checkShared n list
+answers (sharedValue n list a) = wordOutcome n list a
+answers (sharedRun n list script work) = sharedRunOutcome n list script (length work)
+answers (sharedSettle n list script work out) = sharedSettleOutcome n list script (length work) (length out)
 
 -- the buffers that it was lent, as they were. The starts of an index are one of them: a caller from C lends them, and to one from Rattle, who is answered them by
 -- value, they were all 0
@@ -104,6 +118,10 @@ lent (compact n count script out) = out ∷ []
 lent (settle n list script work out) = work ∷ out ∷ []
 lent (wideFromNarrow n list out) = out ∷ []
 lent (narrowFromWide n list out) = out ∷ []
+lent (sharedCheck n list) = []
+lent (sharedValue n list a) = []
+lent (sharedRun n list script work) = work ∷ []
+lent (sharedSettle n list script work out) = work ∷ out ∷ []
 
 -- what its contract says that it leaves in them
 unfoldable pub leaves : Call → List (List ℕ)
@@ -130,6 +148,10 @@ leaves (compact n count script out) = compactAfter n count script out ∷ []
 leaves (settle n list script work out) = settleWork n list script work (length out) ∷ settleOut n list script (length work) out ∷ []
 leaves (wideFromNarrow n list out) = wideAfter n list out ∷ []
 leaves (narrowFromWide n list out) = narrowAfter n list out ∷ []
+leaves (sharedCheck n list) = []
+leaves (sharedValue n list a) = []
+leaves (sharedRun n list script work) = sharedRunAfter n list script work ∷ []
+leaves (sharedSettle n list script work out) = sharedSettleWork n list script work (length out) ∷ sharedSettleOut n list script (length work) out ∷ []
 
 -- the call was made: it answered o, and left these buffers
 pub record Called (c : Call) (o : Outcome) (buffers : List (List ℕ)) : Type 0 where
@@ -157,6 +179,10 @@ wordsOf (compact n count script out) o = words o
 wordsOf (settle n list script work out) o = settledWords o
 wordsOf (wideFromNarrow n list out) o = words o
 wordsOf (narrowFromWide n list out) o = words o
+wordsOf (sharedCheck n list) o = words o
+wordsOf (sharedValue n list a) o = words o
+wordsOf (sharedRun n list script work) o = words o
+wordsOf (sharedSettle n list script work out) o = words o
 
 -- the call was made from C or Rust: it answered these words, and left these buffers
 pub record Faced (c : Call) (answer : List ℕ) (buffers : List (List ℕ)) : Type 0 where

@@ -11,5 +11,6 @@ pub mod CheapestTree
 pub mod OneChoice
 pub mod ByLiterals
 pub mod PlainSteps
+pub mod SharedOutputs
 pub mod Faced
 pub mod Marked

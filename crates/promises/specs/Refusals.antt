@@ -29,7 +29,12 @@ use Rattle.script.specs.Run.{Refused}
 use Rattle.script.specs.Scripts.{stepRecords, stepWidth, mostSteps, fits, stepsOf}
 use Rattle.script.specs.Calls.{ofStep}
 use Rattle.index.specs.Index.{groupCount, listIndex, listStarts}
-use Rattle.promises.specs.Calls.{Call, check, value, reasons, truthVector, coefficients, vectorBack, writeForm, bestPolarity, writeTree, writeKronecker, run, buildIndex, group, runIndexed, writeScript, compact, settle, wideFromNarrow, narrowFromWide, lent}
+use Rattle.shared.specs.SharedRecord.{noShared, sharedWidth, sharesOf, sharedCapacity, fine}
+use Rattle.shared_steps.specs.SharedSteps.{plain}
+use Rattle.shared_steps.specs.Effects.{SharedStepRefused, byShared, sharedThird}
+use Rattle.shared_run.specs.SharedScripts.{sharedFits, sharedStepsOf}
+use Rattle.shared_run.specs.SharedRun.{SharedRefused}
+use Rattle.promises.specs.Calls.{Call, check, value, reasons, truthVector, coefficients, vectorBack, writeForm, bestPolarity, writeTree, writeKronecker, run, buildIndex, group, runIndexed, writeScript, compact, settle, wideFromNarrow, narrowFromWide, sharedCheck, sharedValue, sharedRun, sharedSettle, lent}
 
 -- ---- a fault
 
@@ -105,6 +110,23 @@ indexFaults n list index = listFaults cubes mostVariables n list ++ (at 5 0 (len
 abbrev pub notRight : ℕ → List ℕ → List ℕ → Fault
 notRight m l right = lowest 25 (λ i. eqb (getD l i 0) (getD right i 0)) 0 (listBelow m (λ i. i))
 
+-- 1 to 4, of a list of shared products: "refusal 2 go[es] by 12 bytes", "4 also for zero outputs" (document 02, Nine)
+unfoldable pub sharedFaults : ℕ → List ℕ → List Fault
+sharedFaults n list =
+    at 1 0 (mostVariables < n)
+    ∷ at 2 0 (length list % sharedWidth ≢ 0)
+    ∷ at 3 0 (mostRecords < length list / sharedWidth)
+    ∷ lowest 4 (fine n) noShared (sharesOf list)
+    ∷ []
+
+-- "7, 8, 9" of a script that may have merges (document 02, Nine)
+unfoldable pub sharedScriptFaults : ℕ → List ℕ → List Fault
+sharedScriptFaults n script =
+    at 7 0 (length script % stepWidth ≢ 0)
+    ∷ at 8 0 (mostSteps < length script / stepWidth)
+    ∷ lowest 9 (sharedFits n) (stepRecords .none) (listOf stepRecords script)
+    ∷ []
+
 unfoldable pub faults : Call → List Fault
 -- "Checking a list: 1 to 4"
 faults (check n list) = listFaults cubes mostVariables n list
@@ -169,6 +191,16 @@ faults (narrowFromWide n list out) =
     at 1 0 (mostVariables < n)
     ∷ at 20 0 (narrowVariables < n)
     ∷ (recordFaults cubes n list ++ (at 5 0 (length out < narrowWidth * length (cubesOf list)) ∷ []))
+-- of shared products: 1 to 4; 1 to 4, 6; 1 to 5, 7, 8, 9; and the same with 5 for work, then output (document 02, Nine)
+faults (sharedCheck n list) = sharedFaults n list
+faults (sharedValue n list a) = sharedFaults n list ++ (at 6 0 (2 ^ n ≤ a) ∷ [])
+faults (sharedRun n list script work) =
+    sharedFaults n list ++ (at 5 0 (sharedCapacity (length work) < length (sharesOf list)) ∷ sharedScriptFaults n script)
+faults (sharedSettle n list script work out) =
+    sharedFaults n list
+    ++ (at 5 0 (sharedCapacity (length work) < length (sharesOf list))
+    ∷ at 5 0 (sharedCapacity (length out) < length (sharesOf list))
+    ∷ sharedScriptFaults n script)
 
 -- ---- a refused call
 
@@ -196,6 +228,18 @@ pub record Stopped (n : ℕ) (list script work : List ℕ) (r : Refusal) : Type 
   -- the third answer: at 16 to 19 the number of variables below n in which the step's two cubes have different codes there, else 0
   pub third : r .differing ≡ thirdAnswer n (getD (stepsOf script) (r .place) (drop 0 0)) (steps .between) (r .number)
 
+-- the same of a script on shared products (document 02, Nine)
+abbrev pub SharedStepStops : (n : ℕ) (list script work : List ℕ) → StepRefusal → ℕ → Type 0
+SharedStepStops n list script work why k = SharedRefused n (sharedCapacity (length work)) (sharedStepsOf script) (sharesOf list) why k
+
+pub record SharedStopped (n : ℕ) (list script work : List ℕ) (r : Refusal) : Type 0 where
+  pub steps : SharedStepStops n list script work (ofStep r) (r .place)
+  -- why, in the list as it stands before that step; its number is 10, 11, 13, one of 16 to 19, 22 or 23
+  pub why : SharedStepRefused n (sharedCapacity (length work)) (getD (sharedStepsOf script) (r .place) (plain (drop 0 0))) (steps .between) (ofStep r)
+  pub number : byShared (r .number) ≡ true
+  -- the third answer: at 16 to 19 the number of variables in which the cubes of the step's two products differ, else 0
+  pub third : r .differing ≡ sharedThird n (getD (sharedStepsOf script) (r .place) (plain (drop 0 0))) (steps .between) (r .number)
+
 -- found at a step, where nothing before the steps was wrong: "leaves every byte of the work buffer zero and the output untouched"
 pub data RefusedAtStep (r : Refusal) (buffers : List (List ℕ)) : Call → Type 0 where
   in-run : (n : ℕ) (list script work : List ℕ) → NoneWrong (faults (run n list script work)) → Stopped n list script work r
@@ -205,3 +249,7 @@ pub data RefusedAtStep (r : Refusal) (buffers : List (List ℕ)) : Call → Type
       → buffers ≡ zeros (length work) ∷ zeros (length index) ∷ zeros groupCount ∷ [] → RefusedAtStep r buffers (runIndexed n list script work index starts)
   in-settle : (n : ℕ) (list script work out : List ℕ) → NoneWrong (faults (settle n list script work out)) → Stopped n list script work r
       → buffers ≡ zeros (length work) ∷ out ∷ [] → RefusedAtStep r buffers (settle n list script work out)
+  in-shared-run : (n : ℕ) (list script work : List ℕ) → NoneWrong (faults (sharedRun n list script work)) → SharedStopped n list script work r
+      → buffers ≡ zeros (length work) ∷ [] → RefusedAtStep r buffers (sharedRun n list script work)
+  in-shared-settle : (n : ℕ) (list script work out : List ℕ) → NoneWrong (faults (sharedSettle n list script work out)) → SharedStopped n list script work r
+      → buffers ≡ zeros (length work) ∷ out ∷ [] → RefusedAtStep r buffers (sharedSettle n list script work out)

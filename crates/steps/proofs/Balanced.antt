@@ -117,7 +117,7 @@ module _ {A : Type 0} (Fine : A → Type 0) (Fair : (A → Bool) → Type 0) whe
   sound-made d l m room i j x s a e =
       (applied-all d l m room i j Fine x (s .places) (s .good) a e, λ w fair. applied-sum d l m room i j w x (s .places) (s .balanced w fair) e)
 
--- ---- a move of records that carry others: cubes carry cubes moved by an order; and request Nine, whose products carry a cube, waits for the laws of soundness
+-- ---- a move of records that carry others: cubes carry cubes moved by an order, and shared products a cube with its outputs
 
 module _ {A B : Type 0} (f : A → B) where
   abbrev pub mapAfter : After A → After B

@@ -3,7 +3,7 @@
 use mathlib.Core.Path.{ap₂}
 use borrow.Author.Needs.{needs}
 use Rattle.druthmoy.specs.Faces.{words, withStart}
-use Rattle.druthmoy.proofs.Words.{words-of}
+use Rattle.words.proofs.Words.{words-of}
 use Rattle.druthmoy.proofs.dm_group.Statement.{statement}
 use Rattle.druthmoy.proofs.dm_group.Tie as tie
 

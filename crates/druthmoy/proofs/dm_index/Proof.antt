@@ -2,7 +2,8 @@
 -- Assumes nothing.
 use borrow.Author.Needs.{needs}
 use Rattle.druthmoy.specs.Faces.{words}
-use Rattle.druthmoy.proofs.Words.{words-of, starts-built}
+use Rattle.words.proofs.Words.{words-of}
+use Rattle.druthmoy.proofs.Starts.{starts-built}
 use Rattle.druthmoy.proofs.dm_index.Statement.{statement}
 use Rattle.druthmoy.proofs.dm_index.Tie as tie
 

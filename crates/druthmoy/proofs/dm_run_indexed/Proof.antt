@@ -3,7 +3,8 @@
 use mathlib.Core.Logic.{⊎-elim}
 use borrow.Author.Needs.{needs}
 use Rattle.druthmoy.specs.Faces.{words}
-use Rattle.druthmoy.proofs.Words.{words-of, starts-written, starts-left}
+use Rattle.words.proofs.Words.{words-of}
+use Rattle.druthmoy.proofs.Starts.{starts-written, starts-left}
 use Rattle.druthmoy.proofs.dm_run_indexed.Statement.{statement}
 use Rattle.druthmoy.proofs.dm_run_indexed.Tie as tie
 

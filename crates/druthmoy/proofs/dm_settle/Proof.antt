@@ -1,7 +1,7 @@
 -- `dm_settle` meets its contract.
 -- Assumes nothing.
 use Rattle.druthmoy.specs.Faces.{settledWords}
-use Rattle.druthmoy.proofs.Words.{words-of}
+use Rattle.words.proofs.Words.{words-of}
 use borrow.Author.Needs.{needs}
 use Rattle.druthmoy.proofs.dm_settle.Statement.{statement}
 use Rattle.druthmoy.proofs.dm_settle.Tie as tie

@@ -1,7 +1,7 @@
 -- `dm_wide_from_narrow` meets its contract.
 -- Assumes nothing.
 use Rattle.druthmoy.specs.Faces.{words}
-use Rattle.druthmoy.proofs.Words.{words-of}
+use Rattle.words.proofs.Words.{words-of}
 use borrow.Author.Needs.{needs}
 use Rattle.druthmoy.proofs.dm_wide_from_narrow.Statement.{statement}
 use Rattle.druthmoy.proofs.dm_wide_from_narrow.Tie as tie

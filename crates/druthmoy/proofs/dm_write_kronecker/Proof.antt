@@ -1,7 +1,7 @@
 -- `dm_write_kronecker` meets its contract.
 -- Assumes nothing.
 use Rattle.druthmoy.specs.Faces.{words}
-use Rattle.druthmoy.proofs.Words.{words-of}
+use Rattle.words.proofs.Words.{words-of}
 use borrow.Author.Needs.{needs}
 use Rattle.druthmoy.proofs.dm_write_kronecker.Statement.{statement}
 use Rattle.druthmoy.proofs.dm_write_kronecker.Tie as tie
