@@ -1,4 +1,5 @@
-/* Druthmoy: cube lists, scripts, fixed-polarity forms, expansion trees, Kronecker forms, indexes, and settling a map.
+/* Druthmoy: cube lists, shared lists, scripts, fixed-polarity forms, expansion trees, Kronecker forms, indexes, and settling a
+ * map.
  *
  * A number of variables n, a count of records, an assignment a and a polarity p are uint64_t; bit k of a and of p stands for
  * variable k.
@@ -7,7 +8,11 @@
  * where a literal stands; value holds 0 for the complemented literal, 1 for the plain one. At most 4,096 records.
  *
  * An old list is of narrow records, 4 bytes each: two bytes "seen", two bytes "value". Only dm_wide_from_narrow takes one;
- * a list has no header, so every other call reads the bytes of an old list as records of 8.
+ * a list has no header, so every other call reads the bytes of an old list as records of its own width.
+ *
+ * A shared list has products for 32 outputs. Its records are 12 bytes each: the 8 bytes of the cube, then four bytes of
+ * outputs, little-endian, bit k for output k; some bit is set. At most 4,096 records. The dm_shared_ calls take one, and no
+ * other call does.
  *
  * A script is steps end to end, 8 bytes each: operation, variable v, place i (2 bytes, little-endian), place j (2 bytes,
  * little-endian), literal, zero. Fields that an operation does not use are zero. At most 1,024 steps.
@@ -17,6 +22,10 @@
  *     3 split   v, i       of the two codes that i does not have at v, the lower stays at i, the higher is appended
  *     4 turn    v, i, j    they differ in two variables, v one of them: i gets the third at v, j the third at the other
  *     5 L       v, literal in every cube, at v, that literal and none are exchanged; undone when the last step is done
+ *     6 merge   i, j       in a shared list alone: equal cubes, different outputs: i gets the EXOR of the outputs, j is removed
+ *
+ * In a shared list the two products of a drop, a join or a turn also need equal outputs; a join keeps them, a split gives both
+ * halves those of i, and L looks at cubes alone.
  *
  * A truth vector is 2^n bytes, each 0 or 1, indexed by assignment; coefficients are 2^n bytes, each 0 or 1, indexed by
  * the set of variables. A set bit k of a polarity means that variable k appears only complemented.
@@ -25,13 +34,14 @@
  * of each group, 0 to 32 literals, counted in entries, as uint64_t[DM_STARTS]. An empty group has the start of the next one, and
  * where none comes after it, the count.
  *
- * The limit of n is 32 for check, value, reasons, run, settle, write script, compact, index, group, run indexed and narrow from
- * wide, 16 for wide from narrow, 6 for write kronecker, and 8 for the other calls.
+ * The limit of n is 32 for check, value, reasons, run, settle, write script, compact, index, group, run indexed, the calls of
+ * shared lists and narrow from wide, 16 for wide from narrow, 6 for write kronecker, and 8 for the other calls.
  *
  * A buffer is passed as a pointer and a length in bytes. Pointers are not null, even where a length is 0, need no
  * alignment (but answer and starts, which are aligned as uint64_t is), and no buffer that a call writes overlaps another
  * argument.
- * The capacity of a work or output buffer for records is its length divided by 8, rounded down, and at most 4,096.
+ * The capacity of a work or output buffer for records is its length divided by 8, or by 12 for those of a shared list, rounded
+ * down, and at most 4,096.
  *
  * Every call fills all eight words of `answer`:
  *
@@ -45,9 +55,11 @@
  * none.
  *
  *     DM_N                1   n above the call's limit                                    place 0
- *     DM_LIST_LENGTH      2   list length not a multiple of 8 (of 4 for an old list)      place 0
+ *     DM_LIST_LENGTH      2   list length not a multiple of 8 (of 4 for an old list,
+ *                             of 12 for a shared list)                                    place 0
  *     DM_LIST_RECORDS     3   more than 4,096 records, or a count above 4,096             place 0
- *     DM_RECORD           4   a value bit outside seen, or a seen bit at or above n       the lowest such record
+ *     DM_RECORD           4   a value bit outside seen, or a seen bit at or above n;
+ *                             in a shared list, also outputs zero                         the lowest such record
  *     DM_BUFFER           5   capacity or length of a written buffer too small,
  *                             or length of a lent index                                   place 0
  *     DM_ASSIGNMENT       6   assignment has a bit at or above n                          place 0
@@ -67,13 +79,16 @@
  *     DM_TURN_AGREE      19   turn at a variable where the cubes agree, number two        the step
  *     DM_NARROW_N        20   n above 16, the variables of a narrow record                place 0
  *     DM_GROUP           21   a number of literals above 32                               place 0
+ *     DM_OUTPUTS         22   outputs that must be equal and aren't                       the step
+ *     DM_MERGE           23   merge of cubes that differ, or of equal outputs             the step
  *     DM_INDEX           25   a lent index that is not this list's                        the first wrong entry
  *                             else, its starts are not                                    the first wrong group
  *
  * What a refusal leaves behind: 1 to 9, 14, 15, 20, 21 and 25 are found before anything is written, and every buffer but
- * `answer` is as it was. 10, 11, 13 and 16 to 19 are found at a step (run, settle and run indexed only): then every byte of
- * `work` is zero, and so is every byte of `index` and every word of `starts`, and `out` is as it was. Lists, vectors and
- * coefficients are only read, and so are scripts, but by write script, and an index and its starts by group.
+ * `answer` is as it was. 10, 11, 13, 16 to 19, 22 and 23 are found at a step (run, settle, run indexed, shared run and shared
+ * settle only; 22 and 23 in the last two): then every byte of `work` is zero, and so is every byte of `index` and every word of
+ * `starts`, and `out` is as it was. Lists, vectors and coefficients are only read, and so are scripts, but by write script, and
+ * an index and its starts by group.
  */
 #ifndef DRUTHMOY_H
 #define DRUTHMOY_H
@@ -107,6 +122,8 @@ enum dm_refusal {
     DM_TURN_AGREE = 19,
     DM_NARROW_N = 20,
     DM_GROUP = 21,
+    DM_OUTPUTS = 22,
+    DM_MERGE = 23,
     DM_INDEX = 25
 };
 
@@ -310,6 +327,46 @@ void dm_run_indexed(uint64_t n,
                     uint8_t *index, size_t index_length,
                     uint64_t *starts,
                     uint64_t *answer);
+
+/* Tests a shared list. answer[2]: the number of its records.
+ * Refuses, in this order: 1, 2, 3, 4. */
+void dm_shared_check(uint64_t n,
+                     const uint8_t *list, size_t list_length,
+                     uint64_t *answer);
+
+/* The values of all outputs at an assignment. answer[2]: a word of 32 bits, bit k for output k: the parity of how many of the
+ * products that carry bit k are true there. Products without it never sway it, and an output that no product carries is 0.
+ * Refuses, in this order: 1, 2, 3, 4, 6. */
+void dm_shared_value(uint64_t n,
+                     const uint8_t *list, size_t list_length,
+                     uint64_t a,
+                     uint64_t *answer);
+
+/* Runs a script on a shared list; every output keeps its value at every assignment. answer[2]: the count of the result;
+ * answer[3]: the peak, the greatest count met.
+ * Accepted: the result fills the front of work, and every other byte of work is zero.
+ * Refused with 1 to 9: work is as it was. Refused at a step, with 10, 11, 13, 16 to 19, 22 or 23: every byte of work is zero.
+ * Refuses, in this order: 1, 2, 3, 4, 5 (capacity of work below the given count), 7, 8, 9; then steps in turn,
+ * each 10, 11, then 16 to 19 (18 before 19), then 22, or 23, then 13. */
+void dm_shared_run(uint64_t n,
+                   const uint8_t *list, size_t list_length,
+                   const uint8_t *script, size_t script_length,
+                   uint8_t *work, size_t work_length,
+                   uint64_t *answer);
+
+/* Settles a shared list: of the script's result and the given list, the one with fewer products is burned, and where both have
+ * as many, the script's result. No form and no cost is looked at.
+ * answer[2]: given; answer[3]: peak; answer[4]: the script's result; answer[5]: burned. All are numbers of products.
+ * Accepted: the burned list fills the front of out, every other byte of out is zero, and every byte of work is zero.
+ * Refused with 1 to 9: work and out are as they were. Refused at a step, with 10, 11, 13, 16 to 19, 22 or 23: every byte of
+ * work is zero, and out is as it was.
+ * Refuses as dm_shared_run does; 5 tests work, then out, against the given count. */
+void dm_shared_settle(uint64_t n,
+                      const uint8_t *list, size_t list_length,
+                      const uint8_t *script, size_t script_length,
+                      uint8_t *work, size_t work_length,
+                      uint8_t *out, size_t out_length,
+                      uint64_t *answer);
 
 /* An old list as a list: the same cubes at the same places. answer[2]: their number.
  * Writes the first 8 * count bytes of out, and no other byte; a refusal writes none.

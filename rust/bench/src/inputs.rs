@@ -118,6 +118,26 @@ pub fn splits_and_joins(steps: usize, half: usize, n: usize) -> Vec<u8> {
         .collect()
 }
 
+/// The same by turns with no L step.
+pub fn joins_and_splits(steps: usize, half: usize, n: usize) -> Vec<u8> {
+    (0..steps)
+        .flat_map(
+            |k| if k % 2 == 0 { step(2, 0, k / 2, k / 2 + half, 0) } else { step(3, k % n, half - 1 - k / 2, 0, 0) },
+        )
+        .collect()
+}
+
+/// Merges of places k and k + `half`, whose cubes are equal.
+pub fn merges(steps: usize, half: usize) -> Vec<u8> {
+    (0..steps).flat_map(|k| step(6, 0, k, k + half, 0)).collect()
+}
+
+/// The shared list with the cubes of a list, and with these outputs at each place.
+pub fn shared_list(list: &[u8], outputs: impl Fn(usize) -> u32) -> Vec<u8> {
+    let records = list.as_chunks::<8>().0.iter().enumerate();
+    records.flat_map(|(place, cube)| [&cube[..], &outputs(place).to_le_bytes()].concat()).collect()
+}
+
 pub fn step(op: u8, v: usize, i: usize, j: usize, literal: usize) -> [u8; 8] {
     let ([i, i_high], [j, j_high]) = ((i as u16).to_le_bytes(), (j as u16).to_le_bytes());
     [op, v as u8, i, i_high, j, j_high, literal as u8, 0]

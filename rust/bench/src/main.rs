@@ -12,6 +12,7 @@ mod indexing;
 mod inputs;
 mod measure;
 mod plain;
+mod sharing;
 mod table;
 mod writer;
 
@@ -46,6 +47,7 @@ fn main() {
     writer::rows(&mut highest);
     compactor::rows(&mut highest);
     indexing::rows(&mut highest);
+    sharing::rows(&mut highest);
     println!("\nHighest ratio: {highest:.2}");
     writer::passes();
     compactor::beside_no_pair();

@@ -4,8 +4,9 @@ use crate::measure;
 use crate::plain::Words;
 use std::hint::black_box;
 
-/// Bytes of a buffer of the greatest useful length.
+/// Bytes of a buffer of the greatest useful length: for a list, and for a shared one.
 const BUFFER: usize = 8 * 4096;
+const SHARED_BUFFER: usize = 12 * 4096;
 
 /// A run whose last step is a drop of unequal cubes.
 pub const REFUSED: &str = "run, refused";
@@ -32,19 +33,42 @@ pub fn row(
     plain: impl Fn(&mut [u8], &mut [u8]) -> Words,
     straightforward: Straightforward<impl Fn(&mut [u8], &mut [u8]) -> Words>,
 ) {
+    row_in(BUFFER, highest, (call, size), library, plain, straightforward);
+}
+
+/// The same for a call on a shared list, where the library's way is the straightforward one.
+pub fn shared_row(
+    highest: &mut f64,
+    call: &str,
+    size: &str,
+    library: impl Fn(&mut [u8], &mut [u8]) -> Words,
+    plain: impl Fn(&mut [u8], &mut [u8]) -> Words,
+) {
+    row_in(SHARED_BUFFER, highest, (call, size), library, plain, SAME_WAY);
+}
+
+/// With buffers of so many bytes.
+fn row_in(
+    buffer: usize,
+    highest: &mut f64,
+    (call, size): (&str, &str),
+    library: impl Fn(&mut [u8], &mut [u8]) -> Words,
+    plain: impl Fn(&mut [u8], &mut [u8]) -> Words,
+    straightforward: Straightforward<impl Fn(&mut [u8], &mut [u8]) -> Words>,
+) {
     let (another, without) = match straightforward {
         Straightforward::Another(another) => (Some(another), ""),
         Straightforward::Same => (None, "the same"),
         Straightforward::NotMeasured => (None, "–"),
     };
-    let expected = outcome(&library);
+    let expected = outcome(buffer, &library);
     assert_eq!(expected.0[0], if call == REFUSED { 16 } else { 0 }, "{call}, {size}");
-    assert!(expected == outcome(&plain), "{call}, {size}: plain Rust differs");
+    assert!(expected == outcome(buffer, &plain), "{call}, {size}: plain Rust differs");
     if let Some(another) = &another {
-        assert!(expected == outcome(another), "{call}, {size}: the straightforward way differs");
+        assert!(expected == outcome(buffer, another), "{call}, {size}: the straightforward way differs");
     }
 
-    let (library, plain, another) = medians(library, plain, another);
+    let (library, plain, another) = medians_in(buffer, library, plain, another);
     let ratio = library / plain;
     *highest = highest.max(ratio);
     let straightforward = another.map_or(without.to_string(), time);
@@ -57,7 +81,17 @@ pub fn medians<A, B, C>(
     second: impl Fn(&mut [u8], &mut [u8]) -> B,
     third: Option<impl Fn(&mut [u8], &mut [u8]) -> C>,
 ) -> (f64, f64, Option<f64>) {
-    measure::medians((0..PLACEMENTS).map(Buffers::placed), lent(first), lent(second), third.map(lent))
+    medians_in(BUFFER, first, second, third)
+}
+
+fn medians_in<A, B, C>(
+    buffer: usize,
+    first: impl Fn(&mut [u8], &mut [u8]) -> A,
+    second: impl Fn(&mut [u8], &mut [u8]) -> B,
+    third: Option<impl Fn(&mut [u8], &mut [u8]) -> C>,
+) -> (f64, f64, Option<f64>) {
+    let placements = (0..PLACEMENTS).map(|placement| Buffers::placed(buffer, placement));
+    measure::medians(placements, lent(first), lent(second), third.map(lent))
 }
 
 fn lent<T>(call: impl Fn(&mut [u8], &mut [u8]) -> T) -> impl Fn(&mut Buffers) {
@@ -68,8 +102,8 @@ fn lent<T>(call: impl Fn(&mut [u8], &mut [u8]) -> T) -> impl Fn(&mut Buffers) {
 }
 
 /// The words and both buffers after one call.
-fn outcome(call: &impl Fn(&mut [u8], &mut [u8]) -> Words) -> (Words, Vec<u8>, Vec<u8>) {
-    let (mut work, mut out) = (vec![7; BUFFER], vec![7; BUFFER]);
+fn outcome(buffer: usize, call: &impl Fn(&mut [u8], &mut [u8]) -> Words) -> (Words, Vec<u8>, Vec<u8>) {
+    let (mut work, mut out) = (vec![7; buffer], vec![7; buffer]);
     let answer = call(&mut work, &mut out);
     (answer, work, out)
 }
@@ -81,17 +115,18 @@ const PLACEMENTS: usize = if cfg!(feature = "standin") { 1 } else { 9 };
 struct Buffers {
     memory: [Vec<u8>; 2],
     start: usize,
+    length: usize,
 }
 
 impl Buffers {
     /// Each placement is 472 bytes further on, so that nine of them are spread over a page.
-    fn placed(placement: usize) -> Buffers {
-        Buffers { memory: [vec![7; BUFFER + 4096], vec![7; BUFFER + 4096]], start: 472 * placement }
+    fn placed(length: usize, placement: usize) -> Buffers {
+        Buffers { memory: [vec![7; length + 4096], vec![7; length + 4096]], start: 472 * placement, length }
     }
 
     fn lent(&mut self) -> (&mut [u8], &mut [u8]) {
         let [work, out] = &mut self.memory;
-        (&mut work[self.start..][..BUFFER], &mut out[self.start..][..BUFFER])
+        (&mut work[self.start..][..self.length], &mut out[self.start..][..self.length])
     }
 }
 

@@ -41,7 +41,7 @@ pub fn broken_in(case: &Case, place: usize) -> Vec<u64> {
 /// In the order of [`AT_A_STEP`]. Past the end of the list stands the product with no literal, as it does in a cleared
 /// buffer, so that a step at such a place can also break the rules on cubes. Of 19 only "a variable where the cubes agree"
 /// is looked at, whatever the number of differing variables.
-fn broken(list: &[Cube], step: Step, capacity: usize) -> Vec<u64> {
+pub fn broken(list: &[Cube], step: Step, capacity: usize) -> Vec<u64> {
     let outside = |place: usize| place >= list.len();
     let cube = |place: usize, like: usize| match list.get(place).or(list.get(like)) {
         Some(cube) if outside(place) => vec![2; cube.len()],

@@ -2,7 +2,7 @@
 
 use crate::differ::{After, Call, Case};
 use crate::lent::{Lent, LentStarts};
-use druthmoy::{Fixed, Index, Indexed, Kronecker, Refusal, Run, Settled, Tree, Value, Written, words};
+use druthmoy::{Fixed, Index, Indexed, Kronecker, Refusal, Run, Settled, SharedSettled, Tree, Value, Written, words};
 use model::calls::{self, Outcome};
 use model::cube::PLACE;
 use model::index::Starts;
@@ -50,6 +50,10 @@ fn modelled(case: &Case, on: Buffers) -> Outcome {
         Call::Index => calls::index(n, input, out, starts),
         Call::Group => calls::group(n, input, out, starts, number),
         Call::RunIndexed => calls::run_indexed(n, input, script, work, out, starts),
+        Call::SharedCheck => calls::shared_check(n, input),
+        Call::SharedValue => calls::shared_value(n, input, number),
+        Call::SharedRun => calls::shared_run(n, input, script, work),
+        Call::SharedSettle => calls::shared_settle(n, input, script, work, out),
         Call::WideFromNarrow => calls::wide_from_narrow(n, input, out),
         Call::NarrowFromWide => calls::narrow_from_wide(n, input, out),
     }
@@ -96,6 +100,10 @@ fn answered(case: &Case, input: &[u8], on: Buffers) -> words::Words {
         Call::Index => words::index(n, input, out, starts),
         Call::Group => words::group(n, input, out, starts, number),
         Call::RunIndexed => words::run_indexed(n, input, script, work, out, starts),
+        Call::SharedCheck => words::shared_check(n, input),
+        Call::SharedValue => words::shared_value(n, input, number),
+        Call::SharedRun => words::shared_run(n, input, script, work),
+        Call::SharedSettle => words::shared_settle(n, input, script, work, out),
         Call::WideFromNarrow => words::wide_from_narrow(n, input, out),
         Call::NarrowFromWide => words::narrow_from_wide(n, input, out),
     }
@@ -107,6 +115,7 @@ pub fn by_names(case: &Case) -> After {
         let mut answer = [0; 8];
         let named = match case.call {
             Call::Index | Call::Group | Call::RunIndexed => named_of_index(case, on),
+            call if call.is_shared() => named_of_shared(case, on),
             _ => named(case, on),
         };
         match named {
@@ -139,9 +148,9 @@ fn named(case: &Case, on: Buffers) -> Result<Vec<u64>, Refusal> {
         Call::WriteScript => druthmoy::write_script(n, input, work, script)
             .map(|Written { steps, finished }| vec![steps, finished as u64]),
         Call::Compact => druthmoy::compact(n, number, script, out).map(one),
-        Call::Index | Call::Group | Call::RunIndexed => unreachable!("a call of an index"),
         Call::WideFromNarrow => druthmoy::wide_from_narrow(n, input, out).map(one),
         Call::NarrowFromWide => druthmoy::narrow_from_wide(n, input, out).map(one),
+        _ => unreachable!("a call of an index or of a shared list"),
     }
 }
 
@@ -169,6 +178,21 @@ fn named_of_index(case: &Case, on: Buffers) -> Result<Vec<u64>, Refusal> {
             let Indexed { run, starts: kept } = druthmoy::run_indexed(*n, input, script, work, out)?;
             *starts = kept;
             Ok(vec![run.count, run.peak])
+        }
+    }
+}
+
+fn named_of_shared(case: &Case, on: Buffers) -> Result<Vec<u64>, Refusal> {
+    let Case { n, input, number, .. } = case;
+    let Buffers { script, work, out, .. } = on;
+    match case.call {
+        Call::SharedCheck => druthmoy::shared_check(*n, input).map(|count| vec![count]),
+        Call::SharedValue => druthmoy::shared_value(*n, input, *number).map(|word| vec![word.into()]),
+        Call::SharedRun => druthmoy::shared_run(*n, input, script, work).map(|Run { count, peak }| vec![count, peak]),
+        _ => {
+            let settled = druthmoy::shared_settle(*n, input, script, work, out)?;
+            let SharedSettled { given, peak, script, burned } = settled;
+            Ok(vec![given, peak, script, burned])
         }
     }
 }

@@ -10,6 +10,7 @@ use crate::index_cases;
 use crate::near_lists;
 use crate::random::Random;
 use crate::scripts;
+use crate::shared_cases;
 use crate::tree_vectors;
 use crate::undoings::with_undoings;
 use crate::vector_calls::{list, most_variables};
@@ -33,6 +34,8 @@ pub fn case(random: &mut Random, call: Call) -> Case {
         Call::Index => index_cases::index_case(random, faults),
         Call::Group => index_cases::group_case(random, faults),
         Call::RunIndexed => index_cases::run_indexed_case(random, faults),
+        Call::SharedCheck | Call::SharedValue => shared_cases::list_case(random, faults, call),
+        Call::SharedRun | Call::SharedSettle => shared_cases::script_case(random, faults, call),
         Call::WideFromNarrow | Call::NarrowFromWide => converter_case(random, faults, call),
     }
 }
@@ -104,7 +107,10 @@ pub fn script_case(random: &mut Random, faults: &Faults, call: Call) -> Case {
     let work = lent(random, RECORD * count, work_too_small);
     let out = if call == Call::Settle { lent(random, RECORD * count, out_too_small) } else { vec![] };
     let capacity = (work.len() / RECORD).clamp(count.min(RECORDS), RECORDS);
-    let script = script_bytes(random, faults, width, &cubes, capacity);
+    let script = script_bytes(random, faults, capacity - count, &AT_A_STEP, |random, length, mistake| {
+        encoded_script(&scripts::script(random, width, &cubes, capacity, length, mistake))
+    });
+    let script = damaged_script(random, faults, call, width, script);
     let input = list_bytes(random, faults, width, RECORD, encoded_list(&cubes));
     Case { input, script, work, out, ..empty(call, n) }
 }
@@ -164,7 +170,7 @@ fn compact_case(random: &mut Random, faults: &Faults) -> Case {
         false => idle_scripts::length(random, usize::from(faults.has(5))),
     };
     let steps = encoded_script(&idle_scripts::script(random, width, count, length));
-    let script = damaged_script(random, faults, width, steps);
+    let script = damaged_script(random, faults, Call::Compact, width, steps);
     let out = lent(random, script.len(), faults.has(5));
     Case { number, script, out, ..empty(Call::Compact, n) }
 }
@@ -225,7 +231,7 @@ fn fewer_variables(random: &mut Random) -> usize {
 
 pub fn count(random: &mut Random, faults: &Faults) -> usize {
     let least = match faults.at_a_step() {
-        Some(16..=19) => 2,
+        Some(16..=19 | 22 | 23) => 2,
         Some(_) => 1,
         None => usize::from(faults.has(4) || faults.has(5)),
     };
@@ -272,7 +278,15 @@ fn change(random: &mut Random, cube: &mut Cube, apart: usize) {
     }
 }
 
-fn script_bytes(random: &mut Random, faults: &Faults, width: usize, cubes: &[Cube], capacity: usize) -> Vec<u8> {
+/// The bytes of a script, before it is damaged. Splits fill the work buffer up after so many; the refusals at a step are these; and the steps of a
+/// script of some length, one of them refused, are written as it is said.
+pub fn script_bytes(
+    random: &mut Random,
+    faults: &Faults,
+    room: usize,
+    refusals: &[u64],
+    written: impl FnOnce(&mut Random, usize, Option<u64>) -> Vec<u8>,
+) -> Vec<u8> {
     let length = match random.below(100) {
         0 => STEPS - if random.one_in(2) { 0 } else { random.below(800) },
         1..=15 => random.between(9, 64),
@@ -280,17 +294,15 @@ fn script_bytes(random: &mut Random, faults: &Faults, width: usize, cubes: &[Cub
         _ => random.between(1, 8),
     };
     // Room to fill the buffer up, where a split is to find it full.
-    let length = if faults.has(13) { length.max((capacity - cubes.len()).min(40) + 1) } else { length };
-    let bytes = if faults.has(8) {
+    let length = if faults.has(13) { length.max(room.min(40) + 1) } else { length };
+    if faults.has(8) {
         let steps = STEPS + random.between(1, 3);
-        random.bytes(STEP * steps)
-    } else {
-        // 9 is tested before any step is done, also where a step before it would be refused.
-        let before_9 = faults.has(9).then(|| random.pick(&AT_A_STEP));
-        let mistake = faults.at_a_step().or(before_9.filter(|_| random.one_in(2)));
-        encoded_script(&scripts::script(random, width, cubes, capacity, length, mistake))
-    };
-    damaged_script(random, faults, width, bytes)
+        return random.bytes(STEP * steps);
+    }
+    // 9 is tested before any step is done, also where a step before it would be refused.
+    let before_9 = faults.has(9).then(|| random.pick(refusals));
+    let mistake = faults.at_a_step().or(before_9.filter(|_| random.one_in(2)));
+    written(random, length, mistake)
 }
 
 /// Bits by chance, few ones, or the coefficients of a function of few variables.
@@ -313,7 +325,7 @@ fn bits(random: &mut Random, width: usize) -> Vec<u8> {
 }
 
 /// An assignment; in half of the cases one of the products is true there.
-fn assignment(random: &mut Random, faults: &Faults, width: usize, cubes: &[Cube]) -> u64 {
+pub fn assignment(random: &mut Random, faults: &Faults, width: usize, cubes: &[Cube]) -> u64 {
     let any = pattern(random, width, faults.has(6));
     if cubes.is_empty() || random.one_in(2) {
         return any;
@@ -340,12 +352,17 @@ fn pattern(random: &mut Random, width: usize, wrong: bool) -> u64 {
 /// A buffer with garbage in it, for a call that needs so many bytes: as long, longer by bytes or records, longer than
 /// any capacity, or too short.
 pub fn lent(random: &mut Random, needed: usize, too_small: bool) -> Vec<u8> {
+    lent_for(random, RECORD, needed, too_small)
+}
+
+/// The same, for records of so many bytes.
+pub fn lent_for(random: &mut Random, record: usize, needed: usize, too_small: bool) -> Vec<u8> {
     let length = match random.below(40) {
         _ if too_small && needed > 0 => needed - if random.one_in(2) { 1 } else { random.between(1, needed) },
-        _ if needed > RECORD * 4000 && random.one_in(2) => RECORD * RECORDS + random.below(100),
+        _ if needed > record * 4000 && random.one_in(2) => record * RECORDS + random.below(100),
         0..=9 => needed,
-        10..=19 => needed + random.below(RECORD),
-        _ => needed + random.below(10 * RECORD + 1),
+        10..=19 => needed + random.below(record),
+        _ => needed + random.below(10 * record + 1),
     };
     random.bytes(length)
 }

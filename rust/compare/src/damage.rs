@@ -1,10 +1,12 @@
 //! The refusals that a case would like to meet, and the bytes of lists, vectors and scripts, damaged for them.
 
-use crate::broken::AT_A_STEP;
 use crate::differ::Call;
 use crate::random::Random;
+use crate::shared_broken::AT_A_SHARED_STEP;
+use model::cube::RECORD;
 use model::refusal::ORDERS;
 use model::script::{self, STEP, STEPS};
+use model::shared::{self, SHARED_RECORD};
 
 const RECORDS: usize = 4096;
 
@@ -29,7 +31,7 @@ impl Faults {
     }
 
     pub fn at_a_step(&self) -> Option<u64> {
-        self.0.iter().copied().find(|number| AT_A_STEP.contains(number))
+        self.0.iter().copied().find(|number| AT_A_SHARED_STEP.contains(number))
     }
 }
 
@@ -43,7 +45,7 @@ pub fn list_bytes(random: &mut Random, faults: &Faults, width: usize, record: us
     if faults.has(4) {
         for _ in 0..random.between(1, 3) {
             let place = random.below(bytes.len() / record);
-            spoil(random, width, &mut bytes[record * place..][..record]);
+            spoil_record(random, width, &mut bytes[record * place..][..record]);
         }
     }
     if faults.has(2) {
@@ -57,7 +59,22 @@ pub fn list_bytes(random: &mut Random, faults: &Faults, width: usize, record: us
     bytes
 }
 
-/// Makes a record bad: a value bit outside seen, or a seen bit at or above the number of variables.
+/// Makes a record bad: of a shared list by its cube, by its outputs or by both.
+fn spoil_record(random: &mut Random, width: usize, record: &mut [u8]) {
+    if record.len() < SHARED_RECORD {
+        return spoil(random, width, record);
+    }
+    let (cube, outputs) = record.split_at_mut(RECORD);
+    let (bad_cube, no_outputs) = random.pick(&[(true, false), (false, true), (true, true)]);
+    if bad_cube {
+        spoil(random, width, cube);
+    }
+    if no_outputs {
+        outputs.fill(0);
+    }
+}
+
+/// Makes a cube's record bad: a value bit outside seen, or a seen bit at or above the number of variables.
 fn spoil(random: &mut Random, width: usize, record: &mut [u8]) {
     let bits = 4 * record.len();
     let outside = width == bits || random.one_in(2);
@@ -88,7 +105,7 @@ pub fn damaged_bits(random: &mut Random, faults: &Faults, good: Vec<u8>) -> Vec<
 }
 
 /// The bytes of a script, damaged for 9 and for 7.
-pub fn damaged_script(random: &mut Random, faults: &Faults, width: usize, good: Vec<u8>) -> Vec<u8> {
+pub fn damaged_script(random: &mut Random, faults: &Faults, call: Call, width: usize, good: Vec<u8>) -> Vec<u8> {
     let mut bytes = good;
     if faults.has(9) {
         let only_the_last = bytes.is_empty() || bytes.len() < STEP * STEPS && random.one_in(2);
@@ -98,7 +115,7 @@ pub fn damaged_script(random: &mut Random, faults: &Faults, width: usize, good: 
         let steps = bytes.len() / STEP;
         for _ in 0..random.between(1, 2) {
             let place = if only_the_last { steps - 1 } else { random.below(steps) };
-            spoil_step(random, width, &mut bytes[STEP * place..][..STEP]);
+            spoil_step(random, call, width, &mut bytes[STEP * place..][..STEP]);
         }
     }
     if faults.has(7) {
@@ -109,13 +126,18 @@ pub fn damaged_script(random: &mut Random, faults: &Faults, width: usize, good: 
 }
 
 /// Changes one byte of a step so that it breaks rule 9.
-fn spoil_step(random: &mut Random, width: usize, step: &mut [u8]) {
+fn spoil_step(random: &mut Random, call: Call, width: usize, step: &mut [u8]) {
     loop {
         let mut spoiled = step.to_vec();
         let any = random.next() as u8;
-        spoiled[random.below(STEP)] = random.pick(&[0, 1, 2, 6, width as u8, width as u8 + 1, 255, any]);
-        if script::decoded(width, &spoiled).is_none() {
+        spoiled[random.below(STEP)] = random.pick(&[0, 1, 2, 6, 7, width as u8, width as u8 + 1, 255, any]);
+        if !is_well_formed(call, width, &spoiled) {
             return step.copy_from_slice(&spoiled);
         }
     }
+}
+
+/// Whether a step keeps rule 9.
+pub fn is_well_formed(call: Call, width: usize, step: &[u8]) -> bool {
+    if call.is_shared() { shared::decoded_step(width, step).is_some() } else { script::decoded(width, step).is_some() }
 }

@@ -5,10 +5,12 @@ use crate::compacted::once_more;
 use crate::kronecker_lists::beside_choices;
 use crate::replays::replay;
 use crate::searches::{beside_run, beside_search, each_group};
+use crate::shared_values::{beside_plain_values, keeps_values};
 use crate::starts;
 use crate::tree_lists::beside_vector;
 use model::cube::{Cube, RECORD, decoded};
 use model::index::Starts;
+use model::shared::{self, SHARED_RECORD, Shared};
 use std::fmt;
 
 /// The calls, in the order of `model::refusal::ORDERS`.
@@ -31,12 +33,16 @@ pub enum Call {
     Index,
     Group,
     RunIndexed,
+    SharedCheck,
+    SharedValue,
+    SharedRun,
+    SharedSettle,
     WideFromNarrow,
     NarrowFromWide,
 }
 
 impl Call {
-    pub const ALL: [Call; 19] = [
+    pub const ALL: [Call; 23] = [
         Call::Check,
         Call::Value,
         Call::Reasons,
@@ -54,9 +60,18 @@ impl Call {
         Call::Index,
         Call::Group,
         Call::RunIndexed,
+        Call::SharedCheck,
+        Call::SharedValue,
+        Call::SharedRun,
+        Call::SharedSettle,
         Call::WideFromNarrow,
         Call::NarrowFromWide,
     ];
+
+    /// Whether it takes a shared list.
+    pub fn is_shared(self) -> bool {
+        matches!(self, Call::SharedCheck | Call::SharedValue | Call::SharedRun | Call::SharedSettle)
+    }
 }
 
 /// What goes into a call. Fields that a call does not take are left empty.
@@ -64,7 +79,7 @@ impl Call {
 pub struct Case {
     pub call: Call,
     pub n: u64,
-    /// The list, old or not, the truth vector or the coefficients.
+    /// The list, old, shared or neither, the truth vector or the coefficients.
     pub input: Vec<u8>,
     /// The assignment, the polarity, the count or the number of literals.
     pub number: u64,
@@ -89,6 +104,12 @@ impl Case {
     pub fn cubes(&self) -> Vec<Cube> {
         self.input.chunks(RECORD).filter_map(|record| decoded(self.n as usize, record)).collect()
     }
+
+    /// The products of the shared list, without the bad ones.
+    pub fn products(&self) -> Shared {
+        let records = self.input.chunks_exact(SHARED_RECORD);
+        records.filter_map(|record| shared::decoded(self.n as usize, record)).collect()
+    }
 }
 
 /// What comes out of a call.
@@ -103,7 +124,8 @@ pub struct After {
 
 /// Compares one case three ways: the library's words, its named answers, the model; reasons with value; a tree's list with its
 /// vector and with the best polarity; a Kronecker form's with these and with all choices; a written script with its run; a compacted one with the given one and with itself
-/// compacted; an index with its groups, a group with a search, a run with an index with the one without. Answers the words.
+/// compacted; an index with its groups, a group with a search, a run with an index with the one without; the values of a shared list with those of
+/// plain lists, and before a script with those after it. Answers the words.
 pub fn compare(case: &Case) -> Result<[u64; 8], String> {
     compared(case).map(|after| after.answer)
 }
@@ -132,6 +154,8 @@ pub fn compared(case: &Case) -> Result<After, String> {
         Call::Index => each_group(case, &expected)?,
         Call::Group => beside_search(case, &expected)?,
         Call::RunIndexed => beside_run(case, &expected)?,
+        Call::SharedValue => beside_plain_values(case, &expected)?,
+        Call::SharedRun | Call::SharedSettle => keeps_values(case, &expected)?,
         _ => {}
     }
     Ok(expected)

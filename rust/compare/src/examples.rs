@@ -5,6 +5,7 @@ use crate::differ::{Call, Case, compare, empty};
 use crate::easy_examples;
 use crate::index_examples;
 use crate::kronecker_examples;
+use crate::shared_examples;
 use crate::tree_examples;
 use model::cube::{RECORD, encoded_list, encoded_narrow_list, read};
 use model::script::Step::{self, Drop, Join, L, Split, Turn};
@@ -24,6 +25,7 @@ pub fn all() -> Result<(), String> {
         easy_examples::all(),
         compact_examples::all(),
         index_examples::all(),
+        shared_examples::all(),
         limits(),
         too_many_variables(),
         long_labels(),

@@ -4,6 +4,7 @@ use crate::differ::{Call, Case, compare, compared, empty};
 use crate::exhaustive;
 use crate::indexes::Indexes;
 use crate::per_record::PerRecord;
+use crate::sets::each_set;
 use crate::writer::lists_over;
 use model::cube::{PLACE, RECORD, encoded_list, encoded_places};
 use model::index::Starts;
@@ -21,21 +22,6 @@ pub fn all() -> Result<(), String> {
 }
 
 const INDEX: PerRecord = PerRecord { call: Call::Index, limit: 32, from: RECORD, to: PLACE, far: &[15, 16, 31] };
-
-/// Makes a call with each set of faults: the answer is the first of their order.
-fn each_set<const N: usize>(of: &str, order: [u64; N], with: impl Fn([bool; N]) -> Case) -> Result<(), String> {
-    for set in 0..1u32 << N {
-        let has = |k: usize| set >> k & 1 == 1;
-        let case = with(std::array::from_fn(has));
-        let expected = (0..N).find(|&k| has(k)).map_or(0, |k| order[k]);
-        let answer = compare(&case)?;
-        if answer[0] != expected {
-            return Err(format!("with {expected} first the answer is {answer:?}\n{case}"));
-        }
-    }
-    println!("{of}: all {} sets of the faults {order:?}", 1 << N);
-    Ok(())
-}
 
 /// 25 by a wrong entry, by a wrong start and by both.
 fn group_faults_together() -> Result<(), String> {

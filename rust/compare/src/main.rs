@@ -56,6 +56,20 @@ mod refused_steps;
 mod replays;
 mod scripts;
 mod searches;
+mod sets;
+mod shared_broken;
+mod shared_cases;
+mod shared_examples;
+mod shared_faults;
+mod shared_list_rules;
+mod shared_lists;
+mod shared_outputs;
+mod shared_runs;
+mod shared_scripts;
+mod shared_settles;
+mod shared_step_rules;
+mod shared_values;
+mod shared_worlds;
 mod starts;
 mod tally;
 mod together;
@@ -84,7 +98,7 @@ fn main() -> ExitCode {
     if cfg!(feature = "standin") {
         println!("STAND-IN: the calls are answered by the model itself; nothing below speaks of the library.\n");
     }
-    let parts: [Part; 20] = [
+    let parts: [Part; 23] = [
         ("the documents' examples and limits", &examples::all),
         ("the wrapper's records", &|| records::all(seed)),
         ("random calls", &|| random_calls::all(calls as usize, seed)),
@@ -103,6 +117,9 @@ fn main() -> ExitCode {
         ("compact: faults together, short scripts", &compactor::all),
         ("index, group and run indexed: faults together, short lists, all short indexes and scripts", &indexer::all),
         ("partners for a join, by their number of literals", &|| partners::all(calls as usize, seed)),
+        ("shared lists: faults together", &shared_faults::all),
+        ("shared lists: short lists, all steps on two products, all short scripts", &shared_worlds::all),
+        ("shared lists with a product changed, added or removed", &|| shared_outputs::all(calls as usize, seed)),
         ("the converters: faults together, short lists there and back", &converters::all),
         ("published average of 5-variable functions", &|| figures::average_of_five(seed)),
         ("published averages of 5-variable functions, and their trees", &|| figures::trees_of_five(seed)),

@@ -1,9 +1,10 @@
-//! The wrapper's cubes, steps and faults against the model's: same bytes, same text, same numbers.
+//! The wrapper's cubes, products, steps and faults against the model's: same bytes, same text, same numbers.
 
 use crate::random::Random;
-use druthmoy::{Cube, Fault, Step};
+use crate::shared_cases::outputs;
+use druthmoy::{Cube, Fault, Product, Step};
 use model::refusal::ORDERS;
-use model::{cube, script};
+use model::{cube, script, shared};
 use std::collections::BTreeSet;
 
 pub fn all(seed: u64) -> Result<(), String> {
@@ -11,10 +12,13 @@ pub fn all(seed: u64) -> Result<(), String> {
     let mut random = Random::new(seed);
     for _ in 0..EACH {
         same_cube(&mut random)?;
+        same_product(&mut random)?;
         same_step(&mut random)?;
     }
     same_faults()?;
-    println!("{EACH} cubes written out, read and as records of both widths; {EACH} steps as records");
+    println!(
+        "{EACH} cubes written out, read and as records of both widths; {EACH} products and {EACH} steps as records"
+    );
     Ok(())
 }
 
@@ -47,19 +51,33 @@ fn same_cube(random: &mut Random) -> Result<(), String> {
     Ok(())
 }
 
+fn same_product(random: &mut Random) -> Result<(), String> {
+    let codes: cube::Cube = (0..random.below(33)).map(|_| random.below(3) as u8).collect();
+    let word = random.next() as u32;
+    let text = cube::written(&codes);
+    let product = Product { cube: text.parse().map_err(|error| format!("{text:?}: {error}"))?, outputs: word };
+    let modelled = shared::encoded_list(&[(codes, outputs(word))].into_iter().collect());
+    if product.record()[..] != modelled[..] || Product::from_record(product.record()) != product {
+        return Err(format!("{product:?}: the wrapper has {:?}, the model {modelled:?}", product.record()));
+    }
+    Ok(())
+}
+
 fn same_step(random: &mut Random) -> Result<(), String> {
     let (v, literal) = (random.below(32), random.below(2) as u8);
     let (i, j) = (random.below(65536), random.below(65536));
     let (v_byte, i_word, j_word) = (v as u8, i as u16, j as u16);
-    let (named, modelled) = match random.below(5) {
-        0 => (Step::Drop { i: i_word, j: j_word }, script::Step::Drop { i, j }),
-        1 => (Step::Join { i: i_word, j: j_word }, script::Step::Join { i, j }),
-        2 => (Step::Split { v: v_byte, i: i_word }, script::Step::Split { v, i }),
-        3 => (Step::Turn { v: v_byte, i: i_word, j: j_word }, script::Step::Turn { v, i, j }),
-        _ => (Step::L { v: v_byte, literal }, script::Step::L { v, literal }),
+    let plain = |step| shared::Step::Plain(step);
+    let (named, modelled) = match random.below(6) {
+        0 => (Step::Drop { i: i_word, j: j_word }, plain(script::Step::Drop { i, j })),
+        1 => (Step::Join { i: i_word, j: j_word }, plain(script::Step::Join { i, j })),
+        2 => (Step::Split { v: v_byte, i: i_word }, plain(script::Step::Split { v, i })),
+        3 => (Step::Turn { v: v_byte, i: i_word, j: j_word }, plain(script::Step::Turn { v, i, j })),
+        4 => (Step::L { v: v_byte, literal }, plain(script::Step::L { v, literal })),
+        _ => (Step::Merge { i: i_word, j: j_word }, shared::Step::Merge { i, j }),
     };
-    if named.record() != script::encoded(modelled) {
-        return Err(format!("{named:?}: {:?} and {:?}", named.record(), script::encoded(modelled)));
+    if named.record() != shared::encoded_step(modelled) {
+        return Err(format!("{named:?}: {:?} and {:?}", named.record(), shared::encoded_step(modelled)));
     }
     Ok(())
 }

@@ -1,14 +1,16 @@
 //! What the refused calls say of their steps: how many variables differed, and which rules were broken together.
 
-use crate::broken::{AT_A_STEP, TOGETHER, broken_in, can_differ_in};
+use crate::broken::{self, AT_A_STEP, TOGETHER, can_differ_in};
 use crate::differ::{Call, Case};
+use crate::shared_broken::{self, AT_A_SHARED_STEP, SHARED_TOGETHER};
 use model::refusal::ORDERS;
 use std::collections::BTreeMap;
 use std::fmt;
 use std::ops::RangeInclusive;
 
-/// The calls that do steps.
-const WITH_STEPS: [Call; 3] = [Call::Run, Call::Settle, Call::RunIndexed];
+/// The calls that do steps on plain lists, and those that do on shared ones.
+const PLAIN: [Call; 3] = [Call::Run, Call::Settle, Call::RunIndexed];
+const SHARED: [Call; 2] = [Call::SharedRun, Call::SharedSettle];
 
 /// The refusals that say how many variables differ.
 const CUBES: [u64; 4] = [16, 17, 18, 19];
@@ -33,11 +35,14 @@ impl RefusedSteps {
     pub fn add(&mut self, case: &Case, answer: &[u64; 8]) {
         let (call, [number, place, differing, ..]) = (case.call as usize, *answer);
         *self.differing.entry((call, number, differing)).or_default() += 1;
-        let at_a_step = AT_A_STEP.contains(&number);
-        if !at_a_step && number != 9 || !WITH_STEPS.contains(&case.call) {
+        let at_a_step = refusals(case.call).contains(&number);
+        if !at_a_step && number != 9 || !with_steps().any(|other| other == case.call) {
             return;
         }
-        let broken = broken_in(case, place as usize);
+        let broken = match case.call.is_shared() {
+            true => shared_broken::broken_in(case, place as usize),
+            false => broken::broken_in(case, place as usize),
+        };
         if at_a_step && broken.first() != Some(&number) {
             let difference = || format!("a step that breaks {broken:?} is answered {answer:?}\n{case}");
             self.out_of_order.get_or_insert_with(difference);
@@ -61,14 +66,14 @@ impl RefusedSteps {
                 amiss.push(format!("{}: {number} with {differing} differing met {count} times", ORDERS[call].0));
             }
         }
-        for call in WITH_STEPS {
+        for call in with_steps() {
             let name = ORDERS[call as usize].0;
             for (number, column) in CUBES.iter().flat_map(|&number| COLUMNS.map(|column| (number, column))) {
                 if can_differ_in(number, *column.end()) && self.met_differing(call, number, &column) == 0 {
                     amiss.push(format!("{name}: {number} with {} differing not met", heading(&column)));
                 }
             }
-            for (first, other) in pairs().filter(|&pair| self.met_together(call, pair) == 0) {
+            for (first, other) in pairs(call).filter(|&pair| self.met_together(call, pair) == 0) {
                 amiss.push(format!("{name}: {first} before {other} not met"));
             }
         }
@@ -85,9 +90,19 @@ impl RefusedSteps {
     }
 }
 
+fn with_steps() -> impl Iterator<Item = Call> {
+    PLAIN.into_iter().chain(SHARED)
+}
+
+/// The refusals at a step of a call.
+fn refusals(call: Call) -> &'static [u64] {
+    if call.is_shared() { &AT_A_SHARED_STEP } else { &AT_A_STEP }
+}
+
 /// What one step can break together; and 9, which is tested of all steps before the first is done.
-fn pairs() -> impl Iterator<Item = (u64, u64)> {
-    TOGETHER.into_iter().chain(AT_A_STEP.map(|number| (9, number)))
+fn pairs(call: Call) -> impl Iterator<Item = (u64, u64)> {
+    let of_shared = SHARED_TOGETHER.into_iter().filter(move |_| call.is_shared());
+    TOGETHER.into_iter().chain(of_shared).chain(refusals(call).iter().map(|&number| (9, number)))
 }
 
 fn heading(column: &RangeInclusive<u64>) -> String {
@@ -100,17 +115,21 @@ impl fmt::Display for RefusedSteps {
         writeln!(f, "refused at the first step: {}, at a later one: {}", self.at_the_first_step, self.at_a_later_step)?;
         let line = |f: &mut fmt::Formatter, name: &str, number: &str, cells: Vec<String>| {
             let cells: String = cells.iter().map(|cell| format!("{cell:>9}")).collect();
-            writeln!(f, "{name:11}{number:>14}{cells}")
+            writeln!(f, "{name:13}{number:>12}{cells}")
         };
         line(f, "differing", "refusal", COLUMNS.iter().map(heading).collect())?;
-        for (call, number) in WITH_STEPS.iter().flat_map(|&call| CUBES.map(|number| (call, number))) {
+        for (call, number) in with_steps().flat_map(|call| CUBES.map(|number| (call, number))) {
             let cells = COLUMNS.iter().map(|column| self.met_differing(call, number, column).to_string());
             line(f, ORDERS[call as usize].0, &number.to_string(), cells.collect())?;
         }
-        for first in [9, 10, 11, 18] {
-            let others: Vec<(u64, u64)> = pairs().filter(|pair| pair.0 == first).collect();
+        let firsts = [9, 10, 11, 16, 17, 18, 19];
+        for (calls, first) in [&PLAIN[..], &SHARED].iter().flat_map(|calls| firsts.map(|first| (calls, first))) {
+            let others: Vec<(u64, u64)> = pairs(calls[0]).filter(|pair| pair.0 == first).collect();
+            if others.is_empty() {
+                continue;
+            }
             line(f, "before", &first.to_string(), others.iter().map(|pair| pair.1.to_string()).collect())?;
-            for call in WITH_STEPS {
+            for &call in *calls {
                 let cells = others.iter().map(|&pair| self.met_together(call, pair).to_string());
                 line(f, ORDERS[call as usize].0, "both broken", cells.collect())?;
             }

@@ -10,10 +10,13 @@ use crate::indexes::Indexes;
 use crate::kroneckers::Kroneckers;
 use crate::labels::Labels;
 use crate::refused_steps::RefusedSteps;
+use crate::shared_lists::SharedLists;
+use crate::shared_runs::SharedRuns;
 use crate::together::{self, Together};
 use crate::trees::Trees;
 use model::cube::RECORD;
 use model::refusal::ORDERS;
+use model::shared::SHARED_RECORD;
 use std::collections::BTreeSet;
 use std::fmt;
 
@@ -22,7 +25,7 @@ pub struct Tally {
     /// By call, then by refusal number; 0 counts the accepted calls.
     answers: [[u64; 26]; ORDERS.len()],
     /// Steps of accepted runs by operation.
-    steps: [u64; 6],
+    steps: [u64; 7],
     refused_steps: RefusedSteps,
     choices: Choices,
     labels: Labels,
@@ -33,6 +36,8 @@ pub struct Tally {
     indexes: Indexes,
     groups: Groups,
     indexed_runs: IndexedRuns,
+    shared_lists: SharedLists,
+    shared_runs: SharedRuns,
     together: Together,
     /// Accepted lists of 32 variables with a literal at the last of them.
     with_the_last_variable: u64,
@@ -45,7 +50,8 @@ impl Tally {
     pub fn add(&mut self, case: &Case, answer: &[u64; 8]) {
         let number = answer[0] as usize;
         self.answers[case.call as usize][number] += 1;
-        if number == 0 && case.n == 32 && case.input.chunks(RECORD).any(|record| record[3] >= 0x80) {
+        let record = if case.call.is_shared() { SHARED_RECORD } else { RECORD };
+        if number == 0 && case.n == 32 && case.input.chunks(record).any(|record| record[3] >= 0x80) {
             self.with_the_last_variable += 1;
         }
         match case.call {
@@ -57,32 +63,41 @@ impl Tally {
             Call::Index => self.indexes.add(case, answer),
             Call::Group => self.groups.add(case, answer),
             Call::RunIndexed => self.indexed_runs.add(case, answer),
+            Call::SharedCheck | Call::SharedValue => self.shared_lists.add(case, answer),
+            Call::SharedRun | Call::SharedSettle => self.shared_runs.add(case, answer),
             _ => {}
         }
         if together::CALLS.contains(&case.call) {
             self.together.add(case, answer);
         }
-        let has_script = matches!(case.call, Call::Run | Call::Settle | Call::RunIndexed);
-        match number {
-            0 if has_script => {
-                for step in case.script.chunks(8) {
-                    self.steps[step[0] as usize] += 1;
-                }
-                self.longest_list = self.longest_list.max(case.input.len() / RECORD);
-                self.longest_script = self.longest_script.max(case.script.len() / 8);
-                self.highest_peak = self.highest_peak.max(answer[3]);
-                if case.call == Call::Settle {
-                    self.choices.add(case, answer);
-                }
-            }
-            0 => {}
-            _ => self.refused_steps.add(case, answer),
+        if number > 0 {
+            return self.refused_steps.add(case, answer);
         }
+        match case.call {
+            Call::Run | Call::RunIndexed | Call::SharedRun | Call::SharedSettle => {
+                self.add_script(case, answer, record)
+            }
+            Call::Settle => {
+                self.add_script(case, answer, record);
+                self.choices.add(case, answer);
+            }
+            _ => {}
+        }
+    }
+
+    /// Adds an accepted script, and its list of records with so many bytes.
+    fn add_script(&mut self, case: &Case, answer: &[u64; 8], record: usize) {
+        for step in case.script.chunks(8) {
+            self.steps[step[0] as usize] += 1;
+        }
+        self.longest_list = self.longest_list.max(case.input.len() / record);
+        self.longest_script = self.longest_script.max(case.script.len() / 8);
+        self.highest_peak = self.highest_peak.max(answer[3]);
     }
 
     /// The refusals that the documents give a call and that were not met, and those met that they do not give; and what
     /// is amiss with refused steps, with choices, with labels, with trees and Kronecker forms, with easy scripts and with compacted ones,
-    /// and with indexes, groups and runs with an index.
+    /// with indexes, groups and runs with an index, and with shared lists and scripts on them.
     pub fn amiss(&self) -> Vec<String> {
         let mut amiss = Vec::new();
         for ((name, numbers), answers) in ORDERS.iter().zip(&self.answers) {
@@ -106,13 +121,14 @@ impl Tally {
         amiss.extend(self.indexes.amiss());
         amiss.extend(self.groups.amiss());
         amiss.extend(self.indexed_runs.amiss());
+        amiss.extend(self.shared_lists.amiss());
+        amiss.extend(self.shared_runs.amiss());
         amiss.extend(self.together.amiss());
         amiss
     }
-}
 
-impl fmt::Display for Tally {
-    fn fmt(&self, f: &mut fmt::Formatter) -> fmt::Result {
+    /// The answers of each call.
+    fn write_table(&self, f: &mut fmt::Formatter) -> fmt::Result {
         let all: BTreeSet<u64> = ORDERS.iter().flat_map(|(_, numbers)| numbers.iter().copied()).collect();
         write!(f, "{:16} {:>8}", "refusal", "accepted")?;
         for number in &all {
@@ -130,8 +146,18 @@ impl fmt::Display for Tally {
             }
             writeln!(f, "{:>9}", answers.iter().sum::<u64>())?;
         }
-        let [_, drops, joins, splits, turns, ls] = self.steps;
-        writeln!(f, "steps of accepted scripts: {drops} drops, {joins} joins, {splits} splits, {turns} turns, {ls} L")?;
+        Ok(())
+    }
+}
+
+impl fmt::Display for Tally {
+    fn fmt(&self, f: &mut fmt::Formatter) -> fmt::Result {
+        self.write_table(f)?;
+        let [_, drops, joins, splits, turns, ls, merges] = self.steps;
+        writeln!(
+            f,
+            "steps of accepted scripts: {drops} drops, {joins} joins, {splits} splits, {turns} turns, {ls} L, {merges} merges"
+        )?;
         write!(f, "{}", self.refused_steps)?;
         write!(f, "{}", self.choices)?;
         write!(f, "{}", self.labels)?;
@@ -142,6 +168,8 @@ impl fmt::Display for Tally {
         write!(f, "{}", self.indexes)?;
         write!(f, "{}", self.groups)?;
         write!(f, "{}", self.indexed_runs)?;
+        write!(f, "{}", self.shared_lists)?;
+        write!(f, "{}", self.shared_runs)?;
         write!(f, "{}", self.together)?;
         writeln!(f, "accepted lists with a literal at variable 31: {}", self.with_the_last_variable)?;
         write!(

@@ -1,5 +1,5 @@
-//! The refusals of write tree, of write kronecker, of compact, of index and of group whose rules are broken together, each looked at
-//! by itself: the first of them is answered.
+//! The refusals of write tree, of write kronecker, of compact, of index, of group, of shared check and of shared value whose rules are broken
+//! together, each looked at by itself: the first of them is answered.
 
 use crate::differ::{Call, Case};
 use crate::vector_calls::{list, most_variables};
@@ -7,11 +7,20 @@ use model::cube::{self, PLACE, RECORD};
 use model::index::Starts;
 use model::refusal::ORDERS;
 use model::script::{STEP, STEPS, decoded};
+use model::shared::{self, SHARED_RECORD};
 use std::collections::BTreeMap;
 use std::fmt;
 
 /// The calls whose refusals are looked at.
-pub const CALLS: [Call; 5] = [Call::WriteTree, Call::WriteKronecker, Call::Compact, Call::Index, Call::Group];
+pub const CALLS: [Call; 7] = [
+    Call::WriteTree,
+    Call::WriteKronecker,
+    Call::Compact,
+    Call::Index,
+    Call::Group,
+    Call::SharedCheck,
+    Call::SharedValue,
+];
 
 #[derive(Default)]
 pub struct Together {
@@ -29,6 +38,7 @@ fn is_broken(case: &Case, number: u64) -> bool {
     match case.call {
         Call::Compact => is_broken_by_script(case, number),
         Call::Index | Call::Group => is_broken_by_index(case, number),
+        Call::SharedCheck | Call::SharedValue => is_broken_by_shared(case, number),
         _ => is_broken_by_vector(case, number),
     }
 }
@@ -72,6 +82,17 @@ fn is_broken_by_index(case: &Case, number: u64) -> bool {
         5 => case.out.len() < PLACE * records.len(),
         25 => is_another_index(records, &case.out, &case.starts),
         _ => case.number > 32,
+    }
+}
+
+fn is_broken_by_shared(case: &Case, number: u64) -> bool {
+    let (records, rest) = case.input.as_chunks::<SHARED_RECORD>();
+    match number {
+        1 => case.n > 32,
+        2 => !rest.is_empty(),
+        3 => records.len() > 4096,
+        4 => records.iter().any(|record| shared::decoded(case.n.min(32) as usize, record).is_none()),
+        _ => case.number >> case.n.min(32) != 0,
     }
 }
 

@@ -52,6 +52,15 @@ pub struct Settled {
     pub burned: u64,
 }
 
+/// The counts of a settled shared list.
+#[derive(Clone, Copy, Debug, PartialEq, Eq)]
+pub struct SharedSettled {
+    pub given: u64,
+    pub peak: u64,
+    pub script: u64,
+    pub burned: u64,
+}
+
 /// An easy script: the number of its steps, and whether it has finished, so that no two cubes of the list that it ends in
 /// are equal or differ in one variable.
 #[derive(Clone, Copy, Debug, PartialEq, Eq)]
@@ -181,6 +190,34 @@ pub fn run_indexed(n: u64, list: &[u8], script: &[u8], work: &mut [u8], index: &
     Ok(Indexed { run: Run { count, peak }, starts })
 }
 
+/// Tests a shared list; answers the number of its records.
+pub fn shared_check(n: u64, list: &[u8]) -> Result<u64, Refusal> {
+    accepted(words::shared_check(n, list)).map(|[count, ..]| count)
+}
+
+/// The values of all 32 outputs at an assignment, bit k for output k: the parity of how many of the products that carry its bit are true there.
+pub fn shared_value(n: u64, list: &[u8], a: u64) -> Result<u32, Refusal> {
+    accepted(words::shared_value(n, list, a)).map(|[word, ..]| word as u32)
+}
+
+/// Runs a script on a shared list; the result stands at the front of `work`, with zeros after it. Every output keeps its value.
+pub fn shared_run(n: u64, list: &[u8], script: &[u8], work: &mut [u8]) -> Result<Run, Refusal> {
+    accepted(words::shared_run(n, list, script, work)).map(|[count, peak, ..]| Run { count, peak })
+}
+
+/// Settles a shared list: the script's result, or the given list where that has fewer products. It stands at the front of `out`, with zeros after it, and
+/// `work` ends all zero.
+pub fn shared_settle(
+    n: u64,
+    list: &[u8],
+    script: &[u8],
+    work: &mut [u8],
+    out: &mut [u8],
+) -> Result<SharedSettled, Refusal> {
+    let [given, peak, script, burned, ..] = accepted(words::shared_settle(n, list, script, work, out))?;
+    Ok(SharedSettled { given, peak, script, burned })
+}
+
 /// Writes an old list's cubes, at the same places, as a list to the front of `out`; answers how many.
 pub fn wide_from_narrow(n: u64, list: &[u8], out: &mut [u8]) -> Result<u64, Refusal> {
     accepted(words::wide_from_narrow(n, list, out)).map(|[count, ..]| count)
@@ -196,7 +233,7 @@ fn accepted([number, place, values @ ..]: Words) -> Result<[u64; 6], Refusal> {
     if number == 0 {
         return Ok(values);
     }
-    let fault = Fault::from_number(number).expect("the library answers refusal numbers from 1 to 11, 13 to 21, and 25");
+    let fault = Fault::from_number(number).expect("the library answers refusal numbers from 1 to 11, 13 to 23, and 25");
     let [differing, ..] = values;
     Err(Refusal { fault, place, differing })
 }

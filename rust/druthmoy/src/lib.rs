@@ -1,6 +1,6 @@
 //! Safe calls of Druthmoy's verified library, `libdruthmoy.a`.
 //!
-//! Lists and scripts are slices of bytes; [`Cube`] and [`Step`] read and write their records. Each call answers what it
+//! Lists and scripts are slices of bytes; [`Cube`], [`Product`] and [`Step`] read and write their records. Each call answers what it
 //! found or the [`Refusal`] that it met. How the bytes are laid out, and what a call leaves in its buffers, the header
 //! `druthmoy.h` says. [`words`] has the same calls with the eight words of their answers as they are.
 //!
@@ -109,6 +109,22 @@
 //! assert_eq!(group(2, &work[..2 * RECORD], &places, &kept.starts, 2), Ok(&[1, 0][..]));
 //! ```
 //!
+//! A shared list has products for up to 32 outputs. The value at a label has a bit for each of them, and a merge puts two equal cubes together:
+//!
+//! ```
+//! use druthmoy::{Product, SHARED_RECORD, Step, shared_settle, shared_value};
+//!
+//! let product = |text: &str, outputs| Product { cube: text.parse().unwrap(), outputs };
+//! let list = [product("1-", 0b011), product("-1", 0b100), product("1-", 0b010)].map(Product::record).concat();
+//! assert_eq!(shared_value(2, &list, 3), Ok(0b101));
+//! let (mut work, mut out) = (vec![0; list.len()], vec![0; list.len()]);
+//! let settled = shared_settle(2, &list, &Step::Merge { i: 0, j: 2 }.record(), &mut work, &mut out).unwrap();
+//! assert_eq!(settled.burned, 2);
+//! let burned = &out[..2 * SHARED_RECORD];
+//! assert_eq!(burned, [product("1-", 0b001), product("-1", 0b100)].map(Product::record).concat());
+//! assert_eq!(shared_value(2, burned, 3), Ok(0b101));
+//! ```
+//!
 //! A refusal at a step that has two cubes says in how many variables they differ:
 //!
 //! ```
@@ -139,11 +155,12 @@ mod refusal;
 pub mod words;
 
 pub use calls::{
-    Fixed, Index, Indexed, Kronecker, Run, Settled, Tree, Value, Written, best_polarity, check, coefficients, compact,
-    group, index, narrow_from_wide, reasons, run, run_indexed, settle, truth_vector, value, vector, wide_from_narrow,
-    write_form, write_kronecker, write_script, write_tree,
+    Fixed, Index, Indexed, Kronecker, Run, Settled, SharedSettled, Tree, Value, Written, best_polarity, check,
+    coefficients, compact, group, index, narrow_from_wide, reasons, run, run_indexed, settle, shared_check, shared_run,
+    shared_settle, shared_value, truth_vector, value, vector, wide_from_narrow, write_form, write_kronecker,
+    write_script, write_tree,
 };
-pub use records::{Cube, NARROW_RECORD, NotACube, PLACE, RECORD, STEP, Starts, Step};
+pub use records::{Cube, NARROW_RECORD, NotACube, PLACE, Product, RECORD, SHARED_RECORD, STEP, Starts, Step};
 pub use refusal::{Fault, Refusal};
 
 #[cfg(feature = "standin")]

@@ -138,6 +138,30 @@ unsafe extern "C" {
         starts: *mut u64,
         answer: *mut u64,
     );
+    pub fn dm_shared_check(n: u64, list: *const u8, list_length: usize, answer: *mut u64);
+    pub fn dm_shared_value(n: u64, list: *const u8, list_length: usize, a: u64, answer: *mut u64);
+    pub fn dm_shared_run(
+        n: u64,
+        list: *const u8,
+        list_length: usize,
+        script: *const u8,
+        script_length: usize,
+        work: *mut u8,
+        work_length: usize,
+        answer: *mut u64,
+    );
+    pub fn dm_shared_settle(
+        n: u64,
+        list: *const u8,
+        list_length: usize,
+        script: *const u8,
+        script_length: usize,
+        work: *mut u8,
+        work_length: usize,
+        out: *mut u8,
+        out_length: usize,
+        answer: *mut u64,
+    );
     pub fn dm_wide_from_narrow(
         n: u64,
         list: *const u8,

@@ -1,11 +1,12 @@
-//! The records that lists and scripts are made of, the width of a place, and the starts of an index.
+//! The records that lists, shared lists and scripts are made of, the width of a place, and the starts of an index.
 
 use std::fmt;
 use std::str::FromStr;
 
-/// Bytes of a cube's record, and of the record that it has in an old list.
+/// Bytes of a cube's record, of the record that it has in an old list, and of a product's record in a shared one.
 pub const RECORD: usize = 8;
 pub const NARROW_RECORD: usize = 4;
+pub const SHARED_RECORD: usize = 12;
 
 /// Bytes of a step.
 pub const STEP: usize = 8;
@@ -87,7 +88,27 @@ impl FromStr for Cube {
     }
 }
 
-/// A step of a script, with the fields that it uses.
+/// A product of a shared list: its cube, and the outputs that it counts for, bit k for output k. Some bit is set.
+#[derive(Clone, Copy, Debug, PartialEq, Eq, Hash)]
+pub struct Product {
+    pub cube: Cube,
+    pub outputs: u32,
+}
+
+impl Product {
+    pub fn record(self) -> [u8; SHARED_RECORD] {
+        let ([a, b, c, d, e, f, g, h], [i, j, k, l]) = (self.cube.record(), self.outputs.to_le_bytes());
+        [a, b, c, d, e, f, g, h, i, j, k, l]
+    }
+
+    pub fn from_record([a, b, c, d, e, f, g, h, i, j, k, l]: [u8; SHARED_RECORD]) -> Product {
+        let cube = Cube::from_record([a, b, c, d, e, f, g, h]);
+        Product { cube, outputs: u32::from_le_bytes([i, j, k, l]) }
+    }
+}
+
+/// A step of a script, with the fields that it uses. In a shared list the two products of a drop, a join or a turn also need equal outputs, and a
+/// split gives both halves those of i.
 #[derive(Clone, Copy, Debug, PartialEq, Eq, Hash)]
 pub enum Step {
     /// Equal cubes: both removed.
@@ -100,6 +121,8 @@ pub enum Step {
     Turn { v: u8, i: u16, j: u16 },
     /// In every cube, at v, the literal and none are exchanged, until the script's end.
     L { v: u8, literal: u8 },
+    /// In a shared list alone. Equal cubes with different outputs: i gets the EXOR of the outputs, j is removed.
+    Merge { i: u16, j: u16 },
 }
 
 impl Step {
@@ -110,6 +133,7 @@ impl Step {
             Step::Split { v, i } => (3, v, i, 0, 0),
             Step::Turn { v, i, j } => (4, v, i, j, 0),
             Step::L { v, literal } => (5, v, 0, 0, literal),
+            Step::Merge { i, j } => (6, 0, i, j, 0),
         };
         let ([i, i_high], [j, j_high]) = (i.to_le_bytes(), j.to_le_bytes());
         [op, v, i, i_high, j, j_high, literal, 0]

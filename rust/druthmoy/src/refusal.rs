@@ -8,11 +8,11 @@ use std::fmt;
 pub enum Fault {
     /// n above the call's limit.
     TooManyVariables = 1,
-    /// List length not a multiple of 8, or of 4 for an old list.
+    /// List length not a multiple of 8, of 4 for an old list, or of 12 for a shared one.
     ListLength = 2,
     /// More than 4,096 records, or a count above 4,096.
     TooManyRecords = 3,
-    /// A bad record; the place is the lowest such record.
+    /// A bad record, or one of a shared list without outputs; the place is the lowest such record.
     BadRecord = 4,
     /// Capacity or length of a written buffer too small.
     BufferTooSmall = 5,
@@ -47,13 +47,17 @@ pub enum Fault {
     TooManyForNarrow = 20,
     /// A number of literals above 32.
     TooManyLiterals = 21,
+    /// Drop, join or turn of products whose outputs are not equal; the place is the step.
+    OutputsUnequal = 22,
+    /// Merge of products whose cubes differ, or whose outputs are equal; the place is the step.
+    Merge = 23,
     /// A lent index that is not this list's; the place is the first wrong entry, or else the first wrong group start.
     WrongIndex = 25,
 }
 
 impl Fault {
     /// All faults, by number.
-    pub const ALL: [Fault; 21] = [
+    pub const ALL: [Fault; 23] = [
         Fault::TooManyVariables,
         Fault::ListLength,
         Fault::TooManyRecords,
@@ -74,6 +78,8 @@ impl Fault {
         Fault::TurnAgree,
         Fault::TooManyForNarrow,
         Fault::TooManyLiterals,
+        Fault::OutputsUnequal,
+        Fault::Merge,
         Fault::WrongIndex,
     ];
 

@@ -225,6 +225,58 @@ pub fn run_indexed(
 }
 
 #[inline]
+pub fn shared_check(n: u64, list: &[u8]) -> Words {
+    let mut answer = UNANSWERED;
+    unsafe { raw::dm_shared_check(n, list.as_ptr(), list.len(), answer.as_mut_ptr()) };
+    answer
+}
+
+#[inline]
+pub fn shared_value(n: u64, list: &[u8], a: u64) -> Words {
+    let mut answer = UNANSWERED;
+    unsafe { raw::dm_shared_value(n, list.as_ptr(), list.len(), a, answer.as_mut_ptr()) };
+    answer
+}
+
+#[inline]
+pub fn shared_run(n: u64, list: &[u8], script: &[u8], work: &mut [u8]) -> Words {
+    let mut answer = UNANSWERED;
+    unsafe {
+        raw::dm_shared_run(
+            n,
+            list.as_ptr(),
+            list.len(),
+            script.as_ptr(),
+            script.len(),
+            work.as_mut_ptr(),
+            work.len(),
+            answer.as_mut_ptr(),
+        );
+    }
+    answer
+}
+
+#[inline]
+pub fn shared_settle(n: u64, list: &[u8], script: &[u8], work: &mut [u8], out: &mut [u8]) -> Words {
+    let mut answer = UNANSWERED;
+    unsafe {
+        raw::dm_shared_settle(
+            n,
+            list.as_ptr(),
+            list.len(),
+            script.as_ptr(),
+            script.len(),
+            work.as_mut_ptr(),
+            work.len(),
+            out.as_mut_ptr(),
+            out.len(),
+            answer.as_mut_ptr(),
+        );
+    }
+    answer
+}
+
+#[inline]
 pub fn wide_from_narrow(n: u64, list: &[u8], out: &mut [u8]) -> Words {
     let mut answer = UNANSWERED;
     unsafe {

@@ -11,6 +11,7 @@ use crate::polarity;
 use crate::refusal::{Refusal, refuse_at_if, refuse_if};
 use crate::script::{self, STEP, STEPS, Step, encoded_script};
 use crate::settling;
+use crate::shared::{self, SHARED_RECORD, Shared};
 use crate::trees;
 use crate::writer;
 
@@ -217,6 +218,44 @@ pub fn run_indexed(
     Ok(vec![run.list.len() as u64, run.peak as u64])
 }
 
+/// Document 02, Nine: "4 also for zero outputs".
+pub fn shared_check(n: u64, list: &[u8]) -> Outcome {
+    let list = checked_shared_list(n, list)?;
+    Ok(vec![list.cubes.len() as u64])
+}
+
+/// The same: "the value call answers all 32 as one word".
+pub fn shared_value(n: u64, list: &[u8], a: u64) -> Outcome {
+    let list = checked_shared_list(n, list)?;
+    refuse_if(has_bit_from(n, a), 6)?;
+    Ok(vec![shared::value(&list, a)])
+}
+
+pub fn shared_run(n: u64, list: &[u8], script: &[u8], work: &mut [u8]) -> Outcome {
+    let given = checked_shared_list(n, list)?;
+    refuse_if(shared_capacity(work) < given.cubes.len(), 5)?;
+    let script = checked_shared_script(n, script)?;
+    let outcome = shared::run(&given, &script, shared_capacity(work));
+    work.fill(0);
+    let run = outcome?;
+    write_front(work, &shared::encoded_list(&run.list));
+    Ok(vec![run.list.cubes.len() as u64, run.peak as u64])
+}
+
+pub fn shared_settle(n: u64, list: &[u8], script: &[u8], work: &mut [u8], out: &mut [u8]) -> Outcome {
+    let given = checked_shared_list(n, list)?;
+    refuse_if(shared_capacity(work) < given.cubes.len(), 5)?;
+    refuse_if(shared_capacity(out) < given.cubes.len(), 5)?;
+    let script = checked_shared_script(n, script)?;
+    let outcome = shared::settle(&given, &script, shared_capacity(work));
+    work.fill(0);
+    let settled = outcome?;
+    out.fill(0);
+    write_front(out, &shared::encoded_list(&settled.burned));
+    let counts = [settled.given, settled.peak, settled.script, settled.burned.cubes.len()];
+    Ok(counts.map(|count| count as u64).to_vec())
+}
+
 /// Document 02, Seven: "wide from narrow gives the same cubes at the same places".
 pub fn wide_from_narrow(n: u64, list: &[u8], out: &mut [u8]) -> Outcome {
     let list = checked_records(n, NARROW_VARIABLES, NARROW_RECORD, list)?;
@@ -254,25 +293,54 @@ fn checked_indexed_list(n: u64, list: &[u8], index: &[u8]) -> Result<Vec<Cube>, 
     Ok(list)
 }
 
+/// Rules 1 to 4 of a shared list.
+fn checked_shared_list(n: u64, list: &[u8]) -> Result<Shared, Refusal> {
+    check_length(n, MOST_VARIABLES, SHARED_RECORD, list)?;
+    let products = all_decoded(list.chunks(SHARED_RECORD), 4, |record| shared::decoded(n as usize, record))?;
+    Ok(products.into_iter().collect())
+}
+
 /// Rules 1 to 4 of records that have so many bytes.
 fn checked_records(n: u64, limit: u64, width: usize, list: &[u8]) -> Result<Vec<Cube>, Refusal> {
+    check_length(n, limit, width, list)?;
+    all_decoded(list.chunks(width), 4, |record| cube::decoded(n as usize, record))
+}
+
+/// Rules 1 to 3.
+fn check_length(n: u64, limit: u64, width: usize, list: &[u8]) -> Result<(), Refusal> {
     refuse_if(n > limit, 1)?;
     refuse_if(!list.len().is_multiple_of(width), 2)?;
-    refuse_if(list.len() / width > 4096, 3)?;
-    let cubes: Vec<Option<Cube>> = list.chunks(width).map(|record| cube::decoded(n as usize, record)).collect();
-    let bad = cubes.iter().position(Option::is_none);
-    refuse_at_if(bad.is_some(), 4, bad.unwrap_or(0))?;
-    Ok(cubes.into_iter().flatten().collect())
+    refuse_if(list.len() / width > 4096, 3)
 }
 
 /// Rules 7 to 9.
 fn checked_script(n: u64, script: &[u8]) -> Result<Vec<Step>, Refusal> {
+    check_script_length(script)?;
+    all_decoded(script.chunks(STEP), 9, |bytes| script::decoded(n as usize, bytes))
+}
+
+/// Rules 7 to 9 of a script for a shared list.
+fn checked_shared_script(n: u64, script: &[u8]) -> Result<Vec<shared::Step>, Refusal> {
+    check_script_length(script)?;
+    all_decoded(script.chunks(STEP), 9, |bytes| shared::decoded_step(n as usize, bytes))
+}
+
+/// Rules 7 and 8.
+fn check_script_length(script: &[u8]) -> Result<(), Refusal> {
     refuse_if(!script.len().is_multiple_of(STEP), 7)?;
-    refuse_if(script.len() / STEP > STEPS, 8)?;
-    let steps: Vec<Option<Step>> = script.chunks(STEP).map(|bytes| script::decoded(n as usize, bytes)).collect();
-    let bad = steps.iter().position(Option::is_none);
-    refuse_at_if(bad.is_some(), 9, bad.unwrap_or(0))?;
-    Ok(steps.into_iter().flatten().collect())
+    refuse_if(script.len() / STEP > STEPS, 8)
+}
+
+/// What each record or step says; refused with a number at the lowest that says nothing.
+fn all_decoded<'a, T>(
+    records: impl Iterator<Item = &'a [u8]>,
+    number: u64,
+    decoded: impl Fn(&[u8]) -> Option<T>,
+) -> Result<Vec<T>, Refusal> {
+    let all: Vec<Option<T>> = records.map(decoded).collect();
+    let bad = all.iter().position(Option::is_none);
+    refuse_at_if(bad.is_some(), number, bad.unwrap_or(0))?;
+    Ok(all.into_iter().flatten().collect())
 }
 
 /// Rules 1 and 14.
@@ -286,6 +354,11 @@ fn check_bits(n: u64, limit: u64, bits: &[u8]) -> Result<(), Refusal> {
 /// "Its length divided by 8, rounded down, and at most 4,096": document 02, Seven, has 8 for 4.
 fn capacity(buffer: &[u8]) -> usize {
     (buffer.len() / RECORD).min(4096)
+}
+
+/// Document 02, Nine: "capacities and refusal 2 go by 12 bytes".
+fn shared_capacity(buffer: &[u8]) -> usize {
+    (buffer.len() / SHARED_RECORD).min(4096)
 }
 
 fn has_bit_from(n: u64, number: u64) -> bool {

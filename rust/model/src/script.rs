@@ -145,7 +145,7 @@ pub fn undone(mut list: Vec<Cube>, script: &[Step]) -> Vec<Cube> {
 }
 
 /// "To remove a place: copy the last record there, shorten by one."
-fn remove(list: &mut Vec<Cube>, place: usize) {
+pub fn remove<T: Clone>(list: &mut Vec<T>, place: usize) {
     list[place] = list[list.len() - 1].clone();
     list.pop();
 }

@@ -263,6 +263,53 @@ pub unsafe extern "C" fn dm_run_indexed(
 }
 
 #[unsafe(no_mangle)]
+pub unsafe extern "C" fn dm_shared_check(n: u64, list: *const u8, list_length: usize, answer: *mut u64) {
+    unsafe { give(calls::shared_check(n, from_raw_parts(list, list_length)), answer) }
+}
+
+#[unsafe(no_mangle)]
+pub unsafe extern "C" fn dm_shared_value(n: u64, list: *const u8, list_length: usize, a: u64, answer: *mut u64) {
+    unsafe { give(calls::shared_value(n, from_raw_parts(list, list_length), a), answer) }
+}
+
+#[unsafe(no_mangle)]
+pub unsafe extern "C" fn dm_shared_run(
+    n: u64,
+    list: *const u8,
+    list_length: usize,
+    script: *const u8,
+    script_length: usize,
+    work: *mut u8,
+    work_length: usize,
+    answer: *mut u64,
+) {
+    unsafe {
+        let (list, script) = (from_raw_parts(list, list_length), from_raw_parts(script, script_length));
+        give(calls::shared_run(n, list, script, from_raw_parts_mut(work, work_length)), answer)
+    }
+}
+
+#[unsafe(no_mangle)]
+pub unsafe extern "C" fn dm_shared_settle(
+    n: u64,
+    list: *const u8,
+    list_length: usize,
+    script: *const u8,
+    script_length: usize,
+    work: *mut u8,
+    work_length: usize,
+    out: *mut u8,
+    out_length: usize,
+    answer: *mut u64,
+) {
+    unsafe {
+        let (list, script) = (from_raw_parts(list, list_length), from_raw_parts(script, script_length));
+        let (work, out) = (from_raw_parts_mut(work, work_length), from_raw_parts_mut(out, out_length));
+        give(calls::shared_settle(n, list, script, work, out), answer)
+    }
+}
+
+#[unsafe(no_mangle)]
 pub unsafe extern "C" fn dm_wide_from_narrow(
     n: u64,
     list: *const u8,

@@ -53,12 +53,12 @@ fn inverse(order: u8) -> u8 {
 }
 
 /// An L step: one pass, no branch a record.
-pub fn exchange(records: &mut [[u8; RECORD]], v: u32, literal: u8) {
+pub fn exchange<const WIDTH: usize>(records: &mut [[u8; WIDTH]], v: u32, literal: u8) {
     reorder(records, v, EXCHANGES[literal as usize]);
 }
 
 /// Undoes what is pending, one pass for each variable that has an order pending.
-pub fn undo(records: &mut [[u8; RECORD]], pending: &Pending) {
+pub fn undo<const WIDTH: usize>(records: &mut [[u8; WIDTH]], pending: &Pending) {
     for (v, &order) in pending.iter().enumerate() {
         if order != NONE {
             reorder(records, v as u32, inverse(order));
@@ -90,12 +90,13 @@ fn word(seen: u32, value: u32) -> u64 {
     u64::from(seen) | u64::from(value) << 32
 }
 
-/// One load and one store a record, so that a pass over records can be done in vectors.
-fn reorder(records: &mut [[u8; RECORD]], v: u32, order: u8) {
+/// One load and one store a record, so that a pass over records can be done in vectors. A record begins with the cube.
+fn reorder<const WIDTH: usize>(records: &mut [[u8; WIDTH]], v: u32, order: u8) {
     let Masks { own, other, always } = Masks::at(v, order);
     for record in records {
-        let word = u64::from_le_bytes(*record);
+        let (cubes, _) = record.as_chunks_mut::<RECORD>();
+        let word = u64::from_le_bytes(cubes[0]);
         let crossed = word.rotate_left(32);
-        *record = (word ^ (word & own) ^ (crossed & other) ^ always).to_le_bytes();
+        cubes[0] = (word ^ (word & own) ^ (crossed & other) ^ always).to_le_bytes();
     }
 }

@@ -29,10 +29,16 @@ fn try_run(n: u64, list: &[u8], script: &[u8], work: &mut [u8]) -> Result<Done, 
 
 /// Rules 7 to 9.
 pub fn checked_script(n: u64, script: &[u8]) -> Result<&[[u8; STEP]], Refusal> {
+    checked_steps(script, |step| is_well_formed(n, step))
+}
+
+/// The same, with another rule 9.
+#[inline]
+pub fn checked_steps(script: &[u8], is_well_formed: impl Fn(&[u8; STEP]) -> bool) -> Result<&[[u8; STEP]], Refusal> {
     let (steps, rest) = script.as_chunks();
     refuse_if(!rest.is_empty(), 7)?;
     refuse_if(steps.len() > STEPS, 8)?;
-    match steps.iter().position(|step| !is_well_formed(n, step)) {
+    match steps.iter().position(|step| !is_well_formed(step)) {
         Some(place) => refusal(9, place),
         None => Ok(steps),
     }
@@ -56,12 +62,51 @@ pub struct StepRefusal {
     pub differing: u32,
 }
 
-fn refuse<T>(number: u64) -> Result<T, StepRefusal> {
+pub fn refuse<T>(number: u64) -> Result<T, StepRefusal> {
     Err(StepRefusal { number, differing: 0 })
 }
 
 fn unfit<T>(number: u64, apart: u32) -> Result<T, StepRefusal> {
     Err(StepRefusal { number, differing: apart.count_ones() })
+}
+
+/// The two cubes of a drop are equal.
+#[inline(always)]
+pub fn dropped(a: Cube, b: Cube) -> Result<(), StepRefusal> {
+    let apart = a.differing(b);
+    if apart != 0 { unfit(16, apart) } else { Ok(()) }
+}
+
+/// The cube that a join leaves.
+#[inline(always)]
+pub fn joined(a: Cube, b: Cube) -> Result<Cube, StepRefusal> {
+    let apart = a.differing(b);
+    if apart.count_ones() != 1 {
+        return unfit(17, apart);
+    }
+    let v = apart.trailing_zeros();
+    Ok(a.put(v, third(a.code(v), b.code(v))))
+}
+
+/// The lower half of a cube, which stays, and the higher one, which is appended.
+#[inline(always)]
+pub fn halves(cube: Cube, v: u32) -> (Cube, Cube) {
+    let (lower, higher) = [(1, 2), (0, 2), (0, 1)][cube.code(v) as usize];
+    (cube.put(v, lower), cube.put(v, higher))
+}
+
+/// The two cubes that a turn leaves.
+#[inline(always)]
+pub fn turned(v: u32, a: Cube, b: Cube) -> Result<(Cube, Cube), StepRefusal> {
+    let apart = a.differing(b);
+    if apart.count_ones() != 2 {
+        return unfit(18, apart);
+    }
+    if apart >> v & 1 == 0 {
+        return unfit(19, apart);
+    }
+    let other = (apart & !(1 << v)).trailing_zeros();
+    Ok((a.put(v, third(a.code(v), b.code(v))), b.put(other, third(a.code(other), b.code(other)))))
 }
 
 pub struct State<'a> {
@@ -112,10 +157,7 @@ impl State<'_> {
     #[inline(always)]
     fn drop(&mut self, i: usize, j: usize) -> Result<(), StepRefusal> {
         let (a, b) = self.pair(i, j)?;
-        let apart = a.differing(b);
-        if apart != 0 {
-            return unfit(16, apart);
-        }
+        dropped(a, b)?;
         self.remove(i.max(j));
         self.remove(i.min(j));
         Ok(())
@@ -124,12 +166,7 @@ impl State<'_> {
     #[inline(always)]
     fn join(&mut self, i: usize, j: usize) -> Result<(), StepRefusal> {
         let (a, b) = self.pair(i, j)?;
-        let apart = a.differing(b);
-        if apart.count_ones() != 1 {
-            return unfit(17, apart);
-        }
-        let v = apart.trailing_zeros();
-        self.write(i, a.put(v, third(a.code(v), b.code(v))));
+        self.write(i, joined(a, b)?);
         self.remove(j);
         Ok(())
     }
@@ -142,10 +179,9 @@ impl State<'_> {
         if self.count == self.records.len() {
             return refuse(13);
         }
-        let cube = self.read(i);
-        let (lower, higher) = [(1, 2), (0, 2), (0, 1)][cube.code(v) as usize];
-        self.write(i, cube.put(v, lower));
-        self.write(self.count, cube.put(v, higher));
+        let (lower, higher) = halves(self.read(i), v);
+        self.write(i, lower);
+        self.write(self.count, higher);
         self.count += 1;
         self.peak = self.peak.max(self.count);
         Ok(())
@@ -154,16 +190,9 @@ impl State<'_> {
     #[inline(always)]
     fn turn(&mut self, v: u32, i: usize, j: usize) -> Result<(), StepRefusal> {
         let (a, b) = self.pair(i, j)?;
-        let apart = a.differing(b);
-        if apart.count_ones() != 2 {
-            return unfit(18, apart);
-        }
-        if apart >> v & 1 == 0 {
-            return unfit(19, apart);
-        }
-        let other = (apart & !(1 << v)).trailing_zeros();
-        self.write(i, a.put(v, third(a.code(v), b.code(v))));
-        self.write(j, b.put(other, third(a.code(other), b.code(other))));
+        let (a, b) = turned(v, a, b)?;
+        self.write(i, a);
+        self.write(j, b);
         Ok(())
     }
 
@@ -199,7 +228,7 @@ pub fn place(step: &[u8; STEP], at: usize) -> usize {
     u16::from_le_bytes([step[at], step[at + 1]]) as usize
 }
 
-fn is_well_formed(n: u64, step: &[u8; STEP]) -> bool {
+pub fn is_well_formed(n: u64, step: &[u8; STEP]) -> bool {
     let &[op, v, _, _, _, _, literal, zero] = step;
     let (i, j) = (place(step, 2), place(step, 4));
     zero == 0
