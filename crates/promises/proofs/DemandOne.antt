@@ -35,7 +35,7 @@ use Rattle.shared_run.specs.SharedScripts.{sharedStepsOf}
 use Rattle.shared_run.specs.Calls.{sharedRunOf, ranShared, ranSharedOut}
 use Rattle.shared_run.proofs.Refusals as shared-refusals
 use Rattle.promises.specs.Calls.{Call, check, value, reasons, truthVector, coefficients, vectorBack, writeForm, bestPolarity, writeTree, writeKronecker, run, buildIndex, group, runIndexed, writeScript, compact, settle, wideFromNarrow, narrowFromWide, sharedCheck, sharedValue, sharedRun, sharedSettle, answers, lent, leaves, Called}
-use Rattle.promises.specs.Refusals.{NoneWrong, FirstWrong, faults, beforeSteps, RefusedBefore, StepStops, Stopped, SharedStepStops, SharedStopped, RefusedAtStep, in-run, in-run-indexed, in-settle, in-shared-run, in-shared-settle}
+use Rattle.promises.specs.Refusals.{NoneWrong, FirstWrong, faults, beforeSteps, atSteps, RefusedBefore, StepStops, Stopped, SharedStepStops, SharedStopped, RefusedAtStep, in-run, in-run-indexed, in-settle, in-shared-run, in-shared-settle}
 use Rattle.promises.specs.Accepted.{goesOn, goesOnLeaving, ScriptStops, run-stops, run-indexed-stops, settle-stops, shared-run-stops, shared-settle-stops, ScriptEnds}
 use Rattle.promises.proofs.Chains.{first-only, first-number, not-none}
 use Rattle.promises.proofs.Numbers.{numbered}
@@ -143,6 +143,14 @@ step-told (in-settle n list script work out none s e) = stop-told n list script 
 step-told (in-shared-run n list script work none s e) = shared-told n list script work _ s
 step-told (in-shared-settle n list script work out none s e) = shared-told n list script work _ s
 
+step-number-is : {r : Refusal} {buffers : List (List ℕ)} {c : Call} → RefusedAtStep r buffers c → atSteps c (r .number) ≡ true
+unfolding atSteps
+step-number-is (in-run n list script work none s e) = s .number
+step-number-is (in-run-indexed n list script work index starts none s e) = s .number
+step-number-is (in-settle n list script work out none s e) = s .number
+step-number-is (in-shared-run n list script work none s e) = s .number
+step-number-is (in-shared-settle n list script work out none s e) = s .number
+
 -- where nothing is wrong and a step of the script is refused, the call is
 refuses : {c : Call} {why : StepRefusal} {k : ℕ} → ScriptStops why k c → goesOn c ≡ refused (atStep why k)
 unfolding goesOn runOf sharedRunOf
@@ -216,22 +224,26 @@ module _ (c : Call) (o : Outcome) (buffers : List (List ℕ)) (called : Called c
           })
       go (judging.right none e k) = inr (at-step c r buffers none (sym e ∙ sym (called .answer) ∙ is) (called .left ∙ k))
 
-  -- Every refusal is by 1 to 9, 14, 15, 20, 21 or 25, found before the first step, or by 10, 11, 13, one of 16 to 19, 22 or 23, found at a step; 22 and 23 only of
-  -- shared products, as `Stopped` says. So none is 0.
-  pub refused-number : (r : Refusal) → o ≡ refused r → (beforeSteps (r .number) ≡ true) ⊎ (byShared (r .number) ≡ true)
+  -- Every refusal is by 1 to 9, 14, 15, 20, 21 or 25, found before the first step, or by 10, 11, 13 or one of 16 to 19, of shared products also by 22 or 23, found
+  -- at a step. So none is 0.
+  pub refused-number : (r : Refusal) → o ≡ refused r → (beforeSteps (r .number) ≡ true) ⊎ (atSteps c (r .number) ≡ true)
   refused-number r is = go (refused-call r is)
     where
-      go : RefusedBefore r buffers c ⊎ RefusedAtStep r buffers c → (beforeSteps (r .number) ≡ true) ⊎ (byShared (r .number) ≡ true)
+      go : RefusedBefore r buffers c ⊎ RefusedAtStep r buffers c → (beforeSteps (r .number) ≡ true) ⊎ (atSteps c (r .number) ≡ true)
       go (inl b) = inl (b .number)
-      go (inr s) = inr (step-told s .number-is)
+      go (inr s) = inr (step-number-is s)
 
   pub refused-above-0 : (r : Refusal) → o ≡ refused r → 1 ≤ r .number
-  refused-above-0 r is = go (r .number) (refused-number r is)
+  refused-above-0 r is = go (refused-call r is)
     where
-      go : (k : ℕ) → (beforeSteps k ≡ true) ⊎ (byShared k ≡ true) → 1 ≤ k
-      go zero (inl e) = absurd (true≢false (sym e))
-      go zero (inr e) = absurd (true≢false (sym e))
-      go (suc k) e = omega arith
+      above : (k : ℕ) → (beforeSteps k ≡ true) ⊎ (byShared k ≡ true) → 1 ≤ k
+      above zero (inl e) = absurd (true≢false (sym e))
+      above zero (inr e) = absurd (true≢false (sym e))
+      above (suc k) e = omega arith
+
+      go : RefusedBefore r buffers c ⊎ RefusedAtStep r buffers c → 1 ≤ r .number
+      go (inl b) = above (r .number) (inl (b .number))
+      go (inr s) = above (r .number) (inr (step-told s .number-is))
 
   -- The third answer is 0 in every refusal but 16 to 19.
   pub third-zero : (r : Refusal) → o ≡ refused r → byCubes (r .number) ≡ false → r .differing ≡ 0

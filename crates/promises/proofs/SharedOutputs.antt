@@ -51,7 +51,7 @@ use Rattle.shared.specs.Calls.{checkShared}
 use Rattle.shared.proofs.SharedRecord.{shared-lawful, shares-flat}
 use Rattle.shared.proofs.Lists.{AcceptedShared, shared-accepts, accepts-shared}
 use Rattle.shared.proofs.Calls.{AcceptedWord, word-accepts, accepts-word}
-use Rattle.shared.proofs.Outputs.{output-sum, word-lt, word-bit, sway-added, sway-changed}
+use Rattle.shared.proofs.Outputs.{carrying-le, carrying-good, output-sum, word-lt, word-bit, sway-added, sway-changed}
 use Rattle.shared_steps.specs.SharedSteps.{SharedStep, plain, merge, mergeOperation, SharedAllowed, onCube, sharedStep, isMerge, ofPlain}
 use Rattle.shared_steps.specs.Effects.{DropDone, JoinDone, SplitDone, TurnDone, MergeDone}
 use Rattle.shared_steps.proofs.Inversion as inversion
@@ -68,26 +68,6 @@ use Rattle.promises.specs.Calls.{Call, Called, answers, leaves}
 use Rattle.promises.specs.Calls as call
 use Rattle.promises.specs.SharedOutputs.{DifferWithout, changed, added, removed, sharedFront, SharedEndsIn, BurnedByProducts, IsSharedRewrite, WithPlainScript, of-run, of-run-indexed, of-settle, of-compact, MergeAt}
 use Rattle.promises.proofs.Calling.{only, work-of, out-of}
-
--- ---- the products that carry bit k
-
-carrying-le : (k : ℕ) (l : List Shared) → length (carrying k l) ≤ length l
-unfolding carrying
-carrying-le k [] = le-refl 0
-carrying-le k (r ∷ l) = go (carries k r) (carrying-le k l)
-  where
-    go : (t : Bool) → length (carrying k l) ≤ length l → length (cond t (r .cube ∷ carrying k l) (carrying k l)) ≤ suc (length l)
-    go true h = omega arith
-    go false h = omega arith
-
-carrying-good : (n k : ℕ) (l : List Shared) → All (Fine n) l → All (Good n) (carrying k l)
-unfolding carrying
-carrying-good n k [] f = tt
-carrying-good n k (r ∷ l) f = go (carries k r) (carrying-good n k l (f .1))
-  where
-    go : (t : Bool) → All (Good n) (carrying k l) → All (Good n) (cond t (r .cube ∷ carrying k l) (carrying k l))
-    go true g = (f .0 .good, g)
-    go false g = g
 
 -- ---- "the value call answers all 32 as one word"
 
@@ -349,7 +329,10 @@ module _ (n : ℕ) (list script work work′ : List ℕ) (count peak : ℕ)
 
 module _ (result given : List Shared) where
   burned-by : BurnedByProducts result given (sharedBurned result given)
-  burned-by = record { result-where-no-more = λ h. simp (le-leb _ _ h); given-else = λ h. simp (lt-leb _ _ h) }
+  burned-by = record {
+    result-where-no-more = λ h. ap (λ (t : Bool). cond t result given) (le-leb (length result) (length given) h);
+    given-else = λ h. ap (λ (t : Bool). cond t result given) (lt-leb (length result) (length given) h);
+  }
 
   burned-one : (P : List Shared → Type 0) → P result → P given → P (sharedBurned result given)
   burned-one P p q = go (leb (length result) (length given))

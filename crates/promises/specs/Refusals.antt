@@ -208,6 +208,32 @@ faults (sharedSettle n list script work out) =
 abbrev pub beforeSteps : ℕ → Bool
 beforeSteps number = (leb 1 number && leb number 9) || (eqb number 14 || (eqb number 15 || (eqb number 20 || (eqb number 21 || eqb number 25))))
 
+-- the numbers that are found at a step: 10, 11, 13 and 16 to 19, and of shared products 22 and 23 too
+unfoldable pub atSteps : Call → ℕ → Bool
+atSteps (check n list) k = byStep k
+atSteps (value n list a) k = byStep k
+atSteps (reasons n list a out) k = byStep k
+atSteps (truthVector n list out) k = byStep k
+atSteps (coefficients n vector p out) k = byStep k
+atSteps (vectorBack n vector p out) k = byStep k
+atSteps (writeForm n vector p out) k = byStep k
+atSteps (bestPolarity n vector) k = byStep k
+atSteps (writeTree n vector out) k = byStep k
+atSteps (writeKronecker n vector out) k = byStep k
+atSteps (run n list script work) k = byStep k
+atSteps (buildIndex n list index starts) k = byStep k
+atSteps (group n list index starts number) k = byStep k
+atSteps (runIndexed n list script work index starts) k = byStep k
+atSteps (writeScript n list work script) k = byStep k
+atSteps (compact n count script out) k = byStep k
+atSteps (settle n list script work out) k = byStep k
+atSteps (wideFromNarrow n list out) k = byStep k
+atSteps (narrowFromWide n list out) k = byStep k
+atSteps (sharedCheck n list) k = byShared k
+atSteps (sharedValue n list a) k = byShared k
+atSteps (sharedRun n list script work) k = byShared k
+atSteps (sharedSettle n list script work out) k = byShared k
+
 -- found before the first step: the first in order that is wrong; "A refusal found before the first step writes nothing", and "the third answer is 0"
 pub record RefusedBefore (r : Refusal) (buffers : List (List ℕ)) (c : Call) : Type 0 where
   pub wrong : FirstWrong (faults c) (r .number) (r .place)

@@ -3,20 +3,23 @@
 use mathlib.Core.Path.{_≡_, refl, sym, ap, _∙_}
 use mathlib.Core.Bool.{Bool, true, false, cond, _&&_, Bool·beq}
 use mathlib.Core.List.{List, [], _∷_, _++_}
-use Prim.Native.Nat.{ℕ, _^_, _<_}
-use native.Mathlib.Nat.{mod-lt, zero-lt-suc}
+use Prim.Native.Nat.{ℕ, suc, _^_, _≤_, _<_}
+use native.Mathlib.Nat.{le-refl, mod-lt, zero-lt-suc}
+use native.Mathlib.Omega.{arith}
 use lib.Bits.{bitXor, differ}
 use lib.Dec.{eqb}
+use lib.ListN.{length}
 use Rattle.bits.specs.Bits.{bit}
-use Rattle.bits.specs.Sums.{_⊕_, oneIf, sum}
+use Rattle.bits.specs.Sums.{_⊕_, oneIf, sum, All}
 use Rattle.bits.proofs.Bools.{beq-eq, all-at₂}
 use Rattle.bits.proofs.Bits.{bit-lt, bit-xor}
 use Rattle.bits.proofs.Sums.{tally-sum}
 use Rattle.bits.proofs.Weights.{weighted-lt, weighted-bit}
 use Rattle.cube.specs.declared.Cube.{Cube}
-use Rattle.cube.specs.Cubes.{holds}
+use Rattle.cube.specs.Cubes.{Good, holds}
 use Rattle.cube.specs.Lists.{trues, listValue}
 use Rattle.shared.specs.declared.Shared.{Shared}
+use Rattle.shared.specs.SharedRecord.{Fine}
 use Rattle.shared.specs.Outputs.{carries, carrying, outputValue, outputCount, valueWord}
 
 -- ---- the value of an output as a sum
@@ -35,6 +38,26 @@ sum-carrying k w (r ∷ l) = go (carries k r) (sum-carrying k w l)
 pub output-sum : (n k : ℕ) (l : List Shared) (a : ℕ) → outputValue n k l a ≡ oneIf (sum (λ r. carries k r && holds n (r .cube) a) l)
 unfolding outputValue listValue trues
 output-sum n k l a = tally-sum (λ c. holds n c a) (carrying k l) ∙ ap oneIf (sum-carrying k (λ c. holds n c a) l)
+
+-- ---- the products that carry bit k
+
+pub carrying-le : (k : ℕ) (l : List Shared) → length (carrying k l) ≤ length l
+unfolding carrying
+carrying-le k [] = le-refl 0
+carrying-le k (r ∷ l) = go (carries k r) (carrying-le k l)
+  where
+    go : (t : Bool) → length (carrying k l) ≤ length l → length (cond t (r .cube ∷ carrying k l) (carrying k l)) ≤ suc (length l)
+    go true h = omega arith
+    go false h = omega arith
+
+pub carrying-good : (n k : ℕ) (l : List Shared) → All (Fine n) l → All (Good n) (carrying k l)
+unfolding carrying
+carrying-good n k [] f = tt
+carrying-good n k (r ∷ l) f = go (carries k r) (carrying-good n k l (f .1))
+  where
+    go : (t : Bool) → All (Good n) (carrying k l) → All (Good n) (cond t (r .cube ∷ carrying k l) (carrying k l))
+    go true g = (f .0 .good, g)
+    go false g = g
 
 -- ---- all of them as one word
 
