@@ -3,6 +3,7 @@
 use mathlib.Core.Path.{sym, _∙_, subst}
 use mathlib.Core.Logic.{⊎-elim}
 use Prim.Native.Nat.{_-_, _/_}
+use native.Mathlib.Omega.{arith}
 use lib.ListN.{length}
 use borrow.Author.Needs.{needs}
 use borrow.Author.Tests.{not-true, not-false}
@@ -61,7 +62,7 @@ loop-again c =
     let known = shared-step-known _ _ _ _ (looked .step-at .ensures) (looked .before .loop-test .taken) (l .before .before .before .pre .1) in
     running-more _ _ _ _ _ _ _ _ _ (l .loop .inv) (looked .before .loop-test .taken) (l .before .before .before .pre .1) _ (looked .step-at .ensures) _ _
     (stepped .advance .ensures .0) (stepped .advance .ensures .1) (not-false _ (went .if1 .left)) _
-    (⊎-elim (λ t. t .2 ∙ t .1 .ensures ∙ pend-letter _ _ (t .0 .taken)) (λ t. t .1 ∙ pend-rest _ _ _ known (t .0 .left)) (c .if2 .came))
+    (⊎-elim (λ t. t .2 ∙ t .1 .ensures ∙ pend-letter _ _ (omega (arith, t .0 .taken))) (λ t. t .1 ∙ pend-rest _ _ _ known (t .0 .left)) (c .if2 .came))
 
 same-length-2 : tie.Need-same-length-2 Inv-loop μ-loop
 same-length-2 c = search needs

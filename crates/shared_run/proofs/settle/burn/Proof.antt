@@ -16,7 +16,7 @@ returns : tie.Need-returns
 returns c =
     let known = c .before .before .before .before .before .before .before in
     let start = known .before in
-    burn-given _ (start .args .result .now) _ (start .pre .0 .0) (start .pre .1) (λ i. omega (arith, known .shared-slice-known .given i)) (c .before .before .before .before .if1 .taken) _
+    burn-given (start .args .list .now) (start .args .result .now) _ (start .pre .0 .0) (start .pre .1) (λ i. omega (arith, known .shared-slice-known .given i)) (omega (arith, c .before .before .before .before .if1 .taken)) _
     (c .before .before .fill .ensures)
 
 fill-requires-2 : tie.Need-fill-requires-2
@@ -29,7 +29,7 @@ returns-2 : tie.Need-returns-2
 returns-2 c =
     let known = c .before .before .before .before .before .before in
     let start = known .before .before in
-    burn-result (start .args .list .now) _ _ (start .pre .0 .0) (start .pre .0 .1) (start .pre .1) (λ i. omega (arith, known .shared-slice-known2 .given i))
+    burn-result (start .args .list .now) (start .args .result .now) _ (start .pre .0 .0) (start .pre .0 .1) (start .pre .1) (λ i. omega (arith, known .shared-slice-known2 .given i))
     (c .before .before .before .before .if1 .left) _ (c .before .before .fill2 .ensures)
 
 pub burn-spec : {M : Type 1} → statement M

@@ -45,7 +45,7 @@ returns-2 c =
     let c₄ = c₃ .before in
     let c₆ = c₄ .before .before in
     let c₈ = c₆ .before .before in
-    let r = out-short _ _ _ _ _ _ (sym (c₈ .check .ensures) ∙ ap counted (c₆ .given .given .1)) _ (c₄ .capacity .ensures) (c₃ .if1 .left) _ (c .before .before .capacity2 .ensures) (c .before .if2 .taken) _ (c .new2 .ensures) in
+    let r = out-short _ _ _ _ _ _ (sym (c₈ .check .ensures) ∙ ap counted (c₆ .given .given .1)) _ (c₄ .capacity .ensures) (c₃ .if1 .left) _ (c .before .before .capacity2 .ensures) (omega (arith, c .before .if2 .taken)) _ (c .new2 .ensures) in
     (r .answer, (r .work-is, r .out-is))
 
 run-checked-requires : tie.Need-run-checked-requires
