@@ -1,6 +1,6 @@
 -- Two outcomes that satisfy the contract of a public function of this crate are equal.
 -- Assumes nothing.
-use mathlib.Core.Path.{_≡_, refl, ap, ap₂}
+use mathlib.Core.Path.{_≡_, refl, ap}
 use mathlib.Core.List.{List}
 use Prim.Native.Nat.{ℕ}
 use lib.ListN.{getD}

@@ -5,6 +5,7 @@ use shared::Shared;
 use steps::Change;
 use steps::StepRecord;
 use steps::StepRefusal;
+use steps::again;
 use steps::decide;
 ghost use mathlib.Core.Path.{_≡_};
 ghost use Prim.Native.Nat.{_≤_};
@@ -95,7 +96,7 @@ pub(crate) fn decide_shared(
     }
     let c = a.cube;
     let d = b.cube;
-    let change = decide::decide(n, count, cap, x, c, d);
+    let change = again::decide(n, count, cap, x, c, d);
     if op == 3 {
         return SharedChange {
             change,

@@ -10,6 +10,8 @@ use Rattle.steps.specs.declared.Change.{Change}
 use Rattle.steps.specs.declared.Change.the-variants as change-is
 use Rattle.steps.specs.Moves.{Move, refuse, drops, joins, splits, turns}
 use Rattle.steps.specs.Changes.{moveOf}
+use Rattle.steps.proofs.again.decide.Kinds as again-kinds
+use Rattle.steps.proofs.again.decide.Reads as again-reads
 use Rattle.steps.proofs.decide.two_places.Kinds as two-places-kinds
 use Rattle.steps.proofs.decide.two_places.Reads as two-places-reads
 use Rattle.steps.proofs.decide.decide.Kinds as decide-kinds
@@ -54,6 +56,9 @@ two-places-determined κs a z z′ ws ws′ p q = (same p q, refl)
 
 pub decide-determined : Determined 0 decide-kinds.ps decide-kinds.r decide-reads.Learnt
 decide-determined κs a z z′ ws ws′ p q = (same-told moveOf changeOf change-known (p .is) (q .is), refl)
+
+pub again-determined : Determined 0 again-kinds.ps again-kinds.r again-reads.Learnt
+again-determined = decide-determined
 
 pub third-at-determined : Determined 0 third-at-kinds.ps third-at-kinds.r third-at-reads.Learnt
 third-at-determined κs a z z′ ws ws′ p q = (same p q, refl)

@@ -32,7 +32,7 @@ pub fn two_places(count: usize, i: usize, j: usize) -> u8
 }
 
 // Refused, whatever the cubes are: there is no number of differing variables.
-fn refuse(number: u8) -> Change
+pub(crate) fn refuse(number: u8) -> Change
     ensures { λ r. ⌜ r ≡ Refuse (stepRefusal number) ⌝ }
 {
     Change::Refuse(StepRefusal {
@@ -42,7 +42,7 @@ fn refuse(number: u8) -> Change
 }
 
 // Refused for the set of the variables in which the cubes differ: their number is its count of ones.
-fn unfit(number: u8, set: u32) -> Change
+pub(crate) fn unfit(number: u8, set: u32) -> Change
     ensures { λ r. ⌜ r ≡ Refuse (stepRefusalWith number (ones set)) ⌝ }
 {
     Change::Refuse(StepRefusal {
@@ -52,7 +52,7 @@ fn unfit(number: u8, set: u32) -> Change
 }
 
 // The set of one variable.
-fn only(v: u32) -> u32
+pub(crate) fn only(v: u32) -> u32
     requires { ⌜ v < maskBits ⌝ }
     ensures { λ r. ⌜ r ≡ 2 ^ v ⌝ }
 {
@@ -87,7 +87,7 @@ fn higher(x: u8) -> u8
 }
 
 // Drop: 10, 11; 16 unless the cubes are equal.
-fn decide_drop(n: usize, count: usize, i: usize, j: usize, a: Cube, b: Cube) -> Change
+pub(crate) fn decide_drop(n: usize, count: usize, i: usize, j: usize, a: Cube, b: Cube) -> Change
     requires { ⌜ Good n a × Good n b ⌝ }
     ensures { λ r. ⌜ moveOf r ≡ dropMove n count i j a b ⌝ }
 {
@@ -103,7 +103,7 @@ fn decide_drop(n: usize, count: usize, i: usize, j: usize, a: Cube, b: Cube) -> 
 }
 
 // Join: 10, 11; 17 unless they differ in exactly one variable.
-fn decide_join(n: usize, count: usize, i: usize, j: usize, a: Cube, b: Cube) -> Change
+pub(crate) fn decide_join(n: usize, count: usize, i: usize, j: usize, a: Cube, b: Cube) -> Change
     requires { ⌜ Good n a × Good n b ⌝ }
     requires { ⌜ n ≤ mostVariables ⌝ }
     ensures { λ r. ⌜ moveOf r ≡ joinMove n count i j a b ⌝ }
@@ -121,7 +121,7 @@ fn decide_join(n: usize, count: usize, i: usize, j: usize, a: Cube, b: Cube) -> 
 }
 
 // Split: 10; 13 at capacity.
-fn decide_split(count: usize, cap: usize, v: u32, i: usize, a: Cube) -> Change
+pub(crate) fn decide_split(count: usize, cap: usize, v: u32, i: usize, a: Cube) -> Change
     requires { ⌜ v < maskBits ⌝ }
     ensures { λ r. ⌜ moveOf r ≡ splitMove count cap v i a ⌝ }
 {

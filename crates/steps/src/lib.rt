@@ -1,4 +1,5 @@
 // The five steps of a script: look, decide, perform; and L by one pass over the records.
+pub mod again;
 pub mod decide;
 pub mod perform;
 pub mod reorder;
