@@ -16,7 +16,7 @@ use writer::Wrote;
 ghost use Rattle.io.specs.Counts.{Counts};
 
 // Bytes of a buffer that is shown whole; of a longer one the last ones are.
-const MOST_SHOWN: usize = 257;
+pub const MOST_SHOWN: usize = 257;
 
 const LAST_SHOWN: usize = 26;
 
@@ -37,7 +37,7 @@ pub fn wrong(p: usize) {
 }
 
 // A refusal: its number, its place and its third answer.
-fn refused(r: Refusal) {
+pub fn refused(r: Refusal) {
     number(b"= refused ", r.number as usize);
     number(b" at ", r.place);
     number(b" differing ", r.differing as usize);
@@ -147,7 +147,7 @@ fn spell(n: usize, c: Cube, line: &mut [u8]) -> usize
 }
 
 // A space and a cube.
-fn cube(n: usize, c: Cube) {
+pub fn cube(n: usize, c: Cube) {
     let mut line = [0u8; list::MOST_VARIABLES];
     let end = spell(n, c, &mut line);
     text(b" ");

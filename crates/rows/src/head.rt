@@ -3,8 +3,8 @@ use text::ReadNumber;
 use text::number;
 use text::place;
 
-// The calls: up to WRITE those on lists, COMPACT on a script, from WIDE on the two converters of lists, from INDEX on those that make or take an index, and from
-// TEST on those that take a vector or coefficients.
+// The calls: up to WRITE those on lists, COMPACT on a script, from WIDE on the two converters of lists, from INDEX on those that make or take an index, SETTLE on lists,
+// from SHARED_RUN on those on shared products, and from TEST on those that take a vector or coefficients.
 pub const CHECK: usize = 1;
 
 pub const VALUE: usize = 2;
@@ -29,19 +29,29 @@ pub const GROUP: usize = 11;
 
 pub const INDEXED: usize = 12;
 
-pub const TEST: usize = 13;
+pub const SETTLE: usize = 13;
 
-pub const BEST: usize = 14;
+pub const SHARED_RUN: usize = 14;
 
-pub const FORM: usize = 15;
+pub const SHARED_SETTLE: usize = 15;
 
-pub const COEFFICIENTS: usize = 16;
+pub const SHARED_CHECK: usize = 16;
 
-pub const BACK: usize = 17;
+pub const SHARED_VALUE: usize = 17;
 
-pub const TREE: usize = 18;
+pub const TEST: usize = 18;
 
-pub const KRONECKER: usize = 19;
+pub const BEST: usize = 19;
+
+pub const FORM: usize = 20;
+
+pub const COEFFICIENTS: usize = 21;
+
+pub const BACK: usize = 22;
+
+pub const TREE: usize = 23;
+
+pub const KRONECKER: usize = 24;
 
 // A number and the place after it; 0 and the same place where there is none.
 pub struct Numeral {
@@ -63,6 +73,33 @@ fn either(row: &[u8], a: &[u8], x: usize, b: &[u8], y: usize) -> ReadNumber {
     match place::word_at(row, 0, a, x) {
         ReadNumber::Read(name, p) => ReadNumber::Read(name, p),
         ReadNumber::Wrong(_) => place::word_at(row, 0, b, y),
+    }
+}
+
+// The name of a call on shared products, which stands after a word of its own.
+fn name_of_shared(row: &[u8]) -> ReadNumber {
+    match either(
+        row,
+        b"shared run ",
+        SHARED_RUN,
+        b"shared settle ",
+        SHARED_SETTLE,
+    ) {
+        ReadNumber::Read(name, p) => ReadNumber::Read(name, p),
+        ReadNumber::Wrong(_) => either(
+            row,
+            b"shared check ",
+            SHARED_CHECK,
+            b"shared value ",
+            SHARED_VALUE,
+        ),
+    }
+}
+
+fn name_by_s(row: &[u8]) -> ReadNumber {
+    match name_of_shared(row) {
+        ReadNumber::Read(name, p) => ReadNumber::Read(name, p),
+        ReadNumber::Wrong(_) => place::word_at(row, 0, b"settle ", SETTLE),
     }
 }
 
@@ -118,6 +155,9 @@ fn name_by_c(row: &[u8]) -> ReadNumber {
 pub fn name(row: &[u8], first: u8) -> ReadNumber {
     if first == b'c' {
         return name_by_c(row);
+    }
+    if first == b's' {
+        return name_by_s(row);
     }
     if first == b'f' {
         return place::word_at(row, 0, b"form ", FORM);

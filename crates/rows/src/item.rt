@@ -1,4 +1,4 @@
-// The items of a part: cubes, steps, bits, places or starts; bytes in hexadecimal, after an `x` up to the next space; and what stands in brackets, so many times.
+// The items of a part: cubes, outputs, steps, bits, places or starts; bytes in hexadecimal, after an `x` up to the next space; and what stands in brackets, so many times.
 use crate::head;
 use cube::Cube;
 use steps::StepRecord;
@@ -28,11 +28,17 @@ pub const PLACES: u8 = 4;
 
 pub const STARTS: u8 = 5;
 
+// Shared products: a cube, and after a stroke its outputs.
+pub const SHARED: u8 = 6;
+
 // Repeats of what stands in brackets, at most.
 const MOST_TIMES: usize = 65535;
 
 // The greatest number of two bytes, as a place is; a start has eight.
 const MOST_PLACE: usize = 65535;
+
+// The greatest set of outputs, of four bytes.
+const MOST_OUTPUTS: usize = 4294967295;
 
 // An item: the place after it, its bytes as a number with the low byte first, and how many they are; how many times what stands since the last bracket is meant;
 // whether a bracket opens, and whether hexadecimal digits follow. The place of what is no item is where it begins.
@@ -149,10 +155,29 @@ fn number_of_kind(row: &[u8], of: u8, p: usize) -> Item {
     none(p)
 }
 
+// A stroke, and after it outputs in decimal.
+fn outputs(row: &[u8], p: usize) -> Item {
+    match number::number_at(row, past(row, p), MOST_OUTPUTS) {
+        ReadNumber::Wrong(_) => none(p),
+        ReadNumber::Read(x, q) => bytes(q, x as u64, 4, false),
+    }
+}
+
+// A part of a shared product: its outputs, or its cube.
+fn shared(row: &[u8], p: usize, n: u32) -> Item {
+    if place::byte_at(row, p) == b'/' {
+        return outputs(row, p);
+    }
+    cube(row, p, n)
+}
+
 fn of_kind(row: &[u8], kind: Kind, p: usize) -> Item {
     let of = kind.of;
     if of == CUBES {
         return cube(row, p, kind.n);
+    }
+    if of == SHARED {
+        return shared(row, p, kind.n);
     }
     if of == STEPS {
         return step(row, p);
