@@ -41,7 +41,7 @@ sum-decides c d x y cx xc dy yd = ⊎-elim less (λ h. ⊎-elim (more h) (same h
         ap₂ (λ (a b : Bool). a || (b && ltb x y)) (le-ltb c d h) (eq-eqb c d e) ∙ by-second e (below-or x y)
 
 module _ (l : List Cube) where
-  free-one : oneIf (someBare l) ≤ length l
+  pub free-one : oneIf (someBare l) ≤ length l
   free-one = go (ltb 0 (tally bare l)) refl
     where
       go : (b : Bool) → ltb 0 (tally bare l) ≡ b → oneIf b ≤ length l

@@ -1,4 +1,4 @@
--- Two outcomes that satisfy the contract of settle are equal.
+-- Two outcomes that satisfy the contract of a public function of this crate are equal.
 -- Assumes nothing.
 use mathlib.Core.Path.{_≡_, refl, ap₂}
 use mathlib.Core.Bool.{cond}
@@ -14,6 +14,8 @@ use Rattle.settling.specs.declared.Fixed.the-variants as fixed-is
 use Rattle.settling.specs.declared.Settled.{Settled}
 use Rattle.settling.specs.declared.Settled.the-variants as settled-is
 use Rattle.settling.specs.Calls.{settled}
+use Rattle.settling.proofs.candidates.count_list.Kinds as count-list-kinds
+use Rattle.settling.proofs.candidates.count_list.Reads as count-list-reads
 use Rattle.settling.proofs.settle.settle.Kinds as settle-kinds
 use Rattle.settling.proofs.settle.settle.Reads as settle-reads
 
@@ -43,3 +45,6 @@ settle-determined κs a z z′ ws ws′ p q = (
   same-told settled settled-back settled-known (p .0) (q .0),
   ap₂ (λ (w o : List ℕ). (tt, (tt, (tt, (w, (o, tt)))))) (same (p .1 .0) (q .1 .0)) (same (p .1 .1) (q .1 .1)),
 )
+
+pub count-list-determined : Determined 1 count-list-kinds.ps count-list-kinds.r count-list-reads.Learnt
+count-list-determined κs a z z′ ws ws′ p q = (same p q, refl)

@@ -38,7 +38,7 @@ fn candidate(counts: Counts, origin: Origin) -> Candidate
 }
 
 // The products of a list, and whether one of them has no literal.
-fn count_list(list: &[u8]) -> Counts
+pub fn count_list(list: &[u8]) -> Counts
     requires { ⌜ length (cubesOf (now list)) ≤ mostRecords ⌝ }
     ensures { λ r. ⌜ r ≡ countsOf (cubesOf (now (list .entry))) ⌝ }
 {

@@ -1,0 +1,4 @@
+pub mod Parts
+pub mod Turning
+pub mod Checks
+pub mod Determined

@@ -1,0 +1,2 @@
+-- Laws of the loops over lengths.
+mod Adding

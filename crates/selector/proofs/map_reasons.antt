@@ -1,0 +1,3 @@
+-- Laws of the reasons of a map.
+mod Showing
+mod Finishing

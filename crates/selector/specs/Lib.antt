@@ -1,0 +1,4 @@
+pub mod Maps
+pub mod Answers
+pub mod Calls
+pub mod Turns
