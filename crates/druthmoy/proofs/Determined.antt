@@ -51,6 +51,12 @@ use Rattle.druthmoy.proofs.dm_shared_run.Kinds as dm-shared-run-kinds
 use Rattle.druthmoy.proofs.dm_shared_run.Reads as dm-shared-run-reads
 use Rattle.druthmoy.proofs.dm_shared_settle.Kinds as dm-shared-settle-kinds
 use Rattle.druthmoy.proofs.dm_shared_settle.Reads as dm-shared-settle-reads
+use Rattle.druthmoy.proofs.dm_slot.Kinds as dm-slot-kinds
+use Rattle.druthmoy.proofs.dm_slot.Reads as dm-slot-reads
+use Rattle.druthmoy.proofs.dm_settle_map.Kinds as dm-settle-map-kinds
+use Rattle.druthmoy.proofs.dm_settle_map.Reads as dm-settle-map-reads
+use Rattle.druthmoy.proofs.dm_map_reasons.Kinds as dm-map-reasons-kinds
+use Rattle.druthmoy.proofs.dm_map_reasons.Reads as dm-map-reasons-reads
 
 pub dm-check-determined : Determined 2 dm-check-kinds.ps dm-check-kinds.r dm-check-reads.Learnt
 dm-check-determined κs a z z′ ws ws′ p q = (refl, ap (λ (w : List ℕ). (tt, (tt, (w, tt)))) (same p q))
@@ -144,4 +150,23 @@ dm-shared-settle-determined κs a z z′ ws ws′ p q = (
   ap₂ (λ (w : List ℕ) (bs : List ℕ × List ℕ). (tt, (tt, (tt, (bs .0, (bs .1, (w, tt)))))))
       (same (p .0) (q .0))
       (ap₂ (λ (b d : List ℕ). (b, d)) (same (p .1 .0) (q .1 .0)) (same (p .1 .1) (q .1 .1))),
+)
+
+pub dm-slot-determined : Determined 3 dm-slot-kinds.ps dm-slot-kinds.r dm-slot-reads.Learnt
+dm-slot-determined κs a z z′ ws ws′ p q = (refl, ap (λ (w : List ℕ). (tt, (tt, (tt, (tt, (w, tt)))))) (same p q))
+
+pub dm-settle-map-determined : Determined 8 dm-settle-map-kinds.ps dm-settle-map-kinds.r dm-settle-map-reads.Learnt
+dm-settle-map-determined κs a z z′ ws ws′ p q = (
+  refl,
+  ap₂ (λ (x y : List ℕ × List ℕ). (tt, (tt, (tt, (tt, (tt, (x .0, (x .1, (y .0, (y .1, tt))))))))))
+      (ap₂ (λ (b d : List ℕ). (b, d)) (same (p .work-is) (q .work-is)) (same (p .out-is) (q .out-is)))
+      (ap₂ (λ (b d : List ℕ). (b, d)) (same (p .each-is) (q .each-is)) (same (p .answer-is) (q .answer-is))),
+)
+
+pub dm-map-reasons-determined : Determined 5 dm-map-reasons-kinds.ps dm-map-reasons-kinds.r dm-map-reasons-reads.Learnt
+dm-map-reasons-determined κs a z z′ ws ws′ p q = (
+  refl,
+  ap₂ (λ (w : List ℕ) (bs : List ℕ × List ℕ). (tt, (tt, (tt, (tt, (bs .0, (bs .1, (w, tt))))))))
+      (same (p .answer-is) (q .answer-is))
+      (ap₂ (λ (b d : List ℕ). (b, d)) (same (p .out-is) (q .out-is)) (same (p .each-is) (q .each-is))),
 )

@@ -54,13 +54,13 @@ use Rattle.promises.proofs.Chains as chains
 -- ---- the tests by number
 
 module _ {xs : List Fault} {o rest : Outcome} (j : Judged xs o rest) where
-  unless-le : (a b number place : ℕ) → Judged (at number place (b < a) ∷ xs) (unless (leb a b) number place o) rest
+  pub unless-le : (a b number place : ℕ) → Judged (at number place (b < a) ∷ xs) (unless (leb a b) number place o) rest
   unless-le a b number place = judge-unless (leb a b) number place (b < a) (leb-false a b) (λ t h. let l = leb-true a b t in omega arith) j
 
   unless-lt : (a b number place : ℕ) → Judged (at number place (b ≤ a) ∷ xs) (unless (ltb a b) number place o) rest
   unless-lt a b number place = judge-unless (ltb a b) number place (b ≤ a) (ltb-false a b) (λ t h. let l = ltb-true a b t in omega arith) j
 
-  unless-eq : (a b number place : ℕ) → Judged (at number place (a ≡ b → ⊥) ∷ xs) (unless (eqb a b) number place o) rest
+  pub unless-eq : (a b number place : ℕ) → Judged (at number place (a ≡ b → ⊥) ∷ xs) (unless (eqb a b) number place o) rest
   unless-eq a b number place = judge-unless (eqb a b) number place (a ≡ b → ⊥) (eqb-false a b) (λ t h. h (eqb-true a b t)) j
 
 -- ---- the chains

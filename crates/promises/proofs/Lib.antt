@@ -22,5 +22,8 @@ pub mod CheapestTree
 pub mod OneChoice
 pub mod ByLiterals
 pub mod SharedOutputs
+pub mod MapJudging
+pub mod Selector
+pub mod MapFaces
 pub mod Faces
 pub mod Examples

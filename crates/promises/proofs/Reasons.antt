@@ -23,7 +23,7 @@ use Rattle.promises.specs.Calls.{value, reasons, answers, leaves, Called
 use Rattle.promises.specs.Reasons.{shownIn, ExactlyTrue}
 use Rattle.promises.proofs.Calling.{only}
 
-places-exact : (n : ℕ) (l : List Cube) (a : ℕ) → ExactlyTrue n l a (truePlaces n l a)
+pub places-exact : (n : ℕ) (l : List Cube) (a : ℕ) → ExactlyTrue n l a (truePlaces n l a)
 unfolding truePlaces
 places-exact n l a = record {
   true-there = λ p h. let t = those-bounds _ (length l) 0 p h in (omega (arith, t .1), t .2);

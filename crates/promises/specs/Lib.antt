@@ -12,5 +12,6 @@ pub mod OneChoice
 pub mod ByLiterals
 pub mod PlainSteps
 pub mod SharedOutputs
+pub mod Selector
 pub mod Faced
 pub mod Marked

@@ -2,3 +2,8 @@ pub mod Parts
 pub mod Turning
 pub mod Checks
 pub mod Determined
+pub mod Slots
+pub mod Replaced
+pub mod Joined
+pub mod Burned
+pub mod Shown

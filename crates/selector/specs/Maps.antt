@@ -1,11 +1,11 @@
 -- A map: lists end to end in a lent buffer, with their lengths; its slot numbers, and its cost. Document 02, Thirteen: "it takes 1 to 12 plain lists, one per slot bit, all
 -- over the same n, end to end in a lent buffer with their lengths, scripts likewise, and answers a label's slot number, bit k from list k".
 -- Assumes nothing.
-use Prim.Native.Nat.{ℕ, zero, suc, _-_, _*_, _^_}
+use Prim.Native.Nat.{ℕ, zero, suc, _+_, _-_, _*_, _^_}
 use mathlib.Core.Bool.{Bool}
 use mathlib.Core.List.{List, [], _++_}
 use lib.Dec.{eqb}
-use lib.ListN.{length, getD, take, drop}
+use lib.ListN.{length, getD, set, take, drop}
 use Rattle.bits.specs.Below.{sumBelow, listBelow}
 use Rattle.records.specs.Records.{zeros}
 use Rattle.cube.specs.declared.Cube.{Cube}
@@ -52,3 +52,12 @@ totalCost m f = sumBelow m (λ k. cost (f k))
 -- a number for each of m lists, as an array of twelve: zeros after the last
 unfoldable pub eachOf : ℕ → (ℕ → ℕ) → List ℕ
 eachOf m f = listBelow m f ++ zeros (mostLists - m)
+
+-- ---- one list replaced
+
+-- the bytes of a map with other bytes in the place of list j, and its lengths: "replacing one bit's list"
+unfoldable pub replaced : List ℕ → List ℕ → ℕ → List ℕ → List ℕ
+replaced lists lengths j new = take (starts lengths j) lists ++ (new ++ drop (starts lengths j + getD lengths j 0) lists)
+
+abbrev pub newLengths : List ℕ → ℕ → List ℕ → List ℕ
+newLengths lengths j new = set lengths j (length new)

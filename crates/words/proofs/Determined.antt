@@ -33,6 +33,10 @@ use Rattle.words.proofs.put_worded.Kinds as put-worded-kinds
 use Rattle.words.proofs.put_worded.Reads as put-worded-reads
 use Rattle.words.proofs.put_shared_settled.Kinds as put-shared-settled-kinds
 use Rattle.words.proofs.put_shared_settled.Reads as put-shared-settled-reads
+use Rattle.words.proofs.put_map_answer.Kinds as put-map-answer-kinds
+use Rattle.words.proofs.put_map_answer.Reads as put-map-answer-reads
+use Rattle.words.proofs.put_each.Kinds as put-each-kinds
+use Rattle.words.proofs.put_each.Reads as put-each-reads
 
 pub put-counted-determined : Determined 1 put-counted-kinds.ps put-counted-kinds.r put-counted-reads.Learnt
 put-counted-determined κs a z z′ ws ws′ p q = (refl, ap (λ (w : List ℕ). (w, (tt, tt))) (same p q))
@@ -75,3 +79,9 @@ put-worded-determined κs a z z′ ws ws′ p q = (refl, ap (λ (w : List ℕ). 
 
 pub put-shared-settled-determined : Determined 1 put-shared-settled-kinds.ps put-shared-settled-kinds.r put-shared-settled-reads.Learnt
 put-shared-settled-determined κs a z z′ ws ws′ p q = (refl, ap (λ (w : List ℕ). (w, (tt, tt))) (same p q))
+
+pub put-map-answer-determined : Determined 1 put-map-answer-kinds.ps put-map-answer-kinds.r put-map-answer-reads.Learnt
+put-map-answer-determined κs a z z′ ws ws′ p q = (refl, ap (λ (w : List ℕ). (w, (tt, tt))) (same p q))
+
+pub put-each-determined : Determined 1 put-each-kinds.ps put-each-kinds.r put-each-reads.Learnt
+put-each-determined κs a z z′ ws ws′ p q = (refl, ap (λ (w : List ℕ). (w, (tt, tt))) (same p q))

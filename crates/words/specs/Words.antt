@@ -6,7 +6,10 @@ use mathlib.Core.Bool.{cond}
 use mathlib.Core.List.{List, [], _∷_, _++_}
 use lib.Dec.{eqb}
 use lib.ListN.{length, take, drop, getD}
+use Rattle.records.specs.Records.{zeros}
 use Rattle.records.specs.Answers.{Outcome, accepted, refused}
+use Rattle.selector.specs.Maps.{mostLists}
+use Rattle.selector.specs.Answers.{MapOutcome, mapAccepted, mapRefused, listRefused}
 
 -- a number, a place and six values, 0 for each that is missing
 abbrev pub eight : ℕ → ℕ → List ℕ → List ℕ
@@ -17,7 +20,7 @@ unfoldable pub words : Outcome → List ℕ
 words (accepted values) = eight 0 0 values
 words (refused r) = eight (r .number) (r .place) (r .differing ∷ [])
 
--- what stands for the best polarity and for its size where there is none
+-- what stands for the best polarity and for its size where there is none, and for the list's number where a refusal belongs to no list
 abbrev pub allOnes : ℕ
 allOnes = 18446744073709551615
 
@@ -33,3 +36,15 @@ settledWords (refused r) = words (refused r)
 abbrev pub withStart : ℕ → Outcome → Outcome
 withStart start (accepted values) = accepted (values ++ (start ∷ []))
 withStart start (refused r) = refused r
+
+-- a call on a map answers one number; a refusal has its third answer and the list's number (document 02, Thirteen), all ones where it belongs to no list
+unfoldable pub mapWords : MapOutcome → List ℕ
+mapWords (mapAccepted x) = eight 0 0 (x ∷ [])
+mapWords (mapRefused r) = eight (r .number) (r .place) (r .differing ∷ allOnes ∷ [])
+mapWords (listRefused r k) = eight (r .number) (r .place) (r .differing ∷ k ∷ [])
+
+-- the twelve numbers that a caller lends to a call on a map, after it: written like its buffers (document 02, Thirteen)
+abbrev pub afterEach : MapOutcome → List ℕ → List ℕ → List ℕ
+afterEach (mapAccepted x) new old = new
+afterEach (mapRefused r) new old = old
+afterEach (listRefused r k) new old = zeros mostLists

@@ -8,6 +8,9 @@ use reasons::Reasoned;
 use records::Counted;
 use records::Refusal;
 use script::Finished;
+use selector::ByList;
+use selector::MOST_LISTS;
+use selector::MapAnswer;
 use settling::Fixed;
 use settling::Settled;
 use settling::Settlement;
@@ -30,10 +33,14 @@ ghost use Rattle.settling.specs.declared.Settled.the-variants.{Burned};
 ghost use Rattle.settling.specs.Calls.{settled};
 ghost use Rattle.shared.specs.Calls.{worded};
 ghost use Rattle.shared_run.specs.Calls.{sharedSettled};
-ghost use Rattle.words.specs.Words.{words, settledWords, withStart};
+ghost use Rattle.selector.specs.Answers.{mapTold};
+ghost use Rattle.words.specs.Words.{eight, words, settledWords, withStart, mapWords, afterEach};
 
 // What stands for the best polarity and for its size where there is none.
 const ABSENT: u64 = u64::MAX;
+
+// What stands for the list's number where a refusal belongs to no list of a map.
+const NO_LIST: u64 = u64::MAX;
 
 // A refusal: its number, its place and its third answer.
 fn put_refusal(answer: &mut [u64; 8], r: Refusal)
@@ -222,5 +229,43 @@ pub fn put_shared_settled(answer: &mut [u64; 8], r: SharedSettled)
             *answer = [0, 0, given, peak, script, burned, 0, 0];
         }
         SharedSettled::Refused(why) => put_refusal(answer, why),
+    }
+}
+
+// A refusal of a map: its number, its place, its third answer and the list's number.
+fn put_list_refusal(answer: &mut [u64; 8], r: Refusal, list: u64)
+    ensures { λ _. ⌜ now (answer .exit) ≡ eight (r .number) (r .place) (r .differing ∷ list ∷ []) ⌝ }
+{
+    let number = r.number as u64;
+    let place = r.place as u64;
+    let differing = r.differing as u64;
+    *answer = [number, place, differing, list, 0, 0, 0, 0];
+}
+
+// The number that was asked for of a map, or a refusal.
+pub fn put_map_answer(answer: &mut [u64; 8], r: MapAnswer)
+    ensures { λ _. ⌜ now (answer .exit) ≡ mapWords (mapTold r) ⌝ }
+{
+    match r {
+        MapAnswer::Number(x) => put_values(answer, x, 0),
+        MapAnswer::Refused(why) => put_list_refusal(answer, why, NO_LIST),
+        MapAnswer::ListRefused(why, list) => put_list_refusal(answer, why, list as u64),
+    }
+}
+
+// A number for each list of a map: written like a buffer, so all zero where a list is refused, and as they were where the map is.
+pub fn put_each(each: &mut [u64; MOST_LISTS], r: ByList)
+    ensures { λ _. ⌜ now (each .exit) ≡ afterEach (mapTold (r .answer)) (r .each) (now (each .entry)) ⌝ }
+{
+    let found = r.each;
+    let told = r.answer;
+    match told {
+        MapAnswer::Number(_) => {
+            *each = found;
+        }
+        MapAnswer::Refused(_) => {}
+        MapAnswer::ListRefused(_, _) => {
+            *each = [0; MOST_LISTS];
+        }
     }
 }
