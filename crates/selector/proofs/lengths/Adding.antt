@@ -55,8 +55,8 @@ module _ (lengths : List ℕ) where
   counting-none = record { within = omega arith; so-far = sym (sum-zero (λ i. getD lengths i 0 / recordWidth)); few = omega arith }
 
   module _ (records k : ℕ) (r : CountingRecords lengths records k) where
-    -- the count never passes the bytes of the lists
-    pub counting-fits : (lists : List ℕ) → Mapped lists lengths → k < length lengths → records + getD lengths k 0 / recordWidth ≤ length lists
+    -- the count never passes the bytes of the lists, whatever part of a length is added
+    pub counting-fits : (lists : List ℕ) → Mapped lists lengths → k < length lengths → records + getD lengths k 0 ≤ length lists
     counting-fits lists m h = omega (arith, r .few, start-before lengths k (length lengths) h, m .adds)
 
     pub counting-more : k < length lengths → CountingRecords lengths (records + getD lengths k 0 / recordWidth) (k + 1)

@@ -189,9 +189,13 @@ module _ (j : Job) (out₀ : List ℕ) where
               passing = passing-more (settleAt j) k (r .passing) accepted-here;
             }
 
-    -- the bytes after the burned lists, which are cleared at the end
+    -- the output has room for the given lists, ..
+    pub settling-given : at ≤ length out
+    settling-given = omega (arith, r .at-is, sum-more k (listCount j) (λ i. getD (j .lengths) i 0) (r .within), m .lists-are .adds, m .room, r .out-long)
+
+    -- .. and so for the burned ones: the bytes after them are cleared at the end
     pub settling-rest : to ≤ length out
-    settling-rest = omega (arith, r .to-le, r .at-is, sum-more k (listCount j) (λ i. getD (j .lengths) i 0) (r .within), m .lists-are .adds, m .room, r .out-long)
+    settling-rest = omega (arith, r .to-le, settling-given)
 
     pub settling-done : listCount j ≤ k → (p : List ℕ) → p ≡ zeros (length (take (length out - to) (drop to out)))
         → (s : ByList) → mapTold (s .answer) ≡ mapAccepted total → s .each ≡ sizes → SettledTurns j out₀ s (putMid to (length out - to) out p)

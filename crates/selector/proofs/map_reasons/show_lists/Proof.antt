@@ -88,12 +88,12 @@ with-bit-requires c κs = let v = c .before .before .before .before .before in
 mul-to : tie.Need-mul-to Inv-loop μ-loop
 mul-to c = let v = c .before .before .before .before .before .before in
     let l = v .before .before .before .before .before in
-    omega (arith, showing-to _ _ _ _ _ (l .before .before .before .before .pre) _ _ _ _ _ _ (l .loop .inv) (v .before .before .before .before .loop-test .taken) _ _ refl refl _ (v .show-part .ensures .0) _ _ (ap reasoned (c .before .before .number .given .1)), l .loop .inv .out-long)
+    omega (arith, showing-to _ _ _ _ _ (l .before .before .before .before .pre) _ _ _ _ _ _ (l .loop .inv) (v .before .before .before .before .loop-test .taken) _ _ refl refl _ (v .show-part .ensures .0) _ _ (ap reasoned (c .before .before .number .given .1)), showing-room _ _ _ _ _ (l .before .before .before .before .pre) _ _ _ _ _ _ (l .loop .inv) (v .before .before .before .before .loop-test .taken), l .loop .inv .out-long)
 
 add-to : tie.Need-add-to Inv-loop μ-loop
 add-to c = let v = c .before .before .before .before .before .before in
     let l = v .before .before .before .before .before in
-    omega (arith, showing-to _ _ _ _ _ (l .before .before .before .before .pre) _ _ _ _ _ _ (l .loop .inv) (v .before .before .before .before .loop-test .taken) _ _ refl refl _ (v .show-part .ensures .0) _ _ (ap reasoned (c .before .before .number .given .1)), l .loop .inv .out-long)
+    omega (arith, showing-to _ _ _ _ _ (l .before .before .before .before .pre) _ _ _ _ _ _ (l .loop .inv) (v .before .before .before .before .loop-test .taken) _ _ refl refl _ (v .show-part .ensures .0) _ _ (ap reasoned (c .before .before .number .given .1)), showing-room _ _ _ _ _ (l .before .before .before .before .pre) _ _ _ _ _ _ (l .loop .inv) (v .before .before .before .before .loop-test .taken), l .loop .inv .out-long)
 
 add-k : tie.Need-add-k Inv-loop μ-loop
 add-k c = search needs

@@ -6,7 +6,7 @@ use native.Mathlib.Omega.{arith}
 use lib.ListN.{length}
 use borrow.Author.Needs.{needs}
 use Rattle.selector.specs.Calls.{job}
-use Rattle.selector.proofs.settle_map.Settling.{Settling, settling-none, settling-end, settling-script-end, settling-room, settling-index, settling-refused, settling-to, settling-total, settling-more, settling-rest, settling-done}
+use Rattle.selector.proofs.settle_map.Settling.{Settling, settling-none, settling-end, settling-script-end, settling-room, settling-index, settling-refused, settling-to, settling-total, settling-more, settling-given, settling-rest, settling-done}
 use Rattle.selector.proofs.settle_map.settle_lists.Statement.{statement}
 use Rattle.selector.proofs.settle_map.settle_lists.Tie as tie
 
@@ -125,11 +125,11 @@ loop-again c = let v = c .before .before .before .before .before .before .before
 
 sub-clear : tie.Need-sub-clear Inv-loop μ-loop
 sub-clear c = let l = c .before in
-    settling-rest _ _ (l .before .before .before .before .before .before .before .pre) _ _ _ _ _ _ _ _ (l .loop .inv)
+    omega (arith, settling-rest _ _ (l .before .before .before .before .before .before .before .pre) _ _ _ _ _ _ _ _ (l .loop .inv), settling-given _ _ (l .before .before .before .before .before .before .before .pre) _ _ _ _ _ _ _ _ (l .loop .inv))
 
 part-clear-start : tie.Need-part-clear-start Inv-loop μ-loop
 part-clear-start c = let l = c .before in
-    settling-rest _ _ (l .before .before .before .before .before .before .before .pre) _ _ _ _ _ _ _ _ (l .loop .inv)
+    omega (arith, settling-rest _ _ (l .before .before .before .before .before .before .before .pre) _ _ _ _ _ _ _ _ (l .loop .inv), settling-given _ _ (l .before .before .before .before .before .before .before .pre) _ _ _ _ _ _ _ _ (l .loop .inv))
 
 part-clear-end : tie.Need-part-clear-end Inv-loop μ-loop
 part-clear-end c = search needs
