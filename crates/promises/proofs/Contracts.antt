@@ -1,4 +1,4 @@
--- Every outcome that the contract of a call allows, from Rattle or from C and Rust, is a `Called` or a `Faced`: the promises are of these.
+-- Every outcome that the contract of a call allows, of all but those on a map (Selector.antt, MapFaces.antt), from Rattle or from C and Rust, is a `Called` or a `Faced`: the promises are of these.
 -- Assumes nothing.
 use mathlib.Core.Path.{_≡_, refl, ap, ap₂, _∙_}
 use mathlib.Core.List.{List, [], _∷_}

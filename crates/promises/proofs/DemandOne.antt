@@ -1,5 +1,6 @@
 -- Demand 1. Every call ends and answers, on all lists, scripts and buffers. Bad input is refused by a number and a place. A refusal found before the
 -- script starts writes nothing; one found at a step clears the work area and hands out no list.
+-- Of the calls on a map the same is said in Selector.antt.
 -- That every call ends and answers is what its proof says, for it has no `requires`; `Called` is any outcome that its contract allows (Contracts.antt).
 -- Assumes nothing.
 use mathlib.Core.Path.{_≡_, refl, sym, ap, _∙_, subst}

@@ -1,4 +1,4 @@
--- The demands for callers from C and Rust. Every outcome that the contract of a face allows is a `Faced` (Contracts.antt): a call as from Rattle, whose
+-- The demands for callers from C and Rust; of the calls on a map see MapFaces.antt. Every outcome that the contract of a face allows is a `Faced` (Contracts.antt): a call as from Rattle, whose
 -- outcome the eight words are. Word 0 is 0 exactly when it was accepted; the words 2 to 7 of `dm_settle` are then the settlement's counts.
 -- Assumes nothing.
 use mathlib.Core.Path.{_≡_, refl, sym, ap, _∙_}

@@ -68,24 +68,24 @@ of-reasons-face n lists lengths a out each out′ each′ answer twelve f =
       told = f .answer-is;
     }
 
-pub dm-slot-called : IsMapFaced 3 dm-slot-kinds.ps dm-slot-kinds.r dm-slot-reads.Learnt
+pub dm-slot-faced : IsMapFaced 3 dm-slot-kinds.ps dm-slot-kinds.r dm-slot-reads.Learnt
     (λ κs a. slot (a .0) (a .1 .0 .now) (a .1 .1 .0 .now) (a .1 .1 .1 .0))
     (λ κs a ws. []) (λ κs a ws. ws .1 .1 .1 .1 .0)
-dm-slot-called κs a z ws twelve p = record { outcome = _; called = of-slot _ _ _ _ _ refl; told = p }
+dm-slot-faced κs a z ws twelve p = record { outcome = _; called = of-slot _ _ _ _ _ refl; told = p }
 
-pub dm-settle-map-called : IsMapFaced 8 dm-settle-map-kinds.ps dm-settle-map-kinds.r dm-settle-map-reads.Learnt
+pub dm-settle-map-faced : IsMapFaced 8 dm-settle-map-kinds.ps dm-settle-map-kinds.r dm-settle-map-reads.Learnt
     (λ κs a.
     settleMap (a .0) (a .1 .0 .now) (a .1 .1 .0 .now) (a .1 .1 .1 .0 .now) (a .1 .1 .1 .1 .0 .now) (a .1 .1 .1 .1 .1 .0 .now) (a .1 .1 .1 .1 .1 .1 .0 .now)
     (a .1 .1 .1 .1 .1 .1 .1 .0 .now))
     (λ κs a ws. ws .1 .1 .1 .1 .1 .0 ∷ ws .1 .1 .1 .1 .1 .1 .0 ∷ ws .1 .1 .1 .1 .1 .1 .1 .0 ∷ []) (λ κs a ws. ws .1 .1 .1 .1 .1 .1 .1 .1 .0)
 unfolding Twelve
-dm-settle-map-called κs a z ws twelve p = of-settle-face _ _ _ _ _ _ _ _ _ _ _ _ twelve p
+dm-settle-map-faced κs a z ws twelve p = of-settle-face _ _ _ _ _ _ _ _ _ _ _ _ twelve p
 
-pub dm-map-reasons-called : IsMapFaced 5 dm-map-reasons-kinds.ps dm-map-reasons-kinds.r dm-map-reasons-reads.Learnt
+pub dm-map-reasons-faced : IsMapFaced 5 dm-map-reasons-kinds.ps dm-map-reasons-kinds.r dm-map-reasons-reads.Learnt
     (λ κs a. mapReasons (a .0) (a .1 .0 .now) (a .1 .1 .0 .now) (a .1 .1 .1 .0) (a .1 .1 .1 .1 .0 .now) (a .1 .1 .1 .1 .1 .0 .now))
     (λ κs a ws. ws .1 .1 .1 .1 .0 ∷ ws .1 .1 .1 .1 .1 .0 ∷ []) (λ κs a ws. ws .1 .1 .1 .1 .1 .1 .0)
 unfolding Twelve
-dm-map-reasons-called κs a z ws twelve p = of-reasons-face _ _ _ _ _ _ _ _ _ twelve p
+dm-map-reasons-faced κs a z ws twelve p = of-reasons-face _ _ _ _ _ _ _ _ _ twelve p
 
 -- ---- word 0, and the list's number
 

@@ -196,7 +196,8 @@ module _ (c : MapCall) (o : MapOutcome) (buffers : List (List ℕ)) (called : Ma
             zeroed = left-by (listRefused r k) (sym (called .answer) ∙ is) .1;
           }
 
-  -- .. and the list was refused in the order of the call on it: by the first in order that is wrong, or at a step of its script.
+  -- .. and the list was refused in the order of the call on it: by the first in order that is wrong, or at a step of its script. (What that call leaves is what it would leave
+  -- alone; the map's buffers are all zero.)
   pub refused-list-why : (r : Refusal) (k : ℕ) → o ≡ listRefused r k
       → RefusedBefore r (leaves (listCall c k)) (listCall c k) ⊎ RefusedAtStep r (leaves (listCall c k)) (listCall c k)
   refused-list-why r k is = refused-call (listCall c k) (refused r) (leaves (listCall c k)) (refused-list r k is .here) r refl

@@ -1,4 +1,4 @@
--- The calls of documents 01 and 02, each with what its contract says: what it answers, and what it leaves in the buffers that it was lent.
+-- The calls of documents 01 and 02 but those on a map (Selector.antt), each with what its contract says: what it answers, and what it leaves in the buffers that it was lent.
 -- Assumes nothing.
 use mathlib.Core.Path.{_≡_}
 use mathlib.Core.List.{List, [], _∷_}

@@ -171,7 +171,7 @@ pub record MapFaced (c : MapCall) (answer : List ℕ) (buffers : List (List ℕ)
   pub called : MapCalled c outcome buffers
   pub told : answer ≡ mapWords outcome
 
--- the numbers that it was lent are twelve, where it was lent any
+-- the numbers that it was lent are twelve, where it was lent any: the face's signature says so, and no clause of its contract repeats it
 unfoldable pub Twelve : MapCall → Type 0
 Twelve (slot n lists lengths a) = Unit {0}
 Twelve (settleMap n lists lengths scripts script-lengths work out each) = length each ≡ mostLists

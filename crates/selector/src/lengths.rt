@@ -73,7 +73,7 @@ pub(crate) fn check_map_reasons(lists: &[u8], lengths: &[u64], out: usize) -> Co
     }
 }
 
-// Refusals 24, 26 and 5 of settling a map, or how many lists there are.
+// Refusals 24, 26 and 5 of settling a map, or how many lists there are. Neither n nor the work buffer is looked at: they are tested list by list.
 pub(crate) fn check_job(
     lists: &[u8],
     lengths: &[u64],

@@ -5,6 +5,9 @@ pub mod settle_map;
 pub mod slot;
 
 use records::Refusal;
+ghost use mathlib.Core.Path.{_≡_};
+ghost use Rattle.records.specs.Records.{zeros};
+ghost use Rattle.selector.specs.Maps.{mostLists};
 
 // Lists of a map, at most.
 pub const MOST_LISTS: usize = 12;
@@ -20,4 +23,14 @@ pub enum MapAnswer {
 pub struct ByList {
     pub answer: MapAnswer,
     pub each: [u64; MOST_LISTS],
+}
+
+// A refusal, with zeros.
+fn refused_map(answer: MapAnswer) -> ByList
+    ensures { λ r. ⌜ (r .answer ≡ answer) × (r .each ≡ zeros mostLists) ⌝ }
+{
+    ByList {
+        answer,
+        each: [0; MOST_LISTS],
+    }
 }

@@ -3,7 +3,7 @@ use crate::ByList;
 use crate::MOST_LISTS;
 use crate::MapAnswer;
 use crate::lengths::check_map_reasons;
-use crate::settle_map::refused_map;
+use crate::refused_map;
 use crate::slot::with_bit;
 use reasons::PLACE_WIDTH;
 use reasons::Reasoned;

@@ -3,6 +3,7 @@ use crate::ByList;
 use crate::MOST_LISTS;
 use crate::MapAnswer;
 use crate::lengths::check_job;
+use crate::refused_map;
 use records::Counted;
 use records::Refusal;
 use settling::Settled;
@@ -10,11 +11,9 @@ ghost use mathlib.Core.Path.{_≡_};
 ghost use mathlib.Core.List.{_++_};
 ghost use Prim.Native.Nat.{_-_, _≤_};
 ghost use lib.ListN.{length, take, drop};
-ghost use Rattle.records.specs.Records.{zeros};
 ghost use Rattle.cube.specs.Lists.{cubesOf, mostRecords};
 ghost use Rattle.polarity.specs.Cost.{cost};
 ghost use Rattle.settling.specs.Calls.{settled, settleOutcome, settleOut};
-ghost use Rattle.selector.specs.Maps.{mostLists};
 ghost use Rattle.selector.specs.Calls.{job, SettleCalled};
 ghost use Rattle.selector.specs.Turns.{PartTold, Settleable, SettledTurns};
 
@@ -73,16 +72,6 @@ fn settle_part(
             let cost = list_cost(&out[from..to]);
             Part::Burned(bytes, cost)
         }
-    }
-}
-
-// A refusal, with zeros.
-pub(crate) fn refused_map(answer: MapAnswer) -> ByList
-    ensures { λ r. ⌜ (r .answer ≡ answer) × (r .each ≡ zeros mostLists) ⌝ }
-{
-    ByList {
-        answer,
-        each: [0; MOST_LISTS],
     }
 }
 

@@ -1,4 +1,4 @@
--- Two outcomes that satisfy the contract of a public function of this crate are equal: the answer's words, and the starts.
+-- Two outcomes that satisfy the contract of a public function of this crate are equal: the answer's words, the starts of an index, and the numbers of a map's lists.
 -- Assumes nothing.
 use mathlib.Core.Path.{refl, ap, ap₂}
 use mathlib.Core.List.{List}

@@ -1,5 +1,5 @@
 -- The eight words of an answer: the number of the refusal, 0 when accepted; its place; the values in document 01's order, and zeros. A refusal has one value,
--- its third answer (document 02, Four).
+-- its third answer (document 02, Four), and of a map the list's number too (document 02, Thirteen).
 -- Assumes nothing.
 use Prim.Native.Nat.{ℕ}
 use mathlib.Core.Bool.{cond}

@@ -1,4 +1,4 @@
-// Answers as eight words: the number of a refusal, its place, and six values; of a refusal the first value is its number of differing variables.
+// Answers as eight words: the number of a refusal, its place, and six values; of a refusal the first value is its number of differing variables, and of a map the second the list's number.
 use cube::Valued;
 use index::GROUPS;
 use index::Indexed;
