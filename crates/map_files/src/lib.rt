@@ -10,9 +10,6 @@ use settling::Settled;
 ghost use Prim.Native.Nat.{_≤_};
 ghost use Rattle.cube.specs.Lists.{mostVariables};
 
-// Bytes of the script that are read: one step more than the most.
-const SCRIPT_BYTES: usize = script::check::STEP_WIDTH * (script::check::MOST_STEPS + 1);
-
 // Bytes of the work buffer, and of the output.
 const BUFFER_BYTES: usize = cube::list::RECORD_WIDTH * cube::list::MOST_RECORDS;
 
@@ -28,7 +25,7 @@ fn burn(n: usize, list: &[u8], script: &[u8])
         }
         Settled::Burned(s) => {
             print::counts(s);
-            print::list(n, &out, s.burned);
+            program::print::list(n, &out, s.burned);
         }
     }
 }
@@ -37,7 +34,7 @@ fn burn(n: usize, list: &[u8], script: &[u8])
 fn load_script(n: usize, list: &[u8], path: &[u8])
     requires { ⌜ n ≤ mostVariables ⌝ }
 {
-    let mut script = [0u8; SCRIPT_BYTES];
+    let mut script = [0u8; file::SCRIPT_BYTES];
     let s = file::load(path, &mut script);
     if !s.found {
         program::print::no_file();

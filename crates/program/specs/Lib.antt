@@ -1,2 +1,3 @@
--- What the contracts of a line's number cite. Assumes nothing.
+-- What the contracts of a line's number and of a label's line cite. Assumes nothing.
 pub mod Lines
+pub mod Labels

@@ -4,6 +4,9 @@ ghost use Rattle.io.specs.Counts.{Counts};
 // Bytes of the list that are read: one record more than the most.
 pub const LIST_BYTES: usize = cube::list::RECORD_WIDTH * (cube::list::MOST_RECORDS + 1);
 
+// Bytes of the script that are read: one step more than the most.
+pub const SCRIPT_BYTES: usize = script::check::STEP_WIDTH * (script::check::MOST_STEPS + 1);
+
 // Whether a file was read, to its end or as far as it is taken, and how many bytes were.
 pub struct Loaded {
     pub found: bool,
@@ -27,6 +30,16 @@ fn load_open(fd: i32, buf: &mut [u8]) -> Loaded
     }
     let found = has_ended(fd);
     Loaded { found, count }
+}
+
+// Whether no file of a name can be opened.
+pub fn is_missing(path: &[u8]) -> bool {
+    let fd = os::open_read(path);
+    if fd < 0 {
+        return true;
+    }
+    libc::close(fd);
+    false
 }
 
 // At most the buffer's length of a file's bytes, to the front of the buffer.

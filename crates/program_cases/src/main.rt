@@ -1,6 +1,6 @@
 // Cases of the programs, a row each in the file `cases`, with a bar between its parts: `settle`, the line, the list's file and the script's file; or `why`, the
-// line, the label's line and the list's file. Each row is printed, and after it what that program prints for it: nothing, where no program has the name. A row
-// that begins with `#` is a remark.
+// line, the label's line and the list's file; or `selector`, the line, the label's line and the folder of the map. Each row is printed, and after it what that
+// program prints for it: nothing, where no program has the name. A row that begins with `#` is a remark.
 use libc::STDOUT_FILENO;
 ghost use Prim.Native.Nat.{_≤_};
 ghost use lib.ListN.{length};
@@ -45,6 +45,9 @@ fn program(name: &[u8], line: &[u8], second: &[u8], third: &[u8]) {
     if check::same(name, b"why") {
         why_files::why_named(line, second, third);
     }
+    if check::same(name, b"selector") {
+        selector_files::selector_named(line, second, third);
+    }
 }
 
 // What is printed for the four parts of a row.
@@ -85,7 +88,7 @@ fn cases(table: &[u8]) {
 }
 
 fn main() {
-    let mut table = io::buffer();
+    let mut table = io::large_buffer();
     let fd = os::open_read(b"cases");
     let count = io::read_full(fd, &mut table);
     libc::close(fd);

@@ -1,8 +1,7 @@
 // Why a label goes to its slot, from files: the number of variables and the label from two lines, the list from a file; the places of the products that are true
 // there are printed.
-mod label;
-
 use program::file;
+use program::label;
 use program::line;
 use program::line::Line;
 use program::print;

@@ -1,0 +1,2 @@
+-- What the contracts of a path cite. Assumes nothing.
+pub mod Paths

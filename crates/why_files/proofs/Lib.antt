@@ -1,2 +1,0 @@
--- The laws of a label's line. Assumes nothing.
-pub mod Labels
