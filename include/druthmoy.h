@@ -1,5 +1,5 @@
-/* Druthmoy: cube lists, shared lists, scripts, fixed-polarity forms, expansion trees, Kronecker forms, indexes, and settling a
- * map.
+/* Druthmoy: cube lists, shared lists, scripts, fixed-polarity forms, expansion trees, Kronecker forms, indexes, settling a map,
+ * and maps of several lists.
  *
  * A number of variables n, a count of records, an assignment a and a polarity p are uint64_t; bit k of a and of p stands for
  * variable k.
@@ -34,12 +34,18 @@
  * of each group, 0 to 32 literals, counted in entries, as uint64_t[DM_STARTS]. An empty group has the start of the next one, and
  * where none comes after it, the count.
  *
+ * A map of several lists has 1 to 12 of them, one for each bit of a slot number, all over the same n. A label is an assignment,
+ * and bit k of its slot is the value of list k there. The lists stand end to end in one buffer, and their lengths in bytes, list
+ * 0 first, are an array of uint64_t, which is passed as a pointer and the number of its words. They add up to the length of the
+ * buffer, as numbers without bound. Its scripts are passed likewise, one for each list; a script can be empty. dm_slot,
+ * dm_settle_map and dm_map_reasons take such a map, and do with its lists in turn what another call does with one.
+ *
  * The limit of n is 32 for check, value, reasons, run, settle, write script, compact, index, group, run indexed, the calls of
- * shared lists and narrow from wide, 16 for wide from narrow, 6 for write kronecker, and 8 for the other calls.
+ * shared lists, those of maps of several lists and narrow from wide, 16 for wide from narrow, 6 for write kronecker, and 8 for
+ * the other calls.
  *
  * A buffer is passed as a pointer and a length in bytes. Pointers are not null, even where a length is 0, need no
- * alignment (but answer and starts, which are aligned as uint64_t is), and no buffer that a call writes overlaps another
- * argument.
+ * alignment (but those to uint64_t, which are aligned as it is), and no buffer that a call writes overlaps another argument.
  * The capacity of a work or output buffer for records is its length divided by 8, or by 12 for those of a shared list, rounded
  * down, and at most 4,096.
  *
@@ -48,11 +54,13 @@
  *     answer[0]    0 when accepted, else the number of the refusal
  *     answer[1]    the place of the refusal; 0 when accepted
  *     answer[2..]  when accepted, the values that stand with each call below, and 0 for the rest;
- *                  when refused, answer[2] is the number of differing variables, and the rest is 0
+ *                  when refused, answer[2] is the number of differing variables, answer[3], for a map of several lists,
+ *                  the number of the list that is refused, and the rest is 0
  *
  * The number of differing variables is that of the two cubes of the refused step, as they stood before it; it is 0 in
  * every refusal but 16 to 19. A literal against its complement is one differing variable, and so is a literal against
- * none.
+ * none. The number of a list is 0 to 11, and DM_NO_LIST where a map of several lists is refused for no list of it: with 24, with
+ * 26, and with 5 for the output. Places are those of that list alone, and of its script.
  *
  *     DM_N                1   n above the call's limit                                    place 0
  *     DM_LIST_LENGTH      2   list length not a multiple of 8 (of 4 for an old list,
@@ -81,14 +89,20 @@
  *     DM_GROUP           21   a number of literals above 32                               place 0
  *     DM_OUTPUTS         22   outputs that must be equal and aren't                       the step
  *     DM_MERGE           23   merge of cubes that differ, or of equal outputs             the step
+ *     DM_MAP_LISTS       24   a map of no list, or of more than 12                        place 0
  *     DM_INDEX           25   a lent index that is not this list's                        the first wrong entry
  *                             else, its starts are not                                    the first wrong group
+ *     DM_MAP_LENGTHS     26   lengths of a map's lists, or of its scripts, that don't
+ *                             add up to their buffer, or not one script a list            place 0
  *
- * What a refusal leaves behind: 1 to 9, 14, 15, 20, 21 and 25 are found before anything is written, and every buffer but
- * `answer` is as it was. 10, 11, 13, 16 to 19, 22 and 23 are found at a step (run, settle, run indexed, shared run and shared
- * settle only; 22 and 23 in the last two): then every byte of `work` is zero, and so is every byte of `index` and every word of
- * `starts`, and `out` is as it was. Lists, vectors and coefficients are only read, and so are scripts, but by write script, and
- * an index and its starts by group.
+ * What a refusal leaves behind, where it is not of a map of several lists: 1 to 9, 14, 15, 20, 21 and 25 are found before
+ * anything is written, and every buffer but `answer` is as it was. 10, 11, 13, 16 to 19, 22 and 23 are found at a step (run,
+ * settle, run indexed, shared run and shared settle only; 22 and 23 in the last two): then every byte of `work` is zero, and so
+ * is every byte of `index` and every word of `starts`, and `out` is as it was. A map of several lists that is refused for one of
+ * them, by whatever number, leaves all that the call writes zero: every byte of `work` and of `out`, and every word of
+ * `burned_lengths` or of `numbers`, also where no step was done. One that is refused for no list leaves all as it was.
+ * Lists, vectors and coefficients are only read, and so are scripts, but by write script, an index and its starts by group, and
+ * the lengths of a map's lists and scripts.
  */
 #ifndef DRUTHMOY_H
 #define DRUTHMOY_H
@@ -124,13 +138,19 @@ enum dm_refusal {
     DM_GROUP = 21,
     DM_OUTPUTS = 22,
     DM_MERGE = 23,
-    DM_INDEX = 25
+    DM_MAP_LISTS = 24,
+    DM_INDEX = 25,
+    DM_MAP_LENGTHS = 26
 };
 
 #define DM_ANSWER_WORDS 8
 
 /* The groups of an index: 0 to 32 literals. */
 #define DM_STARTS 33
+
+/* The lists of a map, at most; and what stands for the number of one where a map is refused for none of them. */
+#define DM_LISTS 12
+#define DM_NO_LIST UINT64_MAX
 
 /* Tests a list. answer[2]: the number of its records.
  * Refuses, in this order: 1, 2, 3, 4. */
@@ -367,6 +387,49 @@ void dm_shared_settle(uint64_t n,
                       uint8_t *work, size_t work_length,
                       uint8_t *out, size_t out_length,
                       uint64_t *answer);
+
+/* The slot of a label in a map of several lists. answer[2]: the slot number: bit k is the value of list k at the label, and the
+ * bits at and above the number of lists are 0. Another list in the place of one of them sways no bit but that list's.
+ * Refuses, in this order: 24, 26; then lists in turn, each as dm_value does: 1, 2, 3, 4, 6. */
+void dm_slot(uint64_t n,
+             const uint8_t *lists, size_t lists_length,
+             const uint64_t *lengths, size_t lengths_count,
+             uint64_t a,
+             uint64_t *answer);
+
+/* Settles a map of several lists: each list with its own script, as dm_settle does it, one after the other in the same work
+ * buffer. The slot of every label stays as it was. answer[2]: the cost of the map, which is that of its burned lists together,
+ * each as dm_best_polarity says.
+ * Accepted: the burned lists fill the front of out, end to end, every other byte of out is zero, and so is every byte of work;
+ * burned_lengths, of DM_LISTS words, has their lengths in bytes, and zeros after the last.
+ * Refused with 24, with 26 or with 5 for the output: work, out and burned_lengths are as they were. Refused for a list: all of
+ * them are zero.
+ * Refuses, in this order: 24, 26 (of the lists or of the scripts), 5 (out_length below lists_length); then lists in turn, each
+ * with its script as dm_run does, where 5 tests work against that list's count. */
+void dm_settle_map(uint64_t n,
+                   const uint8_t *lists, size_t lists_length,
+                   const uint64_t *lengths, size_t lengths_count,
+                   const uint8_t *scripts, size_t scripts_length,
+                   const uint64_t *script_lengths, size_t script_lengths_count,
+                   uint8_t *work, size_t work_length,
+                   uint8_t *out, size_t out_length,
+                   uint64_t *burned_lengths,
+                   uint64_t *answer);
+
+/* The reasons of a slot: for each list in turn the places of its products that are true at the label, as dm_reasons has them,
+ * end to end. A place counts from the first record of its list. answer[2]: the slot number, as dm_slot answers it.
+ * Accepted: writes 2 bytes at the front of out for each place, and no other byte of it; numbers, of DM_LISTS words, has the
+ * number of places of each list, and zeros after the last.
+ * Refused with 24, with 26 or with 5: out and numbers are as they were. Refused for a list: both are zero.
+ * Refuses, in this order: 24, 26, 5 (out_length below 2 bytes for each product of all lists, true or not; a list has as many as
+ * its length divided by 8, rounded down); then lists in turn, each as dm_value does: 1, 2, 3, 4, 6. */
+void dm_map_reasons(uint64_t n,
+                    const uint8_t *lists, size_t lists_length,
+                    const uint64_t *lengths, size_t lengths_count,
+                    uint64_t a,
+                    uint8_t *out, size_t out_length,
+                    uint64_t *numbers,
+                    uint64_t *answer);
 
 /* An old list as a list: the same cubes at the same places. answer[2]: their number.
  * Writes the first 8 * count bytes of out, and no other byte; a refusal writes none.

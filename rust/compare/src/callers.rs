@@ -1,37 +1,44 @@
 //! A case as a call of the model, of the library by its words, and of the wrapper by its names.
 
 use crate::differ::{After, Call, Case};
-use crate::lent::{Lent, LentStarts};
+use crate::lent::{Lent, LentWords};
+use crate::map_callers::{answered_of_map, modelled_of_map, named_of_map};
 use druthmoy::{Fixed, Index, Indexed, Kronecker, Refusal, Run, Settled, SharedSettled, Tree, Value, Written, words};
 use model::calls::{self, Outcome};
 use model::cube::PLACE;
 use model::index::Starts;
+use model::selector::PerList;
 
 /// What a call may write to.
-struct Buffers<'a> {
-    script: &'a mut [u8],
-    work: &'a mut [u8],
-    out: &'a mut [u8],
-    starts: &'a mut Starts,
+pub struct Buffers<'a> {
+    pub script: &'a mut [u8],
+    pub work: &'a mut [u8],
+    pub out: &'a mut [u8],
+    pub starts: &'a mut Starts,
+    pub numbers: &'a mut PerList,
 }
 
 /// Makes a call on copies of a case's buffers.
 fn on_copies(case: &Case, call: impl Fn(&Case, Buffers) -> [u64; 8]) -> After {
     let (mut script, mut work, mut out) = (case.script.clone(), case.work.clone(), case.out.clone());
-    let mut starts = case.starts;
-    let on = Buffers { script: &mut script, work: &mut work, out: &mut out, starts: &mut starts };
+    let (mut starts, mut numbers) = (case.starts, case.numbers);
+    let on =
+        Buffers { script: &mut script, work: &mut work, out: &mut out, starts: &mut starts, numbers: &mut numbers };
     let answer = call(case, on);
-    After { answer, script, work, out, starts }
+    After { answer, script, work, out, starts, numbers }
 }
 
 pub fn by_model(case: &Case) -> After {
-    on_copies(case, |case, on| calls::words(&modelled(case, on)))
+    on_copies(case, |case, on| match case.call.is_map() {
+        true => modelled_of_map(case, on),
+        false => calls::words(&modelled(case, on)),
+    })
 }
 
 fn modelled(case: &Case, on: Buffers) -> Outcome {
     let Case { n, input, number, .. } = case;
     let (n, number) = (*n, *number);
-    let Buffers { script, work, out, starts } = on;
+    let Buffers { script, work, out, starts, .. } = on;
     match case.call {
         Call::Check => calls::check(n, input),
         Call::Value => calls::value(n, input, number),
@@ -56,6 +63,7 @@ fn modelled(case: &Case, on: Buffers) -> Outcome {
         Call::SharedSettle => calls::shared_settle(n, input, script, work, out),
         Call::WideFromNarrow => calls::wide_from_narrow(n, input, out),
         Call::NarrowFromWide => calls::narrow_from_wide(n, input, out),
+        Call::Slot | Call::SettleMap | Call::MapReasons => unreachable!("a call of a map"),
     }
 }
 
@@ -64,24 +72,40 @@ pub fn by_words(case: &Case) -> Result<After, String> {
     let mut input = Lent::new(&case.input);
     let mut script = Lent::new(&case.script);
     let (mut work, mut out) = (Lent::new(&case.work), Lent::new(&case.out));
-    let mut starts = LentStarts::new(case.starts);
-    let on = Buffers { script: script.slice(), work: work.slice(), out: out.slice(), starts: starts.starts() };
-    let answer = answered(case, input.slice(), on);
+    let (mut starts, mut numbers) = (LentWords::new(&case.starts), LentWords::new(&case.numbers));
+    let mut lengths = [&case.lengths, &case.script_lengths].map(|lengths| LentWords::new(lengths));
+    let on = Buffers {
+        script: script.slice(),
+        work: work.slice(),
+        out: out.slice(),
+        starts: starts.array(),
+        numbers: numbers.array(),
+    };
+    let answer = match case.call.is_map() {
+        true => answered_of_map(case, input.slice(), lengths.each_mut().map(|lengths| &*lengths.slice()), on),
+        false => answered(case, input.slice(), on),
+    };
     let reads_script = case.call != Call::WriteScript;
-    if *input.slice() != case.input[..] || reads_script && *script.slice() != case.script[..] {
+    let [of_lists, of_scripts] = lengths.each_mut().map(|lengths| lengths.slice());
+    if *input.slice() != case.input[..]
+        || reads_script && *script.slice() != case.script[..]
+        || *of_lists != case.lengths[..]
+        || *of_scripts != case.script_lengths[..]
+    {
         return Err("the library wrote to a buffer that it reads".into());
     }
     let whole = [&input, &script, &work, &out].iter().all(|lent| lent.margins_are_whole());
-    if !whole || !starts.margins_are_whole() {
+    let [of_lists, of_scripts] = &lengths;
+    if !whole || ![&starts, &numbers, of_lists, of_scripts].iter().all(|lent| lent.margins_are_whole()) {
         return Err("the library wrote outside a buffer".into());
     }
     let [script, work, out] = [script, work, out].map(|mut lent| lent.slice().to_vec());
-    Ok(After { answer, script, work, out, starts: *starts.starts() })
+    Ok(After { answer, script, work, out, starts: *starts.array(), numbers: *numbers.array() })
 }
 
 fn answered(case: &Case, input: &[u8], on: Buffers) -> words::Words {
     let (n, number) = (case.n, case.number);
-    let Buffers { script, work, out, starts } = on;
+    let Buffers { script, work, out, starts, .. } = on;
     match case.call {
         Call::Check => words::check(n, input),
         Call::Value => words::value(n, input, number),
@@ -106,12 +130,16 @@ fn answered(case: &Case, input: &[u8], on: Buffers) -> words::Words {
         Call::SharedSettle => words::shared_settle(n, input, script, work, out),
         Call::WideFromNarrow => words::wide_from_narrow(n, input, out),
         Call::NarrowFromWide => words::narrow_from_wide(n, input, out),
+        Call::Slot | Call::SettleMap | Call::MapReasons => unreachable!("a call of a map"),
     }
 }
 
 /// The wrapper's enums, put back into words.
 pub fn by_names(case: &Case) -> After {
     on_copies(case, |case, on| {
+        if case.call.is_map() {
+            return named_of_map(case, on);
+        }
         let mut answer = [0; 8];
         let named = match case.call {
             Call::Index | Call::Group | Call::RunIndexed => named_of_index(case, on),
@@ -150,7 +178,7 @@ fn named(case: &Case, on: Buffers) -> Result<Vec<u64>, Refusal> {
         Call::Compact => druthmoy::compact(n, number, script, out).map(one),
         Call::WideFromNarrow => druthmoy::wide_from_narrow(n, input, out).map(one),
         Call::NarrowFromWide => druthmoy::narrow_from_wide(n, input, out).map(one),
-        _ => unreachable!("a call of an index or of a shared list"),
+        _ => unreachable!("a call of an index, of a shared list or of a map"),
     }
 }
 
@@ -162,7 +190,7 @@ fn settled(Settled { given, peak, script, fixed, burned }: Settled) -> Vec<u64> 
 /// The calls of an index. A run of it is found again by where it stands in the buffer.
 fn named_of_index(case: &Case, on: Buffers) -> Result<Vec<u64>, Refusal> {
     let Case { n, input, number, .. } = case;
-    let Buffers { script, work, out, starts } = on;
+    let Buffers { script, work, out, starts, .. } = on;
     match case.call {
         Call::Index => {
             let Index { count, starts: built } = druthmoy::index(*n, input, out)?;

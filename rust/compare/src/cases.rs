@@ -7,6 +7,7 @@ use crate::damage::{Faults, damaged_bits, damaged_script, list_bytes};
 use crate::differ::{Call, Case, empty};
 use crate::idle_scripts;
 use crate::index_cases;
+use crate::map_cases;
 use crate::near_lists;
 use crate::random::Random;
 use crate::scripts;
@@ -36,6 +37,7 @@ pub fn case(random: &mut Random, call: Call) -> Case {
         Call::RunIndexed => index_cases::run_indexed_case(random, faults),
         Call::SharedCheck | Call::SharedValue => shared_cases::list_case(random, faults, call),
         Call::SharedRun | Call::SharedSettle => shared_cases::script_case(random, faults, call),
+        Call::Slot | Call::SettleMap | Call::MapReasons => map_cases::map_case(random, call),
         Call::WideFromNarrow | Call::NarrowFromWide => converter_case(random, faults, call),
     }
 }
@@ -293,6 +295,17 @@ pub fn script_bytes(
         16..=20 => 0,
         _ => random.between(1, 8),
     };
+    script_bytes_of(random, faults, (length, room), refusals, written)
+}
+
+/// The same, of about so many steps, with room for so many splits.
+pub fn script_bytes_of(
+    random: &mut Random,
+    faults: &Faults,
+    (length, room): (usize, usize),
+    refusals: &[u64],
+    written: impl FnOnce(&mut Random, usize, Option<u64>) -> Vec<u8>,
+) -> Vec<u8> {
     // Room to fill the buffer up, where a split is to find it full.
     let length = if faults.has(13) { length.max(room.min(40) + 1) } else { length };
     if faults.has(8) {

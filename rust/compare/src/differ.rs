@@ -3,6 +3,7 @@
 use crate::callers::{by_model, by_names, by_words};
 use crate::compacted::once_more;
 use crate::kronecker_lists::beside_choices;
+use crate::map_lists::beside_lists;
 use crate::replays::replay;
 use crate::searches::{beside_run, beside_search, each_group};
 use crate::shared_values::{beside_plain_values, keeps_values};
@@ -10,6 +11,7 @@ use crate::starts;
 use crate::tree_lists::beside_vector;
 use model::cube::{Cube, RECORD, decoded};
 use model::index::Starts;
+use model::selector::{MOST_LISTS, PerList};
 use model::shared::{self, SHARED_RECORD, Shared};
 use std::fmt;
 
@@ -37,12 +39,15 @@ pub enum Call {
     SharedValue,
     SharedRun,
     SharedSettle,
+    Slot,
+    SettleMap,
+    MapReasons,
     WideFromNarrow,
     NarrowFromWide,
 }
 
 impl Call {
-    pub const ALL: [Call; 23] = [
+    pub const ALL: [Call; 26] = [
         Call::Check,
         Call::Value,
         Call::Reasons,
@@ -64,6 +69,9 @@ impl Call {
         Call::SharedValue,
         Call::SharedRun,
         Call::SharedSettle,
+        Call::Slot,
+        Call::SettleMap,
+        Call::MapReasons,
         Call::WideFromNarrow,
         Call::NarrowFromWide,
     ];
@@ -72,6 +80,11 @@ impl Call {
     pub fn is_shared(self) -> bool {
         matches!(self, Call::SharedCheck | Call::SharedValue | Call::SharedRun | Call::SharedSettle)
     }
+
+    /// Whether it takes a map of several lists.
+    pub fn is_map(self) -> bool {
+        matches!(self, Call::Slot | Call::SettleMap | Call::MapReasons)
+    }
 }
 
 /// What goes into a call. Fields that a call does not take are left empty.
@@ -79,24 +92,41 @@ impl Call {
 pub struct Case {
     pub call: Call,
     pub n: u64,
-    /// The list, old, shared or neither, the truth vector or the coefficients.
+    /// The list, old, shared or neither, the lists of a map, the truth vector or the coefficients.
     pub input: Vec<u8>,
+    /// The lengths of a map's lists.
+    pub lengths: Vec<u64>,
     /// The assignment, the polarity, the count or the number of literals.
     pub number: u64,
-    /// The script, or the buffer for one.
+    /// The script, or the buffer for one, or the scripts of a map.
     pub script: Vec<u8>,
+    /// The lengths of a map's scripts.
+    pub script_lengths: Vec<u64>,
     /// The buffers as they are lent.
     pub work: Vec<u8>,
     /// The output, or the index.
     pub out: Vec<u8>,
     /// The starts of the index.
     pub starts: Starts,
+    /// The numbers for each list of a map.
+    pub numbers: PerList,
 }
 
 /// A call with nothing but a number of variables.
 pub fn empty(call: Call, n: u64) -> Case {
-    let starts = starts::NONE;
-    Case { call, n, input: vec![], number: 0, script: vec![], work: vec![], out: vec![], starts }
+    Case {
+        call,
+        n,
+        input: vec![],
+        lengths: vec![],
+        number: 0,
+        script: vec![],
+        script_lengths: vec![],
+        work: vec![],
+        out: vec![],
+        starts: starts::NONE,
+        numbers: [0; MOST_LISTS],
+    }
 }
 
 impl Case {
@@ -120,12 +150,13 @@ pub struct After {
     pub work: Vec<u8>,
     pub out: Vec<u8>,
     pub starts: Starts,
+    pub numbers: PerList,
 }
 
 /// Compares one case three ways: the library's words, its named answers, the model; reasons with value; a tree's list with its
 /// vector and with the best polarity; a Kronecker form's with these and with all choices; a written script with its run; a compacted one with the given one and with itself
 /// compacted; an index with its groups, a group with a search, a run with an index with the one without; the values of a shared list with those of
-/// plain lists, and before a script with those after it. Answers the words.
+/// plain lists, and before a script with those after it; a map with its lists, each in a call of its own. Answers the words.
 pub fn compare(case: &Case) -> Result<[u64; 8], String> {
     compared(case).map(|after| after.answer)
 }
@@ -139,8 +170,9 @@ pub fn compared(case: &Case) -> Result<After, String> {
     }
     let mut named = by_names(case);
     if expected.answer[0] != 0 {
-        // The wrapper hands no starts back.
+        // The wrapper hands no starts back, and no numbers.
         named.starts = expected.starts;
+        named.numbers = expected.numbers;
     }
     if named != expected {
         return Err(format!("wrapper and model differ\n{case}\nwrapper:\n{named}\nmodel:\n{expected}"));
@@ -156,6 +188,7 @@ pub fn compared(case: &Case) -> Result<After, String> {
         Call::RunIndexed => beside_run(case, &expected)?,
         Call::SharedValue => beside_plain_values(case, &expected)?,
         Call::SharedRun | Call::SharedSettle => keeps_values(case, &expected)?,
+        Call::Slot | Call::SettleMap | Call::MapReasons => beside_lists(case, &expected)?,
         _ => {}
     }
     Ok(expected)
@@ -181,6 +214,13 @@ impl fmt::Display for Case {
         {
             writeln!(f, "{name}, {} bytes: {}", bytes.len(), hex(bytes))?;
         }
+        if call.is_map() {
+            let Case { lengths, script_lengths, numbers, .. } = self;
+            return writeln!(
+                f,
+                "lengths of lists {lengths:?}, of scripts {script_lengths:?}; a number for each list: {numbers:?}"
+            );
+        }
         writeln!(f, "starts: {:?}", self.starts)
     }
 }
@@ -191,7 +231,8 @@ impl fmt::Display for After {
         writeln!(f, "script: {}", hex(&self.script))?;
         writeln!(f, "work: {}", hex(&self.work))?;
         writeln!(f, "out: {}", hex(&self.out))?;
-        writeln!(f, "starts: {:?}", self.starts)
+        writeln!(f, "starts: {:?}", self.starts)?;
+        writeln!(f, "a number for each list: {:?}", self.numbers)
     }
 }
 

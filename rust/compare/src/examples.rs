@@ -5,6 +5,7 @@ use crate::differ::{Call, Case, compare, empty};
 use crate::easy_examples;
 use crate::index_examples;
 use crate::kronecker_examples;
+use crate::map_examples;
 use crate::shared_examples;
 use crate::tree_examples;
 use model::cube::{RECORD, encoded_list, encoded_narrow_list, read};
@@ -26,6 +27,7 @@ pub fn all() -> Result<(), String> {
         compact_examples::all(),
         index_examples::all(),
         shared_examples::all(),
+        map_examples::all(),
         limits(),
         too_many_variables(),
         long_labels(),
@@ -39,7 +41,7 @@ pub fn all() -> Result<(), String> {
         }
     }
     println!("{} examples and limits", examples.len());
-    Ok(())
+    map_examples::buffers()
 }
 
 pub type Example = (Case, Vec<u64>);
@@ -227,7 +229,12 @@ fn too_many_variables() -> Vec<Example> {
     let refused = |call, n| (Case { input: vec![0; 1usize << n], ..empty(call, n) }, vec![1, 0]);
     let nine = of_vectors.map(|call| refused(call, 9));
     let seven_and_eight = [7, 8].map(|n| refused(Call::WriteKronecker, n));
-    let thirty_three = Call::ALL.map(|call| (empty(call, 33), vec![1, 0]));
+    // A map of one list, and of one script.
+    let of_map = |call: Call| if call.is_map() { vec![0] } else { vec![] };
+    let thirty_three = Call::ALL.map(|call| {
+        let (lengths, script_lengths) = (of_map(call), of_map(call));
+        (Case { lengths, script_lengths, ..empty(call, 33) }, vec![1, 0])
+    });
     nine.into_iter().chain(seven_and_eight).chain(thirty_three).collect()
 }
 

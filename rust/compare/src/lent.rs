@@ -1,7 +1,5 @@
 //! Buffers with margins around them.
 
-use model::index::Starts;
-
 /// Bytes at an odd address.
 pub struct Lent {
     bytes: Vec<u8>,
@@ -27,27 +25,32 @@ impl Lent {
     }
 }
 
-/// The starts of groups.
-pub struct LentStarts {
-    before: [u64; LentStarts::MARGIN],
-    starts: Starts,
-    after: [u64; LentStarts::MARGIN],
+/// Words: the starts of groups, the lengths of a map's lists and scripts, a number for each list.
+pub struct LentWords {
+    words: Vec<u64>,
 }
 
-impl LentStarts {
+impl LentWords {
     const MARGIN: usize = 7;
     const FILL: u64 = 0xa5a5_a5a5_a5a5_a5a5;
 
-    pub fn new(starts: Starts) -> LentStarts {
-        let margin = [LentStarts::FILL; LentStarts::MARGIN];
-        LentStarts { before: margin, starts, after: margin }
+    pub fn new(content: &[u64]) -> LentWords {
+        let margin = [LentWords::FILL; LentWords::MARGIN];
+        LentWords { words: [&margin, content, &margin].concat() }
     }
 
-    pub fn starts(&mut self) -> &mut Starts {
-        &mut self.starts
+    pub fn slice(&mut self) -> &mut [u64] {
+        let end = self.words.len() - LentWords::MARGIN;
+        &mut self.words[LentWords::MARGIN..end]
+    }
+
+    /// All of them, where they are so many.
+    pub fn array<const N: usize>(&mut self) -> &mut [u64; N] {
+        self.slice().try_into().expect("as many words as were lent")
     }
 
     pub fn margins_are_whole(&self) -> bool {
-        [self.before, self.after].as_flattened().iter().all(|&word| word == LentStarts::FILL)
+        let whole = |margin: &[u64]| margin.iter().all(|&word| word == LentWords::FILL);
+        whole(&self.words[..LentWords::MARGIN]) && whole(&self.words[self.words.len() - LentWords::MARGIN..])
     }
 }

@@ -41,6 +41,21 @@ mod kroneckers;
 mod labels;
 mod lengths;
 mod lent;
+mod map_bits;
+mod map_broken;
+mod map_callers;
+mod map_cases;
+mod map_damage;
+mod map_examples;
+mod map_faults;
+mod map_lists;
+mod map_parts;
+mod map_reason_rules;
+mod map_rules;
+mod map_settle_rules;
+mod map_together;
+mod map_worlds;
+mod maps;
 mod near_lists;
 mod pair_rules;
 mod partners;
@@ -70,6 +85,7 @@ mod shared_settles;
 mod shared_step_rules;
 mod shared_values;
 mod shared_worlds;
+mod some_labels;
 mod starts;
 mod tally;
 mod together;
@@ -98,7 +114,7 @@ fn main() -> ExitCode {
     if cfg!(feature = "standin") {
         println!("STAND-IN: the calls are answered by the model itself; nothing below speaks of the library.\n");
     }
-    let parts: [Part; 23] = [
+    let parts: [Part; 26] = [
         ("the documents' examples and limits", &examples::all),
         ("the wrapper's records", &|| records::all(seed)),
         ("random calls", &|| random_calls::all(calls as usize, seed)),
@@ -120,6 +136,9 @@ fn main() -> ExitCode {
         ("shared lists: faults together", &shared_faults::all),
         ("shared lists: short lists, all steps on two products, all short scripts", &shared_worlds::all),
         ("shared lists with a product changed, added or removed", &|| shared_outputs::all(calls as usize, seed)),
+        ("maps of several lists: faults together, each refusal at every list", &map_faults::all),
+        ("maps of several lists: short maps, all lengths, all short scripts", &map_worlds::all),
+        ("maps of several lists with one of them replaced", &|| map_bits::all(calls as usize, seed)),
         ("the converters: faults together, short lists there and back", &converters::all),
         ("published average of 5-variable functions", &|| figures::average_of_five(seed)),
         ("published averages of 5-variable functions, and their trees", &|| figures::trees_of_five(seed)),

@@ -1,7 +1,7 @@
 //! Random calls of every function.
 
 use crate::cases::case;
-use crate::differ::{Call, compare};
+use crate::differ::{Call, compared};
 use crate::random::Random;
 use crate::tally::Tally;
 
@@ -11,9 +11,9 @@ pub fn all(calls: usize, seed: u64) -> Result<(), String> {
         let mut random = Random::new(seed.wrapping_mul(31).wrapping_add(call as u64));
         for number in 0..calls {
             let case = case(&mut random, call);
-            let answer =
-                compare(&case).map_err(|difference| format!("call {number} from seed {seed}: {difference}"))?;
-            tally.add(&case, &answer);
+            let after =
+                compared(&case).map_err(|difference| format!("call {number} from seed {seed}: {difference}"))?;
+            tally.add(&case, &after);
         }
     }
     println!("{tally}");

@@ -2,8 +2,8 @@
 
 use crate::callers::by_words;
 use crate::differ::{After, Call, Case, empty};
-use crate::random::Random;
 use crate::replays::expect;
+use crate::some_labels::labels;
 use model::cube::{RECORD, encoded_list};
 use model::script::STEP;
 use model::shared::{OUTPUTS, SHARED_RECORD, Shared};
@@ -46,7 +46,7 @@ pub fn keeps_values(case: &Case, after: &After) -> Result<(), String> {
     };
     let left = &left[..SHARED_RECORD * count as usize];
     expect(script == counted(case), "not the count that the steps say", case, after)?;
-    for a in labels(case) {
+    for a in labels(case, &case.products().cubes) {
         let kept = word_at(case.n, left, a)? == word_at(case.n, &case.input, a)?;
         expect(kept, "an output has another value", case, after)?;
     }
@@ -57,23 +57,6 @@ pub fn keeps_values(case: &Case, after: &After) -> Result<(), String> {
 fn counted(case: &Case) -> u64 {
     let steps = |op| case.script.chunks(STEP).filter(|step| step[0] == op).count();
     (case.input.len() / SHARED_RECORD + steps(3) - steps(2) - steps(6) - 2 * steps(1)) as u64
-}
-
-/// All labels of few variables; of many the first, the last, and some at which a product of the list is true. Fewer for a long list.
-fn labels(case: &Case) -> Vec<u64> {
-    let list = case.products();
-    let all = (1u64 << case.n) - 1;
-    if case.n < 4 && list.cubes.len() < 64 {
-        return (0..=all).collect();
-    }
-    let mut random = Random::new((case.input.len() + case.script.len()) as u64);
-    let most = if list.cubes.len() < 64 { 6 } else { 1 };
-    let of_a_product = (0..most.min(list.cubes.len())).map(|_| {
-        let cube = &list.cubes[random.below(list.cubes.len())];
-        let literals = |code: u8| (0..cube.len()).filter(|&k| cube[k] == code).map(|k| 1 << k).sum::<u64>();
-        random.next() & all & !literals(0) | literals(1)
-    });
-    of_a_product.chain([0, all]).collect()
 }
 
 /// A plain run of the cubes, where no product has other outputs than the rest: it answers the same, and leaves the same cubes.

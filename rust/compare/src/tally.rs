@@ -2,13 +2,14 @@
 
 use crate::choices::Choices;
 use crate::compactions::Compactions;
-use crate::differ::{Call, Case};
+use crate::differ::{After, Call, Case};
 use crate::easy_scripts::EasyScripts;
 use crate::groups::Groups;
 use crate::indexed_runs::IndexedRuns;
 use crate::indexes::Indexes;
 use crate::kroneckers::Kroneckers;
 use crate::labels::Labels;
+use crate::maps::Maps;
 use crate::refused_steps::RefusedSteps;
 use crate::shared_lists::SharedLists;
 use crate::shared_runs::SharedRuns;
@@ -23,7 +24,7 @@ use std::fmt;
 #[derive(Default)]
 pub struct Tally {
     /// By call, then by refusal number; 0 counts the accepted calls.
-    answers: [[u64; 26]; ORDERS.len()],
+    answers: [[u64; 27]; ORDERS.len()],
     /// Steps of accepted runs by operation.
     steps: [u64; 7],
     refused_steps: RefusedSteps,
@@ -38,6 +39,7 @@ pub struct Tally {
     indexed_runs: IndexedRuns,
     shared_lists: SharedLists,
     shared_runs: SharedRuns,
+    maps: Maps,
     together: Together,
     /// Accepted lists of 32 variables with a literal at the last of them.
     with_the_last_variable: u64,
@@ -47,7 +49,8 @@ pub struct Tally {
 }
 
 impl Tally {
-    pub fn add(&mut self, case: &Case, answer: &[u64; 8]) {
+    pub fn add(&mut self, case: &Case, after: &After) {
+        let answer = &after.answer;
         let number = answer[0] as usize;
         self.answers[case.call as usize][number] += 1;
         let record = if case.call.is_shared() { SHARED_RECORD } else { RECORD };
@@ -65,6 +68,7 @@ impl Tally {
             Call::RunIndexed => self.indexed_runs.add(case, answer),
             Call::SharedCheck | Call::SharedValue => self.shared_lists.add(case, answer),
             Call::SharedRun | Call::SharedSettle => self.shared_runs.add(case, answer),
+            Call::Slot | Call::SettleMap | Call::MapReasons => self.maps.add(case, after),
             _ => {}
         }
         if together::CALLS.contains(&case.call) {
@@ -97,7 +101,7 @@ impl Tally {
 
     /// The refusals that the documents give a call and that were not met, and those met that they do not give; and what
     /// is amiss with refused steps, with choices, with labels, with trees and Kronecker forms, with easy scripts and with compacted ones,
-    /// with indexes, groups and runs with an index, and with shared lists and scripts on them.
+    /// with indexes, groups and runs with an index, with shared lists and scripts on them, and with maps of several lists.
     pub fn amiss(&self) -> Vec<String> {
         let mut amiss = Vec::new();
         for ((name, numbers), answers) in ORDERS.iter().zip(&self.answers) {
@@ -123,6 +127,7 @@ impl Tally {
         amiss.extend(self.indexed_runs.amiss());
         amiss.extend(self.shared_lists.amiss());
         amiss.extend(self.shared_runs.amiss());
+        amiss.extend(self.maps.amiss());
         amiss.extend(self.together.amiss());
         amiss
     }
@@ -170,6 +175,7 @@ impl fmt::Display for Tally {
         write!(f, "{}", self.indexed_runs)?;
         write!(f, "{}", self.shared_lists)?;
         write!(f, "{}", self.shared_runs)?;
+        write!(f, "{}", self.maps)?;
         write!(f, "{}", self.together)?;
         writeln!(f, "accepted lists with a literal at variable 31: {}", self.with_the_last_variable)?;
         write!(

@@ -229,11 +229,12 @@ pub fn narrow_from_wide(n: u64, list: &[u8], out: &mut [u8]) -> Result<u64, Refu
 }
 
 /// The values of an accepted call, or the refusal.
-fn accepted([number, place, values @ ..]: Words) -> Result<[u64; 6], Refusal> {
+pub fn accepted([number, place, values @ ..]: Words) -> Result<[u64; 6], Refusal> {
     if number == 0 {
         return Ok(values);
     }
-    let fault = Fault::from_number(number).expect("the library answers refusal numbers from 1 to 11, 13 to 23, and 25");
+    let fault =
+        Fault::from_number(number).expect("the library answers refusal numbers from 1 to 11, and from 13 to 26");
     let [differing, ..] = values;
     Err(Refusal { fault, place, differing })
 }

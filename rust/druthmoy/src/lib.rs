@@ -125,6 +125,32 @@
 //! assert_eq!(shared_value(2, burned, 3), Ok(0b101));
 //! ```
 //!
+//! A map of several lists has one for each bit of a slot number, end to end, with their lengths in bytes. Each is settled with its own script, and
+//! every label keeps its slot:
+//!
+//! ```
+//! use druthmoy::{Cube, Parts, SettledMap, Step, map_reasons, settle_map, slot};
+//!
+//! let cubes = ["1-", "-1", "11", "11"];
+//! let lists: Vec<u8> = cubes.iter().flat_map(|text| text.parse::<Cube>().unwrap().record()).collect();
+//! let given = Parts { bytes: &lists, lengths: &[24, 8] };
+//! assert_eq!([0, 1, 2, 3].map(|label| slot(2, given, label).unwrap()), [0, 1, 1, 3]);
+//!
+//! let steps = [Step::Join { i: 1, j: 2 }, Step::Turn { v: 0, i: 0, j: 1 }].map(Step::record).concat();
+//! let scripts = Parts { bytes: &steps, lengths: &[16, 0] };
+//! let (mut work, mut out) = (vec![0; 24], vec![0; lists.len()]);
+//! let SettledMap { lengths, cost } = settle_map(2, given, scripts, &mut work, &mut out).unwrap();
+//! assert_eq!((&lengths[..3], cost), (&[16, 8, 0][..], 2));
+//! let burned = Parts { bytes: &out[..24], lengths: &lengths[..2] };
+//! assert_eq!([0, 1, 2, 3].map(|label| slot(2, burned, label).unwrap()), [0, 1, 1, 3]);
+//!
+//! let mut places = [0; 6];
+//! let reasons = map_reasons(2, burned, 3, &mut places).unwrap();
+//! assert_eq!((reasons.slot, &reasons.trues[..2]), (3, &[1, 1][..]));
+//! let refusal = slot(2, Parts { lengths: &[16, 9], ..burned }, 3).unwrap_err();
+//! assert_eq!(refusal.to_string(), "refused 26 at 0");
+//! ```
+//!
 //! A refusal at a step that has two cubes says in how many variables they differ:
 //!
 //! ```
@@ -149,6 +175,7 @@
 //! ```
 
 mod calls;
+mod maps;
 mod raw;
 mod records;
 mod refusal;
@@ -160,8 +187,11 @@ pub use calls::{
     shared_settle, shared_value, truth_vector, value, vector, wide_from_narrow, write_form, write_kronecker,
     write_script, write_tree,
 };
-pub use records::{Cube, NARROW_RECORD, NotACube, PLACE, Product, RECORD, SHARED_RECORD, STEP, Starts, Step};
-pub use refusal::{Fault, Refusal};
+pub use maps::{MapReasons, SettledMap, map_reasons, settle_map, slot};
+pub use records::{
+    Cube, LISTS, NARROW_RECORD, NotACube, PLACE, Parts, PerList, Product, RECORD, SHARED_RECORD, STEP, Starts, Step,
+};
+pub use refusal::{Fault, MapRefusal, Refusal};
 
 #[cfg(feature = "standin")]
 use standin as _;

@@ -1,5 +1,5 @@
 //! The declarations of `druthmoy.h`. A slice crosses as a pointer and a length, an answer as a pointer to eight words,
-//! the starts of groups as one to thirty-three.
+//! the starts of groups as one to thirty-three, a number for each list of a map as one to twelve.
 
 unsafe extern "C" {
     pub fn dm_check(n: u64, list: *const u8, list_length: usize, answer: *mut u64);
@@ -160,6 +160,44 @@ unsafe extern "C" {
         work_length: usize,
         out: *mut u8,
         out_length: usize,
+        answer: *mut u64,
+    );
+    pub fn dm_slot(
+        n: u64,
+        lists: *const u8,
+        lists_length: usize,
+        lengths: *const u64,
+        lengths_count: usize,
+        a: u64,
+        answer: *mut u64,
+    );
+    pub fn dm_settle_map(
+        n: u64,
+        lists: *const u8,
+        lists_length: usize,
+        lengths: *const u64,
+        lengths_count: usize,
+        scripts: *const u8,
+        scripts_length: usize,
+        script_lengths: *const u64,
+        script_lengths_count: usize,
+        work: *mut u8,
+        work_length: usize,
+        out: *mut u8,
+        out_length: usize,
+        burned_lengths: *mut u64,
+        answer: *mut u64,
+    );
+    pub fn dm_map_reasons(
+        n: u64,
+        lists: *const u8,
+        lists_length: usize,
+        lengths: *const u64,
+        lengths_count: usize,
+        a: u64,
+        out: *mut u8,
+        out_length: usize,
+        numbers: *mut u64,
         answer: *mut u64,
     );
     pub fn dm_wide_from_narrow(

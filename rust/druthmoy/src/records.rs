@@ -1,4 +1,5 @@
-//! The records that lists, shared lists and scripts are made of, the width of a place, and the starts of an index.
+//! The records that lists, shared lists and scripts are made of, the width of a place, the starts of an index, and what a map of several lists
+//! is passed by.
 
 use std::fmt;
 use std::str::FromStr;
@@ -16,6 +17,19 @@ pub const PLACE: usize = 2;
 
 /// The start of each group of an index, counted in entries: of the cubes with no literal, with one, and so on to 32.
 pub type Starts = [u64; 33];
+
+/// The lists of a map, at most.
+pub const LISTS: usize = 12;
+
+/// A number for each list of a map, and zeros after the last.
+pub type PerList = [u64; LISTS];
+
+/// The lists of a map, one for each slot bit, or their scripts: end to end, and the length of each in bytes.
+#[derive(Clone, Copy, Debug, PartialEq, Eq)]
+pub struct Parts<'a> {
+    pub bytes: &'a [u8],
+    pub lengths: &'a [u64],
+}
 
 /// A cube: its literals by two masks, bit k for variable k.
 #[derive(Clone, Copy, Debug, Default, PartialEq, Eq, Hash)]

@@ -51,13 +51,17 @@ pub enum Fault {
     OutputsUnequal = 22,
     /// Merge of products whose cubes differ, or whose outputs are equal; the place is the step.
     Merge = 23,
+    /// A map of no list, or of more than 12.
+    MapLists = 24,
     /// A lent index that is not this list's; the place is the first wrong entry, or else the first wrong group start.
     WrongIndex = 25,
+    /// Lengths of a map's lists, or of its scripts, that don't add up to their buffer, or not one script a list.
+    MapLengths = 26,
 }
 
 impl Fault {
     /// All faults, by number.
-    pub const ALL: [Fault; 23] = [
+    pub const ALL: [Fault; 25] = [
         Fault::TooManyVariables,
         Fault::ListLength,
         Fault::TooManyRecords,
@@ -80,7 +84,9 @@ impl Fault {
         Fault::TooManyLiterals,
         Fault::OutputsUnequal,
         Fault::Merge,
+        Fault::MapLists,
         Fault::WrongIndex,
+        Fault::MapLengths,
     ];
 
     pub fn number(self) -> u64 {
@@ -110,3 +116,21 @@ impl fmt::Display for Refusal {
 }
 
 impl std::error::Error for Refusal {}
+
+/// The refusal of a map of several lists.
+#[derive(Clone, Copy, Debug, PartialEq, Eq, Hash)]
+pub struct MapRefusal {
+    /// As a call on that list alone is refused; the place is counted in that list, or in its script.
+    pub refusal: Refusal,
+    /// The list that is refused, from 0; nothing where the map is: for its number of lists, for its lengths, or for the output's.
+    pub list: Option<u64>,
+}
+
+impl fmt::Display for MapRefusal {
+    fn fmt(&self, f: &mut fmt::Formatter) -> fmt::Result {
+        self.refusal.fmt(f)?;
+        self.list.map_or(Ok(()), |list| write!(f, " of list {list}"))
+    }
+}
+
+impl std::error::Error for MapRefusal {}

@@ -1,8 +1,8 @@
 //! The calls over slices, with the eight words of an answer as they are: refusal number, place, values, zeros. A refusal
-//! has one value, the number of differing variables.
+//! has one value, the number of differing variables, and of a map a second one, the list's number.
 
 use crate::raw;
-use crate::records::Starts;
+use crate::records::{Parts, PerList, Starts};
 
 /// The answer of a call; see `druthmoy.h`.
 pub type Words = [u64; 8];
@@ -11,8 +11,8 @@ pub type Words = [u64; 8];
 const UNANSWERED: Words = [u64::MAX; 8];
 
 // SAFETY, for each call below: a slice gives a pointer that is not null and as many bytes as its length says; the
-// borrow rules keep what is written apart from every other argument; `answer` has eight words, `starts` thirty-three. The library reads and
-// writes within these, and keeps none of the pointers.
+// borrow rules keep what is written apart from every other argument; `answer` has eight words, `starts` thirty-three, a number for each
+// list twelve. The library reads and writes within these, and keeps none of the pointers.
 
 #[inline]
 pub fn check(n: u64, list: &[u8]) -> Words {
@@ -270,6 +270,69 @@ pub fn shared_settle(n: u64, list: &[u8], script: &[u8], work: &mut [u8], out: &
             work.len(),
             out.as_mut_ptr(),
             out.len(),
+            answer.as_mut_ptr(),
+        );
+    }
+    answer
+}
+
+#[inline]
+pub fn slot(n: u64, lists: Parts, a: u64) -> Words {
+    let mut answer = UNANSWERED;
+    let Parts { bytes, lengths } = lists;
+    unsafe {
+        raw::dm_slot(n, bytes.as_ptr(), bytes.len(), lengths.as_ptr(), lengths.len(), a, answer.as_mut_ptr());
+    }
+    answer
+}
+
+#[inline]
+pub fn settle_map(
+    n: u64,
+    lists: Parts,
+    scripts: Parts,
+    work: &mut [u8],
+    out: &mut [u8],
+    burned_lengths: &mut PerList,
+) -> Words {
+    let mut answer = UNANSWERED;
+    unsafe {
+        raw::dm_settle_map(
+            n,
+            lists.bytes.as_ptr(),
+            lists.bytes.len(),
+            lists.lengths.as_ptr(),
+            lists.lengths.len(),
+            scripts.bytes.as_ptr(),
+            scripts.bytes.len(),
+            scripts.lengths.as_ptr(),
+            scripts.lengths.len(),
+            work.as_mut_ptr(),
+            work.len(),
+            out.as_mut_ptr(),
+            out.len(),
+            burned_lengths.as_mut_ptr(),
+            answer.as_mut_ptr(),
+        );
+    }
+    answer
+}
+
+#[inline]
+pub fn map_reasons(n: u64, lists: Parts, a: u64, out: &mut [u8], numbers: &mut PerList) -> Words {
+    let mut answer = UNANSWERED;
+    let Parts { bytes, lengths } = lists;
+    unsafe {
+        raw::dm_map_reasons(
+            n,
+            bytes.as_ptr(),
+            bytes.len(),
+            lengths.as_ptr(),
+            lengths.len(),
+            a,
+            out.as_mut_ptr(),
+            out.len(),
+            numbers.as_mut_ptr(),
             answer.as_mut_ptr(),
         );
     }

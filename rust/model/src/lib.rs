@@ -5,7 +5,8 @@
 //! every subset, an L step rewrites every cube and is undone by itself, last one first. Nothing here is the library's or the
 //! wrapper's, and nothing is fast.
 //!
-//! [`calls`] puts the definitions behind the bytes, the refusals and the buffers of the library's calls.
+//! [`calls`] puts the definitions behind the bytes, the refusals and the buffers of the library's calls, and [`selector`] those of
+//! several lists behind one call.
 
 pub mod calls;
 pub mod compactor;
@@ -17,6 +18,7 @@ pub mod polarity;
 pub mod program;
 pub mod refusal;
 pub mod script;
+pub mod selector;
 pub mod settling;
 pub mod shared;
 pub mod trees;

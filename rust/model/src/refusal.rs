@@ -25,7 +25,7 @@ pub fn refuse_cubes_if(broken: bool, number: u64, place: usize, differing: &[usi
 }
 
 /// The numbers that each call can answer, in the order in which it tests them.
-pub const ORDERS: [(&str, &[u64]); 23] = [
+pub const ORDERS: [(&str, &[u64]); 26] = [
     ("check", &[1, 2, 3, 4]),
     ("value", &[1, 2, 3, 4, 6]),
     ("reasons", &[1, 2, 3, 4, 6, 5]),
@@ -49,6 +49,11 @@ pub const ORDERS: [(&str, &[u64]); 23] = [
     ("shared_value", &[1, 2, 3, 4, 6]),
     ("shared_run", &[1, 2, 3, 4, 5, 7, 8, 9, 10, 11, 16, 17, 18, 19, 22, 23, 13]),
     ("shared_settle", &[1, 2, 3, 4, 5, 7, 8, 9, 10, 11, 16, 17, 18, 19, 22, 23, 13]),
+    // Of the map, and then of its lists in turn.
+    ("slot", &[24, 26, 1, 2, 3, 4, 6]),
+    // 5 of the output, then of the work buffer.
+    ("settle_map", &[24, 26, 5, 1, 2, 3, 4, 5, 7, 8, 9, 10, 11, 16, 17, 18, 19, 13]),
+    ("map_reasons", &[24, 26, 5, 1, 2, 3, 4, 6]),
     ("wide_from_narrow", &[1, 2, 3, 4, 5]),
     ("narrow_from_wide", &[1, 20, 2, 3, 4, 5]),
 ];

@@ -14,6 +14,8 @@ use model::script::{self, encoded_script};
 mod compact;
 #[path = "examples/index.rs"]
 mod index;
+#[path = "examples/selector.rs"]
+mod selector;
 #[path = "examples/shared.rs"]
 mod shared;
 #[path = "examples/write_kronecker.rs"]

@@ -5,13 +5,22 @@
 
 use model::calls::{self, Outcome, words};
 use model::index::Starts;
+use model::selector::{self, MapOutcome, Parts, PerList};
 use std::slice::{from_raw_parts, from_raw_parts_mut};
 
 // SAFETY, for each call below: the header asks of the caller that pointers are not null, lengths are true, written
-// buffers overlap nothing, `answer` has eight words and `starts` thirty-three.
+// buffers overlap nothing, `answer` has eight words, `starts` thirty-three and a number for each list twelve.
 
 unsafe fn give(outcome: Outcome, answer: *mut u64) {
     unsafe { from_raw_parts_mut(answer, 8) }.copy_from_slice(&words(&outcome));
+}
+
+unsafe fn give_of_map(outcome: MapOutcome, answer: *mut u64) {
+    unsafe { from_raw_parts_mut(answer, 8) }.copy_from_slice(&selector::words(&outcome));
+}
+
+unsafe fn parts<'a>(bytes: *const u8, length: usize, lengths: *const u64, count: usize) -> Parts<'a> {
+    unsafe { Parts { bytes: from_raw_parts(bytes, length), lengths: from_raw_parts(lengths, count) } }
 }
 
 #[unsafe(no_mangle)]
@@ -306,6 +315,64 @@ pub unsafe extern "C" fn dm_shared_settle(
         let (list, script) = (from_raw_parts(list, list_length), from_raw_parts(script, script_length));
         let (work, out) = (from_raw_parts_mut(work, work_length), from_raw_parts_mut(out, out_length));
         give(calls::shared_settle(n, list, script, work, out), answer)
+    }
+}
+
+#[unsafe(no_mangle)]
+pub unsafe extern "C" fn dm_slot(
+    n: u64,
+    lists: *const u8,
+    lists_length: usize,
+    lengths: *const u64,
+    lengths_count: usize,
+    a: u64,
+    answer: *mut u64,
+) {
+    unsafe { give_of_map(selector::slot(n, parts(lists, lists_length, lengths, lengths_count), a), answer) }
+}
+
+#[unsafe(no_mangle)]
+pub unsafe extern "C" fn dm_settle_map(
+    n: u64,
+    lists: *const u8,
+    lists_length: usize,
+    lengths: *const u64,
+    lengths_count: usize,
+    scripts: *const u8,
+    scripts_length: usize,
+    script_lengths: *const u64,
+    script_lengths_count: usize,
+    work: *mut u8,
+    work_length: usize,
+    out: *mut u8,
+    out_length: usize,
+    burned_lengths: *mut PerList,
+    answer: *mut u64,
+) {
+    unsafe {
+        let lists = parts(lists, lists_length, lengths, lengths_count);
+        let scripts = parts(scripts, scripts_length, script_lengths, script_lengths_count);
+        let (work, out) = (from_raw_parts_mut(work, work_length), from_raw_parts_mut(out, out_length));
+        give_of_map(selector::settle_map(n, lists, scripts, work, out, &mut *burned_lengths), answer)
+    }
+}
+
+#[unsafe(no_mangle)]
+pub unsafe extern "C" fn dm_map_reasons(
+    n: u64,
+    lists: *const u8,
+    lists_length: usize,
+    lengths: *const u64,
+    lengths_count: usize,
+    a: u64,
+    out: *mut u8,
+    out_length: usize,
+    numbers: *mut PerList,
+    answer: *mut u64,
+) {
+    unsafe {
+        let (lists, out) = (parts(lists, lists_length, lengths, lengths_count), from_raw_parts_mut(out, out_length));
+        give_of_map(selector::map_reasons(n, lists, a, out, &mut *numbers), answer)
     }
 }
 
