@@ -10,6 +10,7 @@ mod easy_lists;
 mod idle_scripts;
 mod indexing;
 mod inputs;
+mod maps;
 mod measure;
 mod plain;
 mod sharing;
@@ -48,6 +49,7 @@ fn main() {
     compactor::rows(&mut highest);
     indexing::rows(&mut highest);
     sharing::rows(&mut highest);
+    maps::rows(&mut highest);
     println!("\nHighest ratio: {highest:.2}");
     writer::passes();
     compactor::beside_no_pair();

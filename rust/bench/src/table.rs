@@ -4,9 +4,10 @@ use crate::measure;
 use crate::plain::Words;
 use std::hint::black_box;
 
-/// Bytes of a buffer of the greatest useful length: for a list, and for a shared one.
+/// Bytes of a buffer of the greatest useful length: for a list, for a shared one, and for the lists of a map.
 const BUFFER: usize = 8 * 4096;
 const SHARED_BUFFER: usize = 12 * 4096;
+const MAP_BUFFER: usize = 12 * BUFFER;
 
 /// A run whose last step is a drop of unequal cubes.
 pub const REFUSED: &str = "run, refused";
@@ -45,6 +46,18 @@ pub fn shared_row(
     plain: impl Fn(&mut [u8], &mut [u8]) -> Words,
 ) {
     row_in(SHARED_BUFFER, highest, (call, size), library, plain, SAME_WAY);
+}
+
+/// The same for a call on a map of several lists.
+pub fn map_row(
+    highest: &mut f64,
+    call: &str,
+    size: &str,
+    library: impl Fn(&mut [u8], &mut [u8]) -> Words,
+    plain: impl Fn(&mut [u8], &mut [u8]) -> Words,
+    straightforward: Straightforward<impl Fn(&mut [u8], &mut [u8]) -> Words>,
+) {
+    row_in(MAP_BUFFER, highest, (call, size), library, plain, straightforward);
 }
 
 /// With buffers of so many bytes.

@@ -6,7 +6,7 @@ use super::{Refusal, Words, refusal, refuse_if, words};
 
 pub type Records<'a> = &'a [[u8; RECORD]];
 
-const PLACE: usize = 2;
+pub const PLACE: usize = 2;
 
 #[inline(never)]
 pub fn check(n: u64, list: &[u8], answer: &mut Words) {
@@ -69,13 +69,13 @@ fn checked_at(n: u64, list: &[u8], a: u64) -> Result<Records<'_>, Refusal> {
     Ok(records)
 }
 
-fn try_value(n: u64, list: &[u8], a: u64) -> Result<[u64; 2], Refusal> {
+pub fn try_value(n: u64, list: &[u8], a: u64) -> Result<[u64; 2], Refusal> {
     let records = checked_at(n, list, a)?;
     let trues = records.iter().filter(|record| Cube::read(record).holds_at(a as u32)).count();
     Ok([trues & 1, trues].map(|word| word as u64))
 }
 
-fn try_reasons(n: u64, list: &[u8], a: u64, out: &mut [u8]) -> Result<[u64; 2], Refusal> {
+pub fn try_reasons(n: u64, list: &[u8], a: u64, out: &mut [u8]) -> Result<[u64; 2], Refusal> {
     let records = checked_at(n, list, a)?;
     refuse_if(out.len() < PLACE * records.len(), 5)?;
     let trues = write_places(records, a as u32, out);

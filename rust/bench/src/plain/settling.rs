@@ -13,7 +13,7 @@ pub fn settle<W: Way>(n: u64, list: &[u8], script: &[u8], work: &mut [u8], out: 
     *answer = words(try_settle::<W>(n, list, script, work, out));
 }
 
-fn try_settle<W: Way>(
+pub fn try_settle<W: Way>(
     n: u64,
     list: &[u8],
     script: &[u8],
