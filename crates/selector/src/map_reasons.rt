@@ -44,9 +44,9 @@ fn show_lists(n: usize, lists: &[u8], lengths: &[u64], a: u64, out: &mut [u8]) -
                 records::clear(out);
                 return refused_map(MapAnswer::ListRefused(r, k));
             }
-            Reasoned::Shown(number, bit) => {
+            Reasoned::Shown(number, _) => {
                 numbers[k] = number as u64;
-                slot = with_bit(slot, k, bit);
+                slot = with_bit(slot, k, (number % 2) as u8);
                 to += PLACE_WIDTH * number;
                 at = end;
                 k += 1;

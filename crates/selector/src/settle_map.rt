@@ -112,9 +112,9 @@ fn settle_lists(
                 records::clear(out);
                 return refused_map(MapAnswer::ListRefused(r, k));
             }
-            Part::Burned(bytes, cost) => {
+            Part::Burned(bytes, price) => {
                 sizes[k] = bytes as u64;
-                total += cost;
+                total += price;
                 to += bytes;
                 at = end;
                 script_at = script_end;

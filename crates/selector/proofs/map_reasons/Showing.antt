@@ -2,7 +2,7 @@
 -- Assumes nothing.
 use mathlib.Core.Path.{_≡_, refl, sym, ap, ap₂, _∙_, subst}
 use mathlib.Core.List.{List, [], _∷_, _++_}
-use Prim.Native.Nat.{ℕ, _+_, _-_, _*_, _/_, _^_, _≤_, _<_}
+use Prim.Native.Nat.{ℕ, _+_, _-_, _*_, _/_, _%_, _^_, _≤_, _<_}
 use native.Mathlib.Nat.{mul-add}
 use native.Mathlib.Omega.{arith}
 use lib.ListN.{length, getD, take, drop, set, length-append}
@@ -17,9 +17,10 @@ use Rattle.records.proofs.Answers.{after-accepted}
 use Rattle.records.proofs.Filling.{length-zeros}
 use Rattle.records.proofs.Places.{places-lawful}
 use Rattle.records.proofs.Records.{length-list, length-written}
-use Rattle.cube.specs.Lists.{cubes, cubesOf, recordWidth}
+use Rattle.cube.specs.Lists.{cubes, cubesOf, recordWidth, listValue}
 use Rattle.reasons.specs.Calls.{truePlaces, reasonsOutcome, reasonsAfter}
 use Rattle.reasons.proofs.Calls.{AcceptedReasons, reasons-accepts, shown-fits}
+use Rattle.reasons.proofs.Showing.{places-trues}
 use Rattle.selector.specs.declared.MapAnswer.the-variants as answer-is
 use Rattle.selector.specs.declared.ByList.{ByList}
 use Rattle.selector.specs.Maps.{mostLists, starts, part, cubesAt, recordsOf, slotOf, joinBelow, eachOf}
@@ -116,8 +117,10 @@ module _ (n : ℕ) (lists lengths : List ℕ) (a : ℕ) (out₀ : List ℕ) wher
           number-is : number ≡ length (placesAt n lists lengths a k)
           number-is = ap (λ (v : List ℕ). getD v 0 0) (shown .value)
 
-          bit-is : b ≡ bitAt n lists lengths a k
-          bit-is = ap (λ (v : List ℕ). getD v 1 0) (shown .value)
+          -- the bit is the number's parity
+          parity-is : number % 2 ≡ bitAt n lists lengths a k
+          unfolding listValue
+          parity-is = ap (λ (x : ℕ). x % 2) (number-is ∙ places-trues n (cubesAt lists lengths k) a)
 
           number-fits : placeWidth * number ≤ room - to
           unfolding reasonsAt
@@ -127,10 +130,10 @@ module _ (n : ℕ) (lists lengths : List ℕ) (a : ℕ) (out₀ : List ℕ) wher
           showing-to = omega (arith, number-fits, showing-room)
 
           -- what with_bit needs
-          pub showing-bit : (slot < 2 ^ k) × ((k < mostLists) × (b < 2))
+          pub showing-bit : (slot < 2 ^ k) × ((k < mostLists) × (number % 2 < 2))
           showing-bit = (
             subst (λ (x : ℕ). x < 2 ^ k) (sym (r .slot-is)) (slot-small n lists lengths a k),
-            (omega (arith, m .lists-are .few), subst (λ (x : ℕ). x < 2) (sym bit-is) (bit-small n lists lengths a k)),
+            (omega (arith, m .lists-are .few), subst (λ (x : ℕ). x < 2) (sym parity-is) (bit-small n lists lengths a k)),
           )
 
           module _ (out′ : List ℕ) (ew : out′ ≡ take to out ++ (reasonsAfter n (take (end - at) (drop at lists)) a (take (room - to) (drop to out)) ++ drop room out)) where
@@ -148,7 +151,7 @@ module _ (n : ℕ) (lists lengths : List ℕ) (a : ℕ) (out₀ : List ℕ) wher
                 (omega arith) (omega (arith, showing-room)) (omega (arith, number-fits, number-is))
                 ∙ ap (λ (l : List ℕ). written places 0 l out₀) (sym (join-next (placesAt n lists lengths a) k))
 
-            pub showing-more : (slot′ : ℕ) → slot′ ≡ slot + b * 2 ^ k
+            pub showing-more : (slot′ : ℕ) → slot′ ≡ slot + number % 2 * 2 ^ k
                 → Showing n lists lengths a out₀ out′ (set numbers k number) slot′ end (to + placeWidth * number) (k + 1)
             showing-more slot′ es = record {
               within = omega arith;
@@ -162,7 +165,7 @@ module _ (n : ℕ) (lists lengths : List ℕ) (a : ℕ) (out₀ : List ℕ) wher
                     length-append (joinBelow k (placesAt n lists lengths a)) (placesAt n lists lengths a k),
                   );
               to-le = omega (arith, r .to-le, number-fits, room-is, sum-next (λ i. length (cubesAt lists lengths i)) k);
-              slot-is = slot-next n lists lengths a k slot b slot′ (r .slot-is) bit-is es;
+              slot-is = slot-next n lists lengths a k slot (number % 2) slot′ (r .slot-is) parity-is es;
               out-is = written-more;
               out-long = ap length written-more ∙ length-written places 0 (joinBelow (k + 1) (placesAt n lists lengths a)) out₀;
               numbers-are = front-more (λ i. length (placesAt n lists lengths a i)) (zeros mostLists) numbers k (r .numbers-are) number (omega (arith, showing-index, r .numbers-are .long, length-zeros mostLists)) number-is;

@@ -80,6 +80,9 @@ array-write-numbers c = let v = c .before .before .before .before .before in
     let l = v .before .before .before .before .before in
     showing-index _ _ _ _ _ (l .before .before .before .before .pre) _ _ _ _ _ _ (l .loop .inv) (v .before .before .before .before .loop-test .taken)
 
+cast-with-bit : tie.Need-cast-with-bit Inv-loop μ-loop
+cast-with-bit c = search needs
+
 with-bit-requires : tie.Need-with-bit-requires Inv-loop μ-loop
 with-bit-requires c κs = let v = c .before .before .before .before .before in
     let l = v .before .before .before .before .before in
@@ -138,6 +141,7 @@ show-lists-spec =
     enum-known-number
     mul-numbers
     array-write-numbers
+    cast-with-bit
     with-bit-requires
     mul-to
     add-to
