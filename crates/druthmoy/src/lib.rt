@@ -383,8 +383,6 @@ pub extern "C" fn dm_map_reasons(
 )
     ensures { λ _. ⌜ ReasonsFaced n (now (lists .entry)) (now (lengths .entry)) a (now (out .entry)) (now (numbers .entry)) (now (out .exit)) (now (numbers .exit)) (now (answer .exit)) ⌝ }
 {
-    let shown = selector::map_reasons::map_reasons(n as usize, lists, lengths, a, out);
-    let told = shown.answer;
-    words::put_each(numbers, shown);
+    let told = selector::map_reasons::reasons_into(n as usize, lists, lengths, a, out, numbers);
     words::put_map_answer(answer, told);
 }

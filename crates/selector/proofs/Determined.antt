@@ -11,6 +11,8 @@ use Rattle.selector.specs.declared.ByList.{ByList}
 use Rattle.selector.specs.Answers.{MapOutcome, mapAccepted, mapRefused, listRefused, mapTold}
 use Rattle.selector.proofs.slot.slot.Kinds as slot-kinds
 use Rattle.selector.proofs.slot.slot.Reads as slot-reads
+use Rattle.selector.proofs.map_reasons.reasons_into.Kinds as reasons-into-kinds
+use Rattle.selector.proofs.map_reasons.reasons_into.Reads as reasons-into-reads
 use Rattle.selector.proofs.map_reasons.map_reasons.Kinds as map-reasons-kinds
 use Rattle.selector.proofs.map_reasons.map_reasons.Reads as map-reasons-reads
 use Rattle.selector.proofs.settle_map.settle_map.Kinds as settle-map-kinds
@@ -30,6 +32,12 @@ map-known (answer-is.ListRefused r k) = refl
 
 pub slot-determined : Determined 2 slot-kinds.ps slot-kinds.r slot-reads.Learnt
 slot-determined κs a z z′ ws ws′ p q = (same-told mapTold map-back map-known p q, refl)
+
+pub reasons-into-determined : Determined 4 reasons-into-kinds.ps reasons-into-kinds.r reasons-into-reads.Learnt
+reasons-into-determined κs a z z′ ws ws′ p q = (
+  same-told mapTold map-back map-known (p .answer) (q .answer),
+  ap₂ (λ (o e : List ℕ). (tt, (tt, (tt, (tt, (o, (e, tt))))))) (same (p .out-is) (q .out-is)) (same (p .numbers) (q .numbers)),
+)
 
 made : MapAnswer → List ℕ → ByList
 made a l = record { answer = a; each = l }

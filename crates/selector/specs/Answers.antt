@@ -7,6 +7,7 @@ use lib.ListN.{length}
 use Rattle.records.specs.declared.Refusal.{Refusal}
 use Rattle.records.specs.Records.{zeros}
 use Rattle.records.specs.Answers.{Outcome, accepted, refused}
+use Rattle.selector.specs.Maps.{mostLists}
 use Rattle.selector.specs.declared.MapAnswer.{MapAnswer}
 use Rattle.selector.specs.declared.MapAnswer.the-variants as answer-is
 
@@ -36,6 +37,12 @@ abbrev pub afterMap : MapOutcome → List ℕ → List ℕ → List ℕ
 afterMap (mapAccepted x) new old = new
 afterMap (mapRefused r) new old = old
 afterMap (listRefused r k) new old = zeros (length old)
+
+-- a number for each list, lent as an array of twelve, after a call: written like the buffers
+abbrev pub afterEach : MapOutcome → List ℕ → List ℕ → List ℕ
+afterEach (mapAccepted x) new old = new
+afterEach (mapRefused r) new old = old
+afterEach (listRefused r k) new old = zeros mostLists
 
 -- the number and values for each case of the answer
 abbrev pub mapTold : MapAnswer → MapOutcome

@@ -19,8 +19,9 @@ use Rattle.script.specs.Calls.{runOf}
 use Rattle.settling.specs.Candidates.{burnedList}
 use Rattle.settling.specs.Calls.{settleOutcome}
 use Rattle.selector.specs.declared.ByList.{ByList}
+use Rattle.selector.specs.declared.MapAnswer.{MapAnswer}
 use Rattle.selector.specs.Maps.{mostLists, part, addUp, cubesAt, slotOf, recordsOf, joinBelow, totalCost, eachOf}
-use Rattle.selector.specs.Answers.{MapOutcome, mapAccepted, afterCheck, inTurn, afterMap, mapTold}
+use Rattle.selector.specs.Answers.{MapOutcome, mapAccepted, afterCheck, inTurn, afterMap, afterEach, mapTold}
 
 -- ---- the lengths
 
@@ -74,6 +75,12 @@ trueNumbers n lists lengths a = eachOf (length lengths) (λ k. length (placesAt 
 -- "it writes the reasons of One for all bits end to end"
 unfoldable pub shownBytes : ℕ → List ℕ → List ℕ → ℕ → List ℕ → List ℕ
 shownBytes n lists lengths a out = written places 0 (joinBelow (length lengths) (placesAt n lists lengths a)) out
+
+-- reasons_into was called with n, a map, a label, an output and twelve numbers; it answered r, and left out′ and each′
+pub record ReasonsInto (n : ℕ) (lists lengths : List ℕ) (a : ℕ) (out each : List ℕ) (r : MapAnswer) (out′ each′ : List ℕ) : Type 0 where
+  pub answer : mapTold r ≡ mapReasonsOutcome n lists lengths a (length out)
+  pub numbers : each′ ≡ afterEach (mapReasonsOutcome n lists lengths a (length out)) (trueNumbers n lists lengths a) each
+  pub out-is : out′ ≡ afterMap (mapReasonsOutcome n lists lengths a (length out)) (shownBytes n lists lengths a out) out
 
 -- map_reasons was called with n, a map, a label and an output; it answered r, and left out′
 pub record ReasonsCalled (n : ℕ) (lists lengths : List ℕ) (a : ℕ) (out : List ℕ) (r : ByList) (out′ : List ℕ) : Type 0 where

@@ -12,10 +12,11 @@ use Rattle.polarity.specs.Cost.{cost}
 use Rattle.script.specs.Calls.{runOf}
 use Rattle.settling.specs.Calls.{settleOutcome}
 use Rattle.selector.specs.declared.ByList.{ByList}
+use Rattle.selector.specs.declared.MapAnswer.{MapAnswer}
 use Rattle.selector.specs.declared.settle_map.Part.{Part}
 use Rattle.selector.specs.declared.settle_map.Part.the-variants as part-is
 use Rattle.selector.specs.Maps.{mostLists, starts, recordsOf}
-use Rattle.selector.specs.Answers.{afterMap, mapTold}
+use Rattle.selector.specs.Answers.{afterMap, afterEach, mapTold}
 use Rattle.selector.specs.Calls.{trueNumbers, shownBytes, reasonsTurns, Job, listCount, ranBurnt, settleTurns, burnedLengths, burnedBytes}
 
 -- lengths of one to twelve lists that add up to a buffer
@@ -31,10 +32,10 @@ pub record Showable (lists lengths : List ℕ) (out : ℕ) : Type 0 where
   pub lists-are : Mapped lists lengths
   pub room : placeWidth * recordsOf lists lengths ≤ out
 
--- the reasons of the lists have been written in turn
-pub record ShownTurns (n : ℕ) (lists lengths : List ℕ) (a : ℕ) (out : List ℕ) (r : ByList) (out′ : List ℕ) : Type 0 where
-  pub answer : mapTold (r .answer) ≡ reasonsTurns n lists lengths a
-  pub numbers : r .each ≡ afterMap (reasonsTurns n lists lengths a) (trueNumbers n lists lengths a) (zeros mostLists)
+-- the reasons of the lists have been written in turn, with their numbers
+pub record ShownTurns (n : ℕ) (lists lengths : List ℕ) (a : ℕ) (out each : List ℕ) (r : MapAnswer) (out′ each′ : List ℕ) : Type 0 where
+  pub answer : mapTold r ≡ reasonsTurns n lists lengths a
+  pub numbers : each′ ≡ afterEach (reasonsTurns n lists lengths a) (trueNumbers n lists lengths a) each
   pub out-is : out′ ≡ afterMap (reasonsTurns n lists lengths a) (shownBytes n lists lengths a out) out
 
 -- ---- settling

@@ -3,7 +3,6 @@ use crate::ByList;
 use crate::MOST_LISTS;
 use crate::MapAnswer;
 use crate::lengths::check_map_reasons;
-use crate::refused_map;
 use crate::slot::with_bit;
 use reasons::PLACE_WIDTH;
 use reasons::Reasoned;
@@ -13,7 +12,7 @@ ghost use mathlib.Core.List.{_++_};
 ghost use Prim.Native.Nat.{_-_, _≤_};
 ghost use lib.ListN.{length, take, drop};
 ghost use Rattle.reasons.specs.Calls.{reasoned, reasonsOutcome, reasonsAfter};
-ghost use Rattle.selector.specs.Calls.{ReasonsCalled};
+ghost use Rattle.selector.specs.Calls.{ReasonsInto, ReasonsCalled};
 ghost use Rattle.selector.specs.Turns.{Showable, ShownTurns};
 
 // The reasons of a list, into the bytes from..end of the output.
@@ -25,12 +24,19 @@ fn show_part(n: usize, list: &[u8], a: u64, out: &mut [u8], from: usize, end: us
     reasons::reasons(n, list, a, &mut out[from..end])
 }
 
-// The lists in turn, the reasons of each after those before it; where one is refused, the output is cleared.
-fn show_lists(n: usize, lists: &[u8], lengths: &[u64], a: u64, out: &mut [u8]) -> ByList
+// The lists in turn, the reasons of each after those before it, with their numbers; where one is refused, the output and the numbers are cleared.
+fn show_lists(
+    n: usize,
+    lists: &[u8],
+    lengths: &[u64],
+    a: u64,
+    out: &mut [u8],
+    numbers: &mut [u64; MOST_LISTS],
+) -> MapAnswer
     requires { ⌜ Showable (now lists) (now lengths) (length (now out)) ⌝ }
-    ensures { λ r. ⌜ ShownTurns n (now (lists .entry)) (now (lengths .entry)) a (now (out .entry)) r (now (out .exit)) ⌝ }
+    ensures { λ r. ⌜ ShownTurns n (now (lists .entry)) (now (lengths .entry)) a (now (out .entry)) (now (numbers .entry)) r (now (out .exit)) (now (numbers .exit)) ⌝ }
 {
-    let mut numbers = [0u64; MOST_LISTS];
+    *numbers = [0; MOST_LISTS];
     let mut slot: usize = 0;
     let mut at: usize = 0;
     let mut to: usize = 0;
@@ -42,7 +48,8 @@ fn show_lists(n: usize, lists: &[u8], lengths: &[u64], a: u64, out: &mut [u8]) -
         match show_part(n, &lists[at..end], a, out, to, room) {
             Reasoned::Refused(r) => {
                 records::clear(out);
-                return refused_map(MapAnswer::ListRefused(r, k));
+                *numbers = [0; MOST_LISTS];
+                return MapAnswer::ListRefused(r, k);
             }
             Reasoned::Shown(number, _) => {
                 numbers[k] = number as u64;
@@ -53,19 +60,35 @@ fn show_lists(n: usize, lists: &[u8], lengths: &[u64], a: u64, out: &mut [u8]) -
             }
         }
     }
-    ByList {
-        answer: MapAnswer::Number(slot),
-        each: numbers,
+    MapAnswer::Number(slot)
+}
+
+// The reasons of a map: refusals 24, 26 and 5, then those of reasons on the lists in turn; or the slot, with the places of all bits at the front of the output, end
+// to end, and how many each list has in the numbers.
+pub fn reasons_into(
+    n: usize,
+    lists: &[u8],
+    lengths: &[u64],
+    a: u64,
+    out: &mut [u8],
+    numbers: &mut [u64; MOST_LISTS],
+) -> MapAnswer
+    ensures { λ r. ⌜ ReasonsInto n (now (lists .entry)) (now (lengths .entry)) a (now (out .entry)) (now (numbers .entry)) r (now (out .exit)) (now (numbers .exit)) ⌝ }
+{
+    match check_map_reasons(lists, lengths, out.len()) {
+        Counted::Refused(r) => MapAnswer::Refused(r),
+        Counted::Count(_) => show_lists(n, lists, lengths, a, out, numbers),
     }
 }
 
-// The reasons of a map: refusals 24, 26 and 5, then those of reasons on the lists in turn; or the slot and the number of true products of each list, whose
-// places are written to the front of the output, end to end.
+// The same, with the numbers by value.
 pub fn map_reasons(n: usize, lists: &[u8], lengths: &[u64], a: u64, out: &mut [u8]) -> ByList
     ensures { λ r. ⌜ ReasonsCalled n (now (lists .entry)) (now (lengths .entry)) a (now (out .entry)) r (now (out .exit)) ⌝ }
 {
-    match check_map_reasons(lists, lengths, out.len()) {
-        Counted::Refused(r) => refused_map(MapAnswer::Refused(r)),
-        Counted::Count(_) => show_lists(n, lists, lengths, a, out),
+    let mut numbers = [0u64; MOST_LISTS];
+    let answer = reasons_into(n, lists, lengths, a, out, &mut numbers);
+    ByList {
+        answer,
+        each: numbers,
     }
 }

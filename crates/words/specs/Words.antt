@@ -6,10 +6,9 @@ use mathlib.Core.Bool.{cond}
 use mathlib.Core.List.{List, [], _∷_, _++_}
 use lib.Dec.{eqb}
 use lib.ListN.{length, take, drop, getD}
-use Rattle.records.specs.Records.{zeros}
 use Rattle.records.specs.Answers.{Outcome, accepted, refused}
-use Rattle.selector.specs.Maps.{mostLists}
 use Rattle.selector.specs.Answers.{MapOutcome, mapAccepted, mapRefused, listRefused}
+pub use Rattle.selector.specs.Answers.{afterEach}
 
 -- a number, a place and six values, 0 for each that is missing
 abbrev pub eight : ℕ → ℕ → List ℕ → List ℕ
@@ -42,9 +41,3 @@ unfoldable pub mapWords : MapOutcome → List ℕ
 mapWords (mapAccepted x) = eight 0 0 (x ∷ [])
 mapWords (mapRefused r) = eight (r .number) (r .place) (r .differing ∷ allOnes ∷ [])
 mapWords (listRefused r k) = eight (r .number) (r .place) (r .differing ∷ k ∷ [])
-
--- the twelve numbers that a caller lends to a call on a map, after it: written like its buffers (document 02, Thirteen)
-abbrev pub afterEach : MapOutcome → List ℕ → List ℕ → List ℕ
-afterEach (mapAccepted x) new old = new
-afterEach (mapRefused r) new old = old
-afterEach (listRefused r k) new old = zeros mostLists

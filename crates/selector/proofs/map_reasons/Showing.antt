@@ -22,9 +22,8 @@ use Rattle.reasons.specs.Calls.{truePlaces, reasonsOutcome, reasonsAfter}
 use Rattle.reasons.proofs.Calls.{AcceptedReasons, reasons-accepts, shown-fits}
 use Rattle.reasons.proofs.Showing.{places-trues}
 use Rattle.selector.specs.declared.MapAnswer.the-variants as answer-is
-use Rattle.selector.specs.declared.ByList.{ByList}
 use Rattle.selector.specs.Maps.{mostLists, starts, part, cubesAt, recordsOf, slotOf, joinBelow, eachOf}
-use Rattle.selector.specs.Answers.{MapOutcome, mapAccepted, listRefused, afterMap, mapTold}
+use Rattle.selector.specs.Answers.{MapOutcome, mapAccepted, listRefused, afterMap, afterEach}
 use Rattle.selector.specs.Calls.{reasonsAt, placesAt, reasonsTurns, trueNumbers, shownBytes}
 use Rattle.selector.specs.Turns.{Mapped, Showable, ShownTurns}
 use Rattle.selector.proofs.Parts.{sum-zero, sum-next, start-next, start-before, part-is, part-length, join-zero, join-next, each-is, lent-size, written-next}
@@ -97,15 +96,15 @@ module _ (n : ℕ) (lists lengths : List ℕ) (a : ℕ) (out₀ : List ℕ) wher
         unfolding reasonsAt
         lent = eo ∙ ap₂ (λ (b : List ℕ) (x : ℕ). reasonsOutcome n b a x) (part-is lengths lists k at end (r .at-is) ee) room-is
 
-        pub showing-refused : (q : Refusal) → o ≡ refused q → (out′ : List ℕ) (z : ℕ) → out′ ≡ zeros z → z ≡ length out₀ → (s : ByList)
-            → (s .answer ≡ answer-is.ListRefused q k) × (s .each ≡ zeros mostLists) → ShownTurns n lists lengths a out₀ s out′
+        pub showing-refused : (q : Refusal) → o ≡ refused q → (out′ : List ℕ) (z : ℕ) → out′ ≡ zeros z → z ≡ length out₀ → (each : List ℕ)
+            → ShownTurns n lists lengths a out₀ each (answer-is.ListRefused q k) out′ (zeros mostLists)
         unfolding reasonsTurns
-        showing-refused q e out′ z ez el s w =
+        showing-refused q e out′ z ez el each =
             let is : reasonsTurns n lists lengths a ≡ listRefused q k =
             passing-refused (reasonsAt n lists lengths a) (length lengths) k q (mapAccepted (slotOf n lists lengths a)) (r .passing) h (sym lent ∙ e) in
             record {
-              answer = ap mapTold (w .0) ∙ sym is;
-              numbers = w .1 ∙ ap (λ (x : MapOutcome). afterMap x (trueNumbers n lists lengths a) (zeros mostLists)) (sym is);
+              answer = sym is;
+              numbers = ap (λ (x : MapOutcome). afterEach x (trueNumbers n lists lengths a) each) (sym is);
               out-is = ez ∙ ap zeros el ∙ ap (λ (x : MapOutcome). afterMap x (shownBytes n lists lengths a out₀) out₀) (sym is);
             }
 
@@ -172,18 +171,18 @@ module _ (n : ℕ) (lists lengths : List ℕ) (a : ℕ) (out₀ : List ℕ) wher
               passing = passing-more (reasonsAt n lists lengths a) k (r .passing) (record { values = number ∷ b ∷ []; is = sym lent ∙ e });
             }
 
-    pub showing-done : length lengths ≤ k → (s : ByList) → mapTold (s .answer) ≡ mapAccepted slot → s .each ≡ numbers → ShownTurns n lists lengths a out₀ s out
+    pub showing-done : length lengths ≤ k → (each : List ℕ) → ShownTurns n lists lengths a out₀ each (answer-is.Number slot) out numbers
     unfolding reasonsTurns slotOf trueNumbers shownBytes
-    showing-done h s ea es =
+    showing-done h each =
         let e : k ≡ length lengths = omega (arith, r .within) in
         let is : reasonsTurns n lists lengths a ≡ mapAccepted (slotOf n lists lengths a) =
         passing-all (reasonsAt n lists lengths a) (length lengths) k _ (r .passing) (r .within) h in
         record {
-          answer = ea ∙ ap mapAccepted (r .slot-is ∙ ap (slotBelow n lists lengths a) e) ∙ sym is;
+          answer = ap mapAccepted (r .slot-is ∙ ap (slotBelow n lists lengths a) e) ∙ sym is;
           numbers =
-              es ∙ each-is (λ i. length (placesAt n lists lengths a i)) numbers k (r .numbers-are)
+              each-is (λ i. length (placesAt n lists lengths a i)) numbers k (r .numbers-are)
               ∙ ap (λ (x : ℕ). eachOf x (λ i. length (placesAt n lists lengths a i))) e
-              ∙ ap (λ (x : MapOutcome). afterMap x (trueNumbers n lists lengths a) (zeros mostLists)) (sym is);
+              ∙ ap (λ (x : MapOutcome). afterEach x (trueNumbers n lists lengths a) each) (sym is);
           out-is =
               r .out-is ∙ ap (λ (x : ℕ). written places 0 (joinBelow x (placesAt n lists lengths a)) out₀) e
               ∙ ap (λ (x : MapOutcome). afterMap x (shownBytes n lists lengths a out₀) out₀) (sym is);

@@ -27,15 +27,15 @@ shared-slice-read-size c = search needs
 
 add-end : tie.Need-add-end Inv-loop μ-loop
 add-end c = let l = c .before .before in
-    omega (arith, showing-end _ _ _ _ _ (l .before .before .before .before .pre) _ _ _ _ _ _ (l .loop .inv) (c .before .loop-test .taken))
+    omega (arith, showing-end _ _ _ _ _ (l .before .before .before .before .before .pre) _ _ _ _ _ _ (l .loop .inv) (c .before .loop-test .taken))
 
 mul-room : tie.Need-mul-room Inv-loop μ-loop
 mul-room c = let l = c .before .before in
-    omega (arith, showing-room _ _ _ _ _ (l .before .before .before .before .pre) _ _ _ _ _ _ (l .loop .inv) (c .before .loop-test .taken), l .loop .inv .out-long)
+    omega (arith, showing-room _ _ _ _ _ (l .before .before .before .before .before .pre) _ _ _ _ _ _ (l .loop .inv) (c .before .loop-test .taken), l .loop .inv .out-long)
 
 add-room : tie.Need-add-room Inv-loop μ-loop
 add-room c = let l = c .before .before in
-    omega (arith, showing-room _ _ _ _ _ (l .before .before .before .before .pre) _ _ _ _ _ _ (l .loop .inv) (c .before .loop-test .taken), l .loop .inv .out-long)
+    omega (arith, showing-room _ _ _ _ _ (l .before .before .before .before .before .pre) _ _ _ _ _ _ (l .loop .inv) (c .before .loop-test .taken), l .loop .inv .out-long)
 
 sub-show-part : tie.Need-sub-show-part Inv-loop μ-loop
 sub-show-part c = search needs
@@ -45,11 +45,11 @@ part-show-part-start c = search needs
 
 part-show-part-end : tie.Need-part-show-part-end Inv-loop μ-loop
 part-show-part-end c = let l = c .before .before in
-    showing-end _ _ _ _ _ (l .before .before .before .before .pre) _ _ _ _ _ _ (l .loop .inv) (c .before .loop-test .taken)
+    showing-end _ _ _ _ _ (l .before .before .before .before .before .pre) _ _ _ _ _ _ (l .loop .inv) (c .before .loop-test .taken)
 
 show-part-requires : tie.Need-show-part-requires Inv-loop μ-loop
 show-part-requires c κs = let l = c .before .before .before .before in
-    (omega arith, showing-room _ _ _ _ _ (l .before .before .before .before .pre) _ _ _ _ _ _ (l .loop .inv) (c .before .before .before .loop-test .taken))
+    (omega arith, showing-room _ _ _ _ _ (l .before .before .before .before .before .pre) _ _ _ _ _ _ (l .loop .inv) (c .before .before .before .loop-test .taken))
 
 enum-known-r : tie.Need-enum-known-r Inv-loop μ-loop
 enum-known-r c = search needs
@@ -57,17 +57,14 @@ enum-known-r c = search needs
 clear-requires : tie.Need-clear-requires Inv-loop μ-loop
 clear-requires c κs = search needs
 
-refused-map-requires : tie.Need-refused-map-requires Inv-loop μ-loop
-refused-map-requires c κs = search needs
-
 same-length : tie.Need-same-length Inv-loop μ-loop
 same-length c = search needs
 
 returns : tie.Need-returns Inv-loop μ-loop
 returns c = let v = c .before .before .before .before .before .before .before .before .before .before in
     let l = v .before .before .before .before .before in
-    showing-refused _ _ _ _ _ (l .before .before .before .before .pre) _ _ _ _ _ _ (l .loop .inv) (v .before .before .before .before .loop-test .taken) _ _ refl refl _ (v .show-part .ensures .0) _
-    (ap reasoned (c .before .before .before .before .before .before .r .given .1)) _ (length (v .show-part .last .1 .1 .1 .0)) (c .before .before .before .clear .ensures) (search (needs, l .loop .inv .out-long)) _ (c .refused-map .ensures)
+    showing-refused _ _ _ _ _ (l .before .before .before .before .before .pre) _ _ _ _ _ _ (l .loop .inv) (v .before .before .before .before .loop-test .taken) _ _ refl refl _ (v .show-part .ensures .0) _
+    (ap reasoned (c .before .before .before .before .before .before .r .given .1)) _ (length (v .show-part .last .1 .1 .1 .0)) (c .before .before .before .clear .ensures) (search (needs, l .loop .inv .out-long)) _
 
 enum-known-number : tie.Need-enum-known-number Inv-loop μ-loop
 enum-known-number c = search needs
@@ -75,10 +72,10 @@ enum-known-number c = search needs
 mul-numbers : tie.Need-mul-numbers Inv-loop μ-loop
 mul-numbers c = search needs
 
-array-write-numbers : tie.Need-array-write-numbers Inv-loop μ-loop
-array-write-numbers c = let v = c .before .before .before .before .before in
+element-write-numbers : tie.Need-element-write-numbers Inv-loop μ-loop
+element-write-numbers c = let v = c .before .before .before .before .before in
     let l = v .before .before .before .before .before in
-    showing-index _ _ _ _ _ (l .before .before .before .before .pre) _ _ _ _ _ _ (l .loop .inv) (v .before .before .before .before .loop-test .taken)
+    showing-index _ _ _ _ _ (l .before .before .before .before .before .pre) _ _ _ _ _ _ (l .loop .inv) (v .before .before .before .before .loop-test .taken)
 
 cast-with-bit : tie.Need-cast-with-bit Inv-loop μ-loop
 cast-with-bit c = search needs
@@ -86,17 +83,17 @@ cast-with-bit c = search needs
 with-bit-requires : tie.Need-with-bit-requires Inv-loop μ-loop
 with-bit-requires c κs = let v = c .before .before .before .before .before in
     let l = v .before .before .before .before .before in
-    showing-bit _ _ _ _ _ (l .before .before .before .before .pre) _ _ _ _ _ _ (l .loop .inv) (v .before .before .before .before .loop-test .taken) _ _ refl refl _ (v .show-part .ensures .0) _ _ (ap reasoned (c .before .number .given .1))
+    showing-bit _ _ _ _ _ (l .before .before .before .before .before .pre) _ _ _ _ _ _ (l .loop .inv) (v .before .before .before .before .loop-test .taken) _ _ refl refl _ (v .show-part .ensures .0) _ _ (ap reasoned (c .before .number .given .1))
 
 mul-to : tie.Need-mul-to Inv-loop μ-loop
 mul-to c = let v = c .before .before .before .before .before .before in
     let l = v .before .before .before .before .before in
-    omega (arith, showing-to _ _ _ _ _ (l .before .before .before .before .pre) _ _ _ _ _ _ (l .loop .inv) (v .before .before .before .before .loop-test .taken) _ _ refl refl _ (v .show-part .ensures .0) _ _ (ap reasoned (c .before .before .number .given .1)), showing-room _ _ _ _ _ (l .before .before .before .before .pre) _ _ _ _ _ _ (l .loop .inv) (v .before .before .before .before .loop-test .taken), l .loop .inv .out-long)
+    omega (arith, showing-to _ _ _ _ _ (l .before .before .before .before .before .pre) _ _ _ _ _ _ (l .loop .inv) (v .before .before .before .before .loop-test .taken) _ _ refl refl _ (v .show-part .ensures .0) _ _ (ap reasoned (c .before .before .number .given .1)), showing-room _ _ _ _ _ (l .before .before .before .before .before .pre) _ _ _ _ _ _ (l .loop .inv) (v .before .before .before .before .loop-test .taken), l .loop .inv .out-long)
 
 add-to : tie.Need-add-to Inv-loop μ-loop
 add-to c = let v = c .before .before .before .before .before .before in
     let l = v .before .before .before .before .before in
-    omega (arith, showing-to _ _ _ _ _ (l .before .before .before .before .pre) _ _ _ _ _ _ (l .loop .inv) (v .before .before .before .before .loop-test .taken) _ _ refl refl _ (v .show-part .ensures .0) _ _ (ap reasoned (c .before .before .number .given .1)), showing-room _ _ _ _ _ (l .before .before .before .before .pre) _ _ _ _ _ _ (l .loop .inv) (v .before .before .before .before .loop-test .taken), l .loop .inv .out-long)
+    omega (arith, showing-to _ _ _ _ _ (l .before .before .before .before .before .pre) _ _ _ _ _ _ (l .loop .inv) (v .before .before .before .before .loop-test .taken) _ _ refl refl _ (v .show-part .ensures .0) _ _ (ap reasoned (c .before .before .number .given .1)), showing-room _ _ _ _ _ (l .before .before .before .before .before .pre) _ _ _ _ _ _ (l .loop .inv) (v .before .before .before .before .loop-test .taken), l .loop .inv .out-long)
 
 add-k : tie.Need-add-k Inv-loop μ-loop
 add-k c = search needs
@@ -107,7 +104,7 @@ loop-less c = search needs
 loop-again : tie.Need-loop-again Inv-loop μ-loop
 loop-again c = let v = c .before .before .before .before .before .before in
     let l = v .before .before .before .before .before in
-    showing-more _ _ _ _ _ (l .before .before .before .before .pre) _ _ _ _ _ _ (l .loop .inv) (v .before .before .before .before .loop-test .taken) _ _ refl refl _ (v .show-part .ensures .0) _ _
+    showing-more _ _ _ _ _ (l .before .before .before .before .before .pre) _ _ _ _ _ _ (l .loop .inv) (v .before .before .before .before .loop-test .taken) _ _ refl refl _ (v .show-part .ensures .0) _ _
     (ap reasoned (c .before .before .number .given .1)) _ (v .show-part .ensures .1) _ (c .with-bit .ensures)
 
 same-length-2 : tie.Need-same-length-2 Inv-loop μ-loop
@@ -115,7 +112,7 @@ same-length-2 c = search needs
 
 returns-2 : tie.Need-returns-2 Inv-loop μ-loop
 returns-2 c = let l = c .before in
-    showing-done _ _ _ _ _ (l .before .before .before .before .pre) _ _ _ _ _ _ (l .loop .inv) (c .loop-test .left) _ refl refl
+    showing-done _ _ _ _ _ (l .before .before .before .before .before .pre) _ _ _ _ _ _ (l .loop .inv) (c .loop-test .left) _
 
 pub show-lists-spec : {M : Type 1} → statement M
 show-lists-spec =
@@ -135,12 +132,11 @@ show-lists-spec =
     show-part-requires
     enum-known-r
     clear-requires
-    refused-map-requires
     same-length
     returns
     enum-known-number
     mul-numbers
-    array-write-numbers
+    element-write-numbers
     cast-with-bit
     with-bit-requires
     mul-to
