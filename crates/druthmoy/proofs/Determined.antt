@@ -51,12 +51,12 @@ use Rattle.druthmoy.proofs.dm_shared_run.Kinds as dm-shared-run-kinds
 use Rattle.druthmoy.proofs.dm_shared_run.Reads as dm-shared-run-reads
 use Rattle.druthmoy.proofs.dm_shared_settle.Kinds as dm-shared-settle-kinds
 use Rattle.druthmoy.proofs.dm_shared_settle.Reads as dm-shared-settle-reads
-use Rattle.druthmoy.proofs.dm_slot.Kinds as dm-slot-kinds
-use Rattle.druthmoy.proofs.dm_slot.Reads as dm-slot-reads
-use Rattle.druthmoy.proofs.dm_settle_map.Kinds as dm-settle-map-kinds
-use Rattle.druthmoy.proofs.dm_settle_map.Reads as dm-settle-map-reads
-use Rattle.druthmoy.proofs.dm_map_reasons.Kinds as dm-map-reasons-kinds
-use Rattle.druthmoy.proofs.dm_map_reasons.Reads as dm-map-reasons-reads
+use Rattle.druthmoy.proofs.maps.dm_slot.Kinds as dm-slot-kinds
+use Rattle.druthmoy.proofs.maps.dm_slot.Reads as dm-slot-reads
+use Rattle.druthmoy.proofs.maps.dm_settle_map.Kinds as dm-settle-map-kinds
+use Rattle.druthmoy.proofs.maps.dm_settle_map.Reads as dm-settle-map-reads
+use Rattle.druthmoy.proofs.maps.dm_map_reasons.Kinds as dm-map-reasons-kinds
+use Rattle.druthmoy.proofs.maps.dm_map_reasons.Reads as dm-map-reasons-reads
 
 pub dm-check-determined : Determined 2 dm-check-kinds.ps dm-check-kinds.r dm-check-reads.Learnt
 dm-check-determined κs a z z′ ws ws′ p q = (refl, ap (λ (w : List ℕ). (tt, (tt, (w, tt)))) (same p q))

@@ -16,12 +16,12 @@ use Rattle.selector.specs.Maps.{mostLists}
 use Rattle.selector.specs.Answers.{MapOutcome, mapAccepted, mapRefused, listRefused, afterMap}
 use Rattle.selector.specs.Calls.{mapReasonsOutcome, trueNumbers, shownBytes, Job, job, settleMapOutcome, burnedLengths, burnedBytes}
 use Rattle.druthmoy.specs.Faces.{eight, allOnes, mapWords, afterEach, SettleFaced, ReasonsFaced}
-use Rattle.druthmoy.proofs.dm_slot.Kinds as dm-slot-kinds
-use Rattle.druthmoy.proofs.dm_slot.Reads as dm-slot-reads
-use Rattle.druthmoy.proofs.dm_settle_map.Kinds as dm-settle-map-kinds
-use Rattle.druthmoy.proofs.dm_settle_map.Reads as dm-settle-map-reads
-use Rattle.druthmoy.proofs.dm_map_reasons.Kinds as dm-map-reasons-kinds
-use Rattle.druthmoy.proofs.dm_map_reasons.Reads as dm-map-reasons-reads
+use Rattle.druthmoy.proofs.maps.dm_slot.Kinds as dm-slot-kinds
+use Rattle.druthmoy.proofs.maps.dm_slot.Reads as dm-slot-reads
+use Rattle.druthmoy.proofs.maps.dm_settle_map.Kinds as dm-settle-map-kinds
+use Rattle.druthmoy.proofs.maps.dm_settle_map.Reads as dm-settle-map-reads
+use Rattle.druthmoy.proofs.maps.dm_map_reasons.Kinds as dm-map-reasons-kinds
+use Rattle.druthmoy.proofs.maps.dm_map_reasons.Reads as dm-map-reasons-reads
 use Rattle.promises.specs.Calls.{leaves}
 use Rattle.promises.specs.Selector.{MapCall, slot, settleMap, mapReasons, mapAnswers, mapLent, mapMakes, listCall, beforeLists, MapFaced, Twelve, IsMapFaced}
 use Rattle.promises.proofs.DemandOne.{refused-above-0}

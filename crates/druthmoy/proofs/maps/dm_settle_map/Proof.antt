@@ -4,8 +4,8 @@ use mathlib.Core.Path.{ap, _∙_}
 use borrow.Author.Needs.{needs}
 use Rattle.druthmoy.specs.Faces.{mapWords}
 use Rattle.druthmoy.proofs.Each.{each-written}
-use Rattle.druthmoy.proofs.dm_settle_map.Statement.{statement}
-use Rattle.druthmoy.proofs.dm_settle_map.Tie as tie
+use Rattle.druthmoy.proofs.maps.dm_settle_map.Statement.{statement}
+use Rattle.druthmoy.proofs.maps.dm_settle_map.Tie as tie
 
 settle-map-requires : tie.Need-settle-map-requires
 settle-map-requires c κs = search needs

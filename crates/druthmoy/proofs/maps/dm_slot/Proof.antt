@@ -3,8 +3,8 @@
 use mathlib.Core.Path.{ap, _∙_}
 use borrow.Author.Needs.{needs}
 use Rattle.druthmoy.specs.Faces.{mapWords}
-use Rattle.druthmoy.proofs.dm_slot.Statement.{statement}
-use Rattle.druthmoy.proofs.dm_slot.Tie as tie
+use Rattle.druthmoy.proofs.maps.dm_slot.Statement.{statement}
+use Rattle.druthmoy.proofs.maps.dm_slot.Tie as tie
 
 slot-requires : tie.Need-slot-requires
 slot-requires c κs = search needs

@@ -3,8 +3,8 @@
 use mathlib.Core.Path.{ap, _∙_}
 use borrow.Author.Needs.{needs}
 use Rattle.druthmoy.specs.Faces.{mapWords}
-use Rattle.druthmoy.proofs.dm_map_reasons.Statement.{statement}
-use Rattle.druthmoy.proofs.dm_map_reasons.Tie as tie
+use Rattle.druthmoy.proofs.maps.dm_map_reasons.Statement.{statement}
+use Rattle.druthmoy.proofs.maps.dm_map_reasons.Tie as tie
 
 reasons-into-requires : tie.Need-reasons-into-requires
 reasons-into-requires c κs = search needs
