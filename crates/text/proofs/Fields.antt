@@ -16,9 +16,10 @@ use Rattle.text.specs.declared.ReadNumber.{ReadNumber}
 use Rattle.text.specs.declared.ReadNumber.the-variants as number-is
 use Rattle.text.specs.declared.ReadStep.{ReadStep}
 use Rattle.text.specs.declared.ReadStep.the-variants as step-is
+use Rattle.text.specs.Blanks.{blank, pastBlanks}
 use Rattle.text.specs.Numbers.{isDigit}
-use Rattle.text.specs.Steps.{dropWord, joinWord, splitWord, turnWord, lWord}
-use Rattle.text.specs.Reading.{wordIn, digitsFrom, numberIn, onRead, fieldAt, operationAt, fieldsAt, stepIn}
+use Rattle.text.specs.Steps.{dropWord, joinWord, splitWord, turnWord, lWord, variableLead}
+use Rattle.text.specs.Reading.{wordIn, digitsFrom, numberIn, onRead, gapIn, fieldAt, operationAt, fieldsAt, stepIn}
 
 -- ---- what is read is no greater than it may be
 
@@ -49,10 +50,12 @@ on-read-most : (most : ℕ) (r : ReadNumber) (k : ℕ → ℕ → ReadNumber) �
 on-read-most most (number-is.Read x p) k f = f x p
 on-read-most most (number-is.Wrong p) k f = tt
 
-field-most : (used : Bool) (most : ℕ) (t : List ℕ) (p : ℕ) → AtMost most (fieldAt used most t p)
+field-most : (used : Bool) (lead : List ℕ) (most : ℕ) (t : List ℕ) (p : ℕ) → AtMost most (fieldAt used lead most t p)
 unfolding fieldAt
-field-most true most t p = on-read-most most (wordIn 0 (32 ∷ []) t p) (λ x q. numberIn most t q) (λ x q. number-most most t q)
-field-most false most t p = omega arith
+field-most true lead most t p =
+    on-read-most most (gapIn t p) (λ x q. onRead (wordIn 0 lead t q) (λ y z. numberIn most t z))
+    (λ x q. on-read-most most (wordIn 0 lead t q) (λ y z. numberIn most t z) (λ y z. number-most most t z))
+field-most false lead most t p = omega arith
 
 word-most : (most number : ℕ) → number ≤ most → (w t : List ℕ) (p : ℕ) → AtMost most (wordIn number w t p)
 unfolding wordIn
@@ -73,8 +76,8 @@ read-most : (most x p : ℕ) {r : ReadNumber} → r ≡ number-is.Read x p → A
 read-most most x p e h = rw e at h
 
 -- what is read of a field of one byte, and of the operation, fits a byte
-pub field-fits : (used : Bool) (t : List ℕ) (p x q : ℕ) {r : ReadNumber} → r ≡ fieldAt used 255 t p → r ≡ number-is.Read x q → Fits w8 x
-field-fits used t p x q e d = record { fits = lt-of-le-of-lt (read-most 255 x q (sym e ∙ d) (field-most used 255 t p)) (lit< tt) }
+pub field-fits : (used : Bool) (lead t : List ℕ) (p x q : ℕ) {r : ReadNumber} → r ≡ fieldAt used lead 255 t p → r ≡ number-is.Read x q → Fits w8 x
+field-fits used lead t p x q e d = record { fits = lt-of-le-of-lt (read-most 255 x q (sym e ∙ d) (field-most used lead 255 t p)) (lit< tt) }
 
 pub operation-fits : (t : List ℕ) (p x q : ℕ) {r : ReadNumber} → r ≡ operationAt t p → r ≡ number-is.Read x q → Fits w8 x
 operation-fits t p x q e d = record { fits = lt-of-le-of-lt (read-most 5 x q (sym e ∙ d) (operation-most t p)) (lit< tt) }
@@ -107,41 +110,56 @@ module _ (t : List ℕ) (p : ℕ) {b : ℕ} (e : b ≡ getD t p 0) {r : ReadNumb
 
 -- ---- a field
 
-module _ (most : ℕ) (t : List ℕ) (p : ℕ) (used : Bool) where
-  pub field-unused : not used ≡ true → number-is.Read 0 p ≡ fieldAt used most t p
+-- the gap before it: no blank, and the place after the blanks
+module _ (t : List ℕ) (p : ℕ) {b : ℕ} {s : Bool} (e : b ≡ getD t p 0) (d : s ≡ blank b) where
+  pub no-gap : not s ≡ true → number-is.Wrong p ≡ gapIn t p
+  unfolding gapIn
+  no-gap h = simp (sym e, sym d ∙ not-true s h)
+
+  pub gap-ends : not s ≡ false → {q : ℕ} → q ≡ pastBlanks t p → number-is.Read 0 q ≡ gapIn t p
+  unfolding gapIn
+  gap-ends h {q} g = ap (number-is.Read 0) g ∙ sym (simp (sym e, sym d ∙ not-false s h))
+
+module _ (lead : List ℕ) (most : ℕ) (t : List ℕ) (p : ℕ) (used : Bool) where
+  pub field-unused : not used ≡ true → number-is.Read 0 p ≡ fieldAt used lead most t p
   unfolding fieldAt
   field-unused h = rw (not-true used h)
 
-  module _ (h : not used ≡ false) {w : ReadNumber} (e : w ≡ wordIn 0 (32 ∷ []) t p) where
-    pub field-wrong : {q : ℕ} → w ≡ number-is.Wrong q → number-is.Wrong q ≡ fieldAt used most t p
+  module _ (h : not used ≡ false) {g : ReadNumber} (e : g ≡ gapIn t p) where
+    pub field-close : {q : ℕ} → g ≡ number-is.Wrong q → number-is.Wrong q ≡ fieldAt used lead most t p
     unfolding fieldAt
-    field-wrong d = rw (not-false used h, sym e ∙ d)
+    field-close d = rw (not-false used h, sym e ∙ d)
 
-    pub field-number : {x q : ℕ} {r : ReadNumber} → w ≡ number-is.Read x q → r ≡ numberIn most t q → r ≡ fieldAt used most t p
-    unfolding fieldAt
-    field-number d n = n ∙ rw (not-false used h, sym e ∙ d)
+    module _ {x q : ℕ} (d : g ≡ number-is.Read x q) {w : ReadNumber} (l : w ≡ wordIn 0 lead t q) where
+      pub field-wrong : {z : ℕ} → w ≡ number-is.Wrong z → number-is.Wrong z ≡ fieldAt used lead most t p
+      unfolding fieldAt
+      field-wrong k = rw (not-false used h, sym e ∙ d, sym l ∙ k)
+
+      pub field-number : {y z : ℕ} {r : ReadNumber} → w ≡ number-is.Read y z → r ≡ numberIn most t z → r ≡ fieldAt used lead most t p
+      unfolding fieldAt
+      field-number k n = n ∙ rw (not-false used h, sym e ∙ d, sym l ∙ k)
 
 -- ---- the fields in turn
 
-module _ (op p : ℕ) (t : List ℕ) {f : ReadNumber} (e : f ≡ fieldAt (usesV op) 255 t p) where
+module _ (op p : ℕ) (t : List ℕ) {f : ReadNumber} (e : f ≡ fieldAt (usesV op) variableLead 255 t p) where
   pub wrong-v : {q : ℕ} → f ≡ number-is.Wrong q → step-is.Wrong q ≡ fieldsAt op t p
   unfolding fieldsAt
   wrong-v d = rw (sym e ∙ d)
 
-  module _ {v a : ℕ} (read-v : f ≡ number-is.Read v a) {g : ReadNumber} (e2 : g ≡ fieldAt (usesI op) 65535 t a) where
+  module _ {v a : ℕ} (read-v : f ≡ number-is.Read v a) {g : ReadNumber} (e2 : g ≡ fieldAt (usesI op) [] 65535 t a) where
     pub wrong-i : {q : ℕ} → g ≡ number-is.Wrong q → step-is.Wrong q ≡ fieldsAt op t p
     unfolding fieldsAt
     wrong-i d = rw (sym e ∙ read-v, sym e2 ∙ d)
 
-    module _ {i b : ℕ} (read-i : g ≡ number-is.Read i b) {u : Bool} (j-used : u ≡ usesJ op) {h : ReadNumber} (e3 : h ≡ fieldAt u 65535 t b) where
-      third : h ≡ fieldAt (usesJ op) 65535 t b
+    module _ {i b : ℕ} (read-i : g ≡ number-is.Read i b) {u : Bool} (j-used : u ≡ usesJ op) {h : ReadNumber} (e3 : h ≡ fieldAt u [] 65535 t b) where
+      third : h ≡ fieldAt (usesJ op) [] 65535 t b
       third = rw j-used at e3
 
       pub wrong-j : {q : ℕ} → h ≡ number-is.Wrong q → step-is.Wrong q ≡ fieldsAt op t p
       unfolding fieldsAt
       wrong-j d = rw (sym e ∙ read-v, sym e2 ∙ read-i, sym third ∙ d)
 
-      module _ {j y : ℕ} (read-j : h ≡ number-is.Read j y) {k : ReadNumber} (e4 : k ≡ fieldAt (usesLiteral op) 255 t y) where
+      module _ {j y : ℕ} (read-j : h ≡ number-is.Read j y) {k : ReadNumber} (e4 : k ≡ fieldAt (usesLiteral op) [] 255 t y) where
         pub wrong-literal : {q : ℕ} → k ≡ number-is.Wrong q → step-is.Wrong q ≡ fieldsAt op t p
         unfolding fieldsAt
         wrong-literal d = rw (sym e ∙ read-v, sym e2 ∙ read-i, sym third ∙ read-j, sym e4 ∙ d)

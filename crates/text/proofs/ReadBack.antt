@@ -11,8 +11,8 @@ use native.Mathlib.Omega.{arith}
 use lib.Dec.{ltb, leb}
 use lib.ListN.{length, getD, drop, length-append, length-drop, List·getD-append}
 use lib.Seq.{getD-drop, drop-drop, getD-at}
-use borrow.Author.Tests.{lt-ltb, le-ltb, le-leb, eq-eqb}
-use Rattle.bits.proofs.Bools.{below-or}
+use borrow.Author.Tests.{lt-ltb, le-ltb, le-leb, leb-true, eq-eqb, ne-eqb}
+use Rattle.bits.proofs.Bools.{both-true, below-or}
 use Rattle.cube.specs.declared.Cube.{Cube}
 use Rattle.cube.specs.Cubes.{Good, code, put, one, withCode, maskBits}
 use Rattle.cube.proofs.Codes.{code-lt, code-same, code-other, with-put, one-good, put-good, cube-ext}
@@ -26,12 +26,13 @@ use Rattle.text.specs.declared.ReadNumber.the-variants as number-is
 use Rattle.text.specs.declared.ReadCube.the-variants as cube-is
 use Rattle.text.specs.declared.ReadStep.the-variants as step-is
 use Rattle.text.specs.Places.{Laid}
+use Rattle.text.specs.Blanks.{blank, blanks, pastBlanks}
 use Rattle.text.specs.Numbers.{isDigit, decimalBy, decimal}
 use Rattle.text.specs.Cubes.{glyph, codeOfGlyph, cubeText}
-use Rattle.text.specs.Steps.{dropWord, joinWord, splitWord, turnWord, lWord, fieldText, stepText}
-use Rattle.text.specs.Reading.{wordIn, digitsFrom, numberIn, codesFrom, cubeIn, fieldAt, operationAt, stepIn}
+use Rattle.text.specs.Steps.{dropWord, joinWord, splitWord, turnWord, lWord, variableLead, fieldText, stepText}
+use Rattle.text.specs.Reading.{wordIn, digitsFrom, numberIn, codesFrom, cubeIn, gapIn, fieldAt, operationAt, stepIn}
 use Rattle.text.proofs.Laying.{Stands, stands, length-cube}
-use Rattle.text.proofs.Fields.{reads-drop, reads-join, reads-split, reads-turn, reads-L, field-unused, fields-read, step-read}
+use Rattle.text.proofs.Fields.{reads-drop, reads-join, reads-split, reads-turn, reads-L, gap-ends, field-unused, field-number, fields-read, step-read}
 
 first-of : (t : List ℕ) (p : ℕ) → getD t p 0 ≡ getD (drop p t) 0 0
 first-of t p = ap (λ (m : ℕ). getD t m 0) (sym (add-zero p)) ∙ sym (getD-drop p t 0 0)
@@ -136,32 +137,64 @@ module _ (most x : ℕ) (few : x ≤ most) (t rest : List ℕ) (p : ℕ) (none :
       ∙ digits-back most x x (omega arith) few rest p
       ∙ number-ends most rest (p + length (decimal x)) x none)
 
--- a field: a space and a number
-field-back : (most x : ℕ) → x ≤ most → (t rest : List ℕ) (p q : ℕ) → isDigit (getD rest 0 0) ≡ false → q ≡ p + length (fieldText x)
-    → drop p t ≡ fieldText x ++ rest → fieldAt true most t p ≡ number-is.Read x q
-unfolding fieldAt
-field-back most x few t rest p q none l e =
-    let at : drop (p + 1) t ≡ decimal x ++ rest = after-text (32 ∷ []) t (decimal x ++ rest) p (p + 1) (omega arith) e in
-    let long : p + 1 + length (decimal x) ≡ q = omega arith in
-    rw (word-back 0 (32 ∷ []) t (decimal x ++ rest) p (p + 1) (omega arith) e)
-    (number-back most x few t rest (p + 1) none at ∙ ap (number-is.Read x) long)
+-- ---- fields
+
+-- what a lead and a number begin with is no blank, where the lead begins with none
+digit-no-blank : (b : ℕ) → isDigit b ≡ true → blank b ≡ false
+digit-no-blank b h =
+    let low : 48 ≤ b = leb-true 48 b (both-true (leb 48 b) (leb b 57) h .0) in
+    simp (ne-eqb b 32 (λ e. omega arith), ne-eqb b 9 (λ e. omega arith), ne-eqb b 13 (λ e. omega arith))
+
+lead-no-blank : (lead : List ℕ) → blank (getD lead 0 0) ≡ false → (x : ℕ) (rest : List ℕ) → blank (getD (lead ++ (decimal x ++ rest)) 0 0) ≡ false
+lead-no-blank [] plain x rest = digit-no-blank (getD (decimal x ++ rest) 0 0) (first-digit x x (omega arith) rest)
+lead-no-blank (b ∷ lead) plain x rest = plain
+
+blanks-none : (s : List ℕ) → blank (getD s 0 0) ≡ false → blanks s ≡ 0
+unfolding blanks
+blanks-none [] h = refl
+blanks-none (b ∷ s) h = simp h
+
+-- one space is a gap
+gap-back : (t s : List ℕ) (p : ℕ) → blank (getD s 0 0) ≡ false → drop p t ≡ 32 ∷ s → gapIn t p ≡ number-is.Read 0 (p + 1)
+unfolding blanks
+gap-back t s p none e =
+    let one-more : blanks (drop p t) ≡ suc (blanks s) = rw e in
+    let end : p + 1 ≡ pastBlanks t p = omega (arith, one-more, blanks-none s none) in
+    sym (gap-ends t p (sym (char t p 32 s e .is)) refl refl end)
+
+-- a field as it is printed: a space, a lead and a number
+module _ (lead : List ℕ) (plain : blank (getD lead 0 0) ≡ false) where
+  pub field-back : (most x : ℕ) → x ≤ most → (t rest : List ℕ) (p q : ℕ) → isDigit (getD rest 0 0) ≡ false → q ≡ p + length (fieldText lead x)
+      → drop p t ≡ fieldText lead x ++ rest → fieldAt true lead most t p ≡ number-is.Read x q
+  field-back most x few t rest p q none l e =
+      let d : drop p t ≡ 32 ∷ (lead ++ (decimal x ++ rest)) = e ∙ ap (λ (s : List ℕ). 32 ∷ s) (append-assoc lead (decimal x) rest) in
+      let at : drop (p + 1) t ≡ lead ++ (decimal x ++ rest) = char t p 32 (lead ++ (decimal x ++ rest)) d .rest in
+      let z : ℕ = p + 1 + length lead in
+      let then : drop z t ≡ decimal x ++ rest = after-text lead t (decimal x ++ rest) (p + 1) z refl at in
+      let long : z + length (decimal x) ≡ q = omega (arith, length-append lead (decimal x)) in
+      sym (field-number lead most t p true refl refl (gap-back t (lead ++ (decimal x ++ rest)) p (lead-no-blank lead plain x rest) d)
+      refl (word-back 0 lead t (decimal x ++ rest) (p + 1) z refl at)
+      (sym (number-back most x few t rest z none then ∙ ap (number-is.Read x) long)))
 
 -- two fields
-record Two (mx my : ℕ) (t : List ℕ) (p x y q : ℕ) : Type 0 where
-  between : ℕ
-  first : fieldAt true mx t p ≡ number-is.Read x between
-  second : fieldAt true my t between ≡ number-is.Read y q
+pub record Two (lx ly : List ℕ) (mx my : ℕ) (t : List ℕ) (p x y q : ℕ) : Type 0 where
+  pub between : ℕ
+  pub first : fieldAt true lx mx t p ≡ number-is.Read x between
+  pub second : fieldAt true ly my t between ≡ number-is.Read y q
 
-two-back : (mx my x y : ℕ) → x ≤ mx → y ≤ my → (t rest : List ℕ) (p q : ℕ) → isDigit (getD rest 0 0) ≡ false → q ≡ p + length (fieldText x ++ fieldText y)
-    → drop p t ≡ (fieldText x ++ fieldText y) ++ rest → Two mx my t p x y q
-two-back mx my x y fx fy t rest p q none l e =
-    let d : drop p t ≡ fieldText x ++ (fieldText y ++ rest) = e ∙ append-assoc (fieldText x) (fieldText y) rest in
-    let long : q ≡ p + length (fieldText x) + length (fieldText y) = omega (arith, length-append (fieldText x) (fieldText y)) in
-    record {
-      between = p + length (fieldText x);
-      first = field-back mx x fx t (fieldText y ++ rest) p (p + length (fieldText x)) refl refl d;
-      second = field-back my y fy t rest (p + length (fieldText x)) q none long (after-text (fieldText x) t (fieldText y ++ rest) p (p + length (fieldText x)) refl d);
-    }
+module _ (lx ly : List ℕ) (px : blank (getD lx 0 0) ≡ false) (py : blank (getD ly 0 0) ≡ false) where
+  pub two-back : (mx my x y : ℕ) → x ≤ mx → y ≤ my → (t rest : List ℕ) (p q : ℕ) → isDigit (getD rest 0 0) ≡ false
+      → q ≡ p + length (fieldText lx x ++ fieldText ly y) → drop p t ≡ (fieldText lx x ++ fieldText ly y) ++ rest → Two lx ly mx my t p x y q
+  two-back mx my x y fx fy t rest p q none l e =
+      let d : drop p t ≡ fieldText lx x ++ (fieldText ly y ++ rest) = e ∙ append-assoc (fieldText lx x) (fieldText ly y) rest in
+      let long : q ≡ p + length (fieldText lx x) + length (fieldText ly y) = omega (arith, length-append (fieldText lx x) (fieldText ly y)) in
+      record {
+        between = p + length (fieldText lx x);
+        first = field-back lx px mx x fx t (fieldText ly y ++ rest) p (p + length (fieldText lx x)) refl refl d;
+        second =
+            field-back ly py my y fy t rest (p + length (fieldText lx x)) q none long
+            (after-text (fieldText lx x) t (fieldText ly y ++ rest) p (p + length (fieldText lx x)) refl d);
+      }
 
 -- ---- cubes
 
@@ -238,8 +271,8 @@ pub record Bytes (r : StepRecord) : Type 0 where
   pub j-word : r .j ≤ 65535
   pub literal-byte : r .literal ≤ 255
 
-unused : (most : ℕ) (t : List ℕ) (p : ℕ) → fieldAt false most t p ≡ number-is.Read 0 p
-unused most t p = sym (field-unused most t p false refl)
+unused : (lead : List ℕ) (most : ℕ) (t : List ℕ) (p : ℕ) → fieldAt false lead most t p ≡ number-is.Read 0 p
+unused lead most t p = sym (field-unused lead most t p false refl)
 
 -- the word of an operation, read by its first letter
 module _ (t rest : List ℕ) (p : ℕ) where
@@ -268,40 +301,40 @@ pub step-back : (s : Step) → Bytes (recordOf s) → (t rest : List ℕ) (p : �
     → stepIn t p ≡ step-is.Read (recordOf s) (p + length (stepText s))
 unfolding recordOf stepText
 step-back (step-of.drop i j) b t rest p none e =
-    let at : drop (p + 4) t ≡ (fieldText i ++ fieldText j) ++ rest = after-text dropWord t ((fieldText i ++ fieldText j) ++ rest) p (p + 4) refl e in
-    let long : p + length (dropWord ++ (fieldText i ++ fieldText j)) ≡ p + 4 + length (fieldText i ++ fieldText j) = omega arith in
-    let two : Two 65535 65535 t (p + 4) i j _ = two-back 65535 65535 i j (b .i-word) (b .j-word) t rest (p + 4) _ none long at in
-    sym (step-read t p refl (word-drop t ((fieldText i ++ fieldText j) ++ rest) p e)
-    (fields-read 1 (p + 4) t refl (unused 255 t (p + 4)) refl (two .first) refl refl (two .second) refl (unused 255 t _)))
+    let at : drop (p + 4) t ≡ (fieldText [] i ++ fieldText [] j) ++ rest = after-text dropWord t ((fieldText [] i ++ fieldText [] j) ++ rest) p (p + 4) refl e in
+    let long : p + length (dropWord ++ (fieldText [] i ++ fieldText [] j)) ≡ p + 4 + length (fieldText [] i ++ fieldText [] j) = omega arith in
+    let two : Two [] [] 65535 65535 t (p + 4) i j _ = two-back [] [] refl refl 65535 65535 i j (b .i-word) (b .j-word) t rest (p + 4) _ none long at in
+    sym (step-read t p refl (word-drop t ((fieldText [] i ++ fieldText [] j) ++ rest) p e)
+    (fields-read 1 (p + 4) t refl (unused variableLead 255 t (p + 4)) refl (two .first) refl refl (two .second) refl (unused [] 255 t _)))
 step-back (step-of.join i j) b t rest p none e =
-    let at : drop (p + 4) t ≡ (fieldText i ++ fieldText j) ++ rest = after-text joinWord t ((fieldText i ++ fieldText j) ++ rest) p (p + 4) refl e in
-    let long : p + length (joinWord ++ (fieldText i ++ fieldText j)) ≡ p + 4 + length (fieldText i ++ fieldText j) = omega arith in
-    let two : Two 65535 65535 t (p + 4) i j _ = two-back 65535 65535 i j (b .i-word) (b .j-word) t rest (p + 4) _ none long at in
-    sym (step-read t p refl (word-join t ((fieldText i ++ fieldText j) ++ rest) p e)
-    (fields-read 2 (p + 4) t refl (unused 255 t (p + 4)) refl (two .first) refl refl (two .second) refl (unused 255 t _)))
+    let at : drop (p + 4) t ≡ (fieldText [] i ++ fieldText [] j) ++ rest = after-text joinWord t ((fieldText [] i ++ fieldText [] j) ++ rest) p (p + 4) refl e in
+    let long : p + length (joinWord ++ (fieldText [] i ++ fieldText [] j)) ≡ p + 4 + length (fieldText [] i ++ fieldText [] j) = omega arith in
+    let two : Two [] [] 65535 65535 t (p + 4) i j _ = two-back [] [] refl refl 65535 65535 i j (b .i-word) (b .j-word) t rest (p + 4) _ none long at in
+    sym (step-read t p refl (word-join t ((fieldText [] i ++ fieldText [] j) ++ rest) p e)
+    (fields-read 2 (p + 4) t refl (unused variableLead 255 t (p + 4)) refl (two .first) refl refl (two .second) refl (unused [] 255 t _)))
 step-back (step-of.split v i) b t rest p none e =
-    let at : drop (p + 5) t ≡ (fieldText v ++ fieldText i) ++ rest = after-text splitWord t ((fieldText v ++ fieldText i) ++ rest) p (p + 5) refl e in
-    let long : p + length (splitWord ++ (fieldText v ++ fieldText i)) ≡ p + 5 + length (fieldText v ++ fieldText i) = omega arith in
-    let two : Two 255 65535 t (p + 5) v i _ = two-back 255 65535 v i (b .v-byte) (b .i-word) t rest (p + 5) _ none long at in
-    sym (step-read t p refl (word-split t ((fieldText v ++ fieldText i) ++ rest) p e)
-    (fields-read 3 (p + 5) t refl (two .first) refl (two .second) refl refl (unused 65535 t _) refl (unused 255 t _)))
+    let at : drop (p + 5) t ≡ (fieldText variableLead v ++ fieldText [] i) ++ rest = after-text splitWord t ((fieldText variableLead v ++ fieldText [] i) ++ rest) p (p + 5) refl e in
+    let long : p + length (splitWord ++ (fieldText variableLead v ++ fieldText [] i)) ≡ p + 5 + length (fieldText variableLead v ++ fieldText [] i) = omega arith in
+    let two : Two variableLead [] 255 65535 t (p + 5) v i _ = two-back variableLead [] refl refl 255 65535 v i (b .v-byte) (b .i-word) t rest (p + 5) _ none long at in
+    sym (step-read t p refl (word-split t ((fieldText variableLead v ++ fieldText [] i) ++ rest) p e)
+    (fields-read 3 (p + 5) t refl (two .first) refl (two .second) refl refl (unused [] 65535 t _) refl (unused [] 255 t _)))
 step-back (step-of.turn v i j) b t rest p none e =
-    let tail : List ℕ = (fieldText i ++ fieldText j) ++ rest in
-    let whole : drop p t ≡ turnWord ++ (fieldText v ++ tail) = e ∙ ap (λ (s : List ℕ). turnWord ++ s) (append-assoc (fieldText v) (fieldText i ++ fieldText j) rest) in
-    let at : drop (p + 4) t ≡ fieldText v ++ tail = after-text turnWord t (fieldText v ++ tail) p (p + 4) refl whole in
-    let q : ℕ = p + 4 + length (fieldText v) in
-    let then : drop q t ≡ tail = after-text (fieldText v) t tail (p + 4) q refl at in
-    let long : p + length (turnWord ++ (fieldText v ++ (fieldText i ++ fieldText j))) ≡ q + length (fieldText i ++ fieldText j) =
-    omega (arith, length-append (fieldText v) (fieldText i ++ fieldText j)) in
-    let two : Two 65535 65535 t q i j _ = two-back 65535 65535 i j (b .i-word) (b .j-word) t rest q _ none long then in
-    sym (step-read t p refl (word-turn t (fieldText v ++ tail) p whole)
-    (fields-read 4 (p + 4) t refl (field-back 255 v (b .v-byte) t tail (p + 4) q refl refl at) refl {b = two .between} (two .first) refl refl (two .second) refl (unused 255 t _)))
+    let tail : List ℕ = (fieldText [] i ++ fieldText [] j) ++ rest in
+    let whole : drop p t ≡ turnWord ++ (fieldText variableLead v ++ tail) = e ∙ ap (λ (s : List ℕ). turnWord ++ s) (append-assoc (fieldText variableLead v) (fieldText [] i ++ fieldText [] j) rest) in
+    let at : drop (p + 4) t ≡ fieldText variableLead v ++ tail = after-text turnWord t (fieldText variableLead v ++ tail) p (p + 4) refl whole in
+    let q : ℕ = p + 4 + length (fieldText variableLead v) in
+    let then : drop q t ≡ tail = after-text (fieldText variableLead v) t tail (p + 4) q refl at in
+    let long : p + length (turnWord ++ (fieldText variableLead v ++ (fieldText [] i ++ fieldText [] j))) ≡ q + length (fieldText [] i ++ fieldText [] j) =
+    omega (arith, length-append (fieldText variableLead v) (fieldText [] i ++ fieldText [] j)) in
+    let two : Two [] [] 65535 65535 t q i j _ = two-back [] [] refl refl 65535 65535 i j (b .i-word) (b .j-word) t rest q _ none long then in
+    sym (step-read t p refl (word-turn t (fieldText variableLead v ++ tail) p whole)
+    (fields-read 4 (p + 4) t refl (field-back variableLead refl 255 v (b .v-byte) t tail (p + 4) q refl refl at) refl {b = two .between} (two .first) refl refl (two .second) refl (unused [] 255 t _)))
 step-back (step-of.L v x) b t rest p none e =
-    let at : drop (p + 1) t ≡ (fieldText v ++ fieldText x) ++ rest = after-text lWord t ((fieldText v ++ fieldText x) ++ rest) p (p + 1) refl e in
-    let long : p + length (lWord ++ (fieldText v ++ fieldText x)) ≡ p + 1 + length (fieldText v ++ fieldText x) = omega arith in
-    let two : Two 255 255 t (p + 1) v x _ = two-back 255 255 v x (b .v-byte) (b .literal-byte) t rest (p + 1) _ none long at in
-    sym (step-read t p refl (word-L t ((fieldText v ++ fieldText x) ++ rest) p e)
-    (fields-read 5 (p + 1) t refl (two .first) refl (unused 65535 t _) refl refl (unused 65535 t _) refl (two .second)))
+    let at : drop (p + 1) t ≡ (fieldText variableLead v ++ fieldText [] x) ++ rest = after-text lWord t ((fieldText variableLead v ++ fieldText [] x) ++ rest) p (p + 1) refl e in
+    let long : p + length (lWord ++ (fieldText variableLead v ++ fieldText [] x)) ≡ p + 1 + length (fieldText variableLead v ++ fieldText [] x) = omega arith in
+    let two : Two variableLead [] 255 255 t (p + 1) v x _ = two-back variableLead [] refl refl 255 255 v x (b .v-byte) (b .literal-byte) t rest (p + 1) _ none long at in
+    sym (step-read t p refl (word-L t ((fieldText variableLead v ++ fieldText [] x) ++ rest) p e)
+    (fields-read 5 (p + 1) t refl (two .first) refl (unused [] 65535 t _) refl refl (unused [] 65535 t _) refl (two .second)))
 
 -- ---- what a printer left in a buffer with room reads back from there
 

@@ -4,6 +4,7 @@ use mathlib.Core.Path.{_≡_, refl, sym, ap, _∙_}
 use mathlib.Core.Bool.{Bool, true, false, cond, not}
 use mathlib.Core.List.{List, [], _∷_}
 use Prim.Native.Nat.{ℕ, zero, suc, _+_, _*_, _-_, _≤_, _<_}
+use native.Mathlib.Nat.{add-zero}
 use native.Mathlib.Numerals.{add-one}
 use native.Mathlib.Omega.{arith}
 use lib.Dec.{leb}
@@ -16,6 +17,7 @@ use Rattle.text.specs.declared.ReadNumber.{ReadNumber}
 use Rattle.text.specs.declared.ReadNumber.the-variants as number-is
 use Rattle.text.specs.declared.ReadCube.{ReadCube}
 use Rattle.text.specs.declared.ReadCube.the-variants as cube-is
+use Rattle.text.specs.Blanks.{blank, blanks, pastBlanks}
 use Rattle.text.specs.Numbers.{isDigit}
 use Rattle.text.specs.Cubes.{codeOfGlyph}
 use Rattle.text.specs.Reading.{wordIn, digitsFrom, numberIn, codesFrom, cubeIn}
@@ -49,6 +51,33 @@ module _ {number at p k : ℕ} {word t : List ℕ} (m : Matching number word t a
   pub word-end : length word ≤ k → number-is.Read number p ≡ wordIn number word t at
   unfolding wordIn
   word-end h = rw (drop-of-length-le word h) at (m .same)
+
+-- ---- blanks: where they end from p on is where they end from the first on
+
+pub record Skipped (t : List ℕ) (at p : ℕ) : Type 0 where
+  pub same : pastBlanks t p ≡ pastBlanks t at
+
+pub skipped-none : (t : List ℕ) (at : ℕ) → Skipped t at at
+skipped-none t at = record { same = refl }
+
+module _ {t : List ℕ} {at p : ℕ} (m : Skipped t at p) where
+  pub skipped-end : length t ≤ p → p ≡ pastBlanks t at
+  unfolding blanks
+  skipped-end h = sym (add-zero p) ∙ (rw (drop-of-length-le t h) at (m .same))
+
+  module _ (h : p < length t) {s : Bool} (d : s ≡ blank (getD t p 0)) where
+    on-byte : p + blanks (getD t p 0 ∷ drop (suc p) t) ≡ pastBlanks t at
+    on-byte = rw (drop-cons t p 0 h) at (m .same)
+
+    pub skipped-stop : not s ≡ true → p ≡ pastBlanks t at
+    unfolding blanks
+    skipped-stop k = sym (add-zero p) ∙ (rw (sym d ∙ not-true s k) at on-byte)
+
+    pub skipped-more : not s ≡ false → Skipped t at (p + 1)
+    unfolding blanks
+    skipped-more k =
+        let shift : suc p + blanks (drop (suc p) t) ≡ p + suc (blanks (drop (suc p) t)) = omega arith in
+        record { same = rw (add-one p) (shift ∙ (rw (sym d ∙ not-false s k) at on-byte)) }
 
 -- ---- numbers: what is read from p on, after x
 

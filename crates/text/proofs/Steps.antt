@@ -12,7 +12,7 @@ use Rattle.steps.specs.Steps.{meaning, meaningBy}
 use Rattle.script.specs.Scripts.{usesJ}
 use Rattle.text.specs.Places.{Laid}
 use Rattle.text.specs.Numbers.{decimal}
-use Rattle.text.specs.Steps.{dropWord, joinWord, splitWord, turnWord, lWord, fieldText, stepText}
+use Rattle.text.specs.Steps.{dropWord, joinWord, splitWord, turnWord, lWord, variableLead, fieldText, stepText}
 use Rattle.text.specs.Printing.{wordOf, fieldIf}
 use Rattle.text.proofs.Laying.{none, after}
 
@@ -44,22 +44,22 @@ module _ {b b′ : List ℕ} {at p : ℕ} (op : ℕ) where
 
 -- ---- a field
 
-pub unused-laid : {b : List ℕ} {at : ℕ} (used : Bool) (x : ℕ) → not used ≡ true → Laid b at (fieldIf used x) at b
+pub unused-laid : {b : List ℕ} {at : ℕ} (used : Bool) (lead : List ℕ) (x : ℕ) → not used ≡ true → Laid b at (fieldIf used lead x) at b
 unfolding fieldIf
-unused-laid used x h = rw (not-true used h) none
+unused-laid used lead x h = rw (not-true used h) none
 
-pub field-laid : {b b′ b″ : List ℕ} {at p q : ℕ} (used : Bool) (x : ℕ) → not used ≡ false → Laid b at (32 ∷ []) p b′ → Laid b′ p (decimal x) q b″
-    → Laid b at (fieldIf used x) q b″
+pub field-laid : {b b′ b″ b‴ : List ℕ} {at p q r : ℕ} (used : Bool) (lead : List ℕ) (x : ℕ) → not used ≡ false → Laid b at (32 ∷ []) p b′ → Laid b′ p lead q b″
+    → Laid b″ q (decimal x) r b‴ → Laid b at (fieldIf used lead x) r b‴
 unfolding fieldIf
-field-laid used x h f g = rw (not-false used h) (after f g)
+field-laid used lead x h f g k = rw (not-false used h) (after f (after g k))
 
 -- ---- the text of a record's step is its word and the fields that it uses
 
 module _ (x : StepRecord) where
   parts : ℕ → List ℕ
-  parts op = wordOf op ++ (fieldIf (leb 3 op) (x .v) ++ (fieldIf (leb op 4) (x .i) ++ (fieldIf (usesJ op) (x .j) ++ fieldIf (leb 5 op) (x .literal))))
+  parts op = wordOf op ++ (fieldIf (leb 3 op) variableLead (x .v) ++ (fieldIf (leb op 4) [] (x .i) ++ (fieldIf (usesJ op) [] (x .j) ++ fieldIf (leb 5 op) [] (x .literal))))
 
-  L-parts : (op : ℕ) → 5 ≤ op → parts op ≡ lWord ++ (fieldText (x .v) ++ fieldText (x .literal))
+  L-parts : (op : ℕ) → 5 ≤ op → parts op ≡ lWord ++ (fieldText variableLead (x .v) ++ fieldText [] (x .literal))
   unfolding parts wordOf fieldIf
   L-parts op h =
       simp (
@@ -78,17 +78,17 @@ module _ (x : StepRecord) where
   step-text zero = simp append-nil
   step-text (suc zero) = simp append-nil
   step-text (suc (suc zero)) = simp append-nil
-  step-text (suc (suc (suc zero))) = ap (λ (s : List ℕ). splitWord ++ (fieldText (x .v) ++ s)) (sym (append-nil (fieldText (x .i))))
+  step-text (suc (suc (suc zero))) = ap (λ (s : List ℕ). splitWord ++ (fieldText variableLead (x .v) ++ s)) (sym (append-nil (fieldText [] (x .i))))
   step-text (suc (suc (suc (suc zero)))) = simp append-nil
   step-text (suc (suc (suc (suc (suc op))))) = sym (L-parts (suc (suc (suc (suc (suc op))))) (omega arith))
 
   pub step-laid : {b b1 b2 b3 b4 b5 : List ℕ} {at p q r s z : ℕ} {u : Bool}
       → Laid b at (wordOf (x .op)) p b1
-      → Laid b1 p (fieldIf (leb 3 (x .op)) (x .v)) q b2
-      → Laid b2 q (fieldIf (leb (x .op) 4) (x .i)) r b3
+      → Laid b1 p (fieldIf (leb 3 (x .op)) variableLead (x .v)) q b2
+      → Laid b2 q (fieldIf (leb (x .op) 4) [] (x .i)) r b3
       → u ≡ usesJ (x .op)
-      → Laid b3 r (fieldIf u (x .j)) s b4
-      → Laid b4 s (fieldIf (leb 5 (x .op)) (x .literal)) z b5
+      → Laid b3 r (fieldIf u [] (x .j)) s b4
+      → Laid b4 s (fieldIf (leb 5 (x .op)) [] (x .literal)) z b5
       → Laid b at (stepText (meaning x)) z b5
   unfolding meaning parts
   step-laid w v i e j l = rw (step-text (x .op)) (after w (after v (after i (after (rw e at j) l))))

@@ -1,5 +1,6 @@
 -- What the contracts of printing and reading cite. Assumes nothing.
 pub mod Places
+pub mod Blanks
 pub mod Numbers
 pub mod Cubes
 pub mod Steps

@@ -14,9 +14,10 @@ use Rattle.text.specs.declared.ReadCube.{ReadCube}
 use Rattle.text.specs.declared.ReadCube.the-variants as cube-is
 use Rattle.text.specs.declared.ReadStep.{ReadStep}
 use Rattle.text.specs.declared.ReadStep.the-variants as step-is
+use Rattle.text.specs.Blanks.{blank, pastBlanks}
 use Rattle.text.specs.Numbers.{isDigit}
 use Rattle.text.specs.Cubes.{codeOfGlyph}
-use Rattle.text.specs.Steps.{dropWord, joinWord, splitWord, turnWord, lWord}
+use Rattle.text.specs.Steps.{dropWord, joinWord, splitWord, turnWord, lWord, variableLead}
 
 -- ---- words
 
@@ -60,10 +61,14 @@ abbrev pub onField : ReadNumber → (ℕ → ℕ → ReadStep) → ReadStep
 onField (number-is.Read x p) rest = rest x p
 onField (number-is.Wrong p) rest = step-is.Wrong p
 
--- a space and a number at most `most`, where the field is used
-unfoldable pub fieldAt : Bool → ℕ → List ℕ → ℕ → ReadNumber
-fieldAt true most t p = onRead (wordIn 0 (32 ∷ []) t p) (λ x q. numberIn most t q)
-fieldAt false most t p = number-is.Read 0 p
+-- at least one blank, and the place after all of them; past the end there is none
+unfoldable pub gapIn : List ℕ → ℕ → ReadNumber
+gapIn t p = cond (blank (getD t p 0)) (number-is.Read 0 (pastBlanks t p)) (number-is.Wrong p)
+
+-- a gap, a lead and a number at most `most`, where the field is used
+unfoldable pub fieldAt : Bool → List ℕ → ℕ → List ℕ → ℕ → ReadNumber
+fieldAt true lead most t p = onRead (gapIn t p) (λ x q. onRead (wordIn 0 lead t q) (λ y z. numberIn most t z))
+fieldAt false lead most t p = number-is.Read 0 p
 
 -- the operation, by its name
 unfoldable pub operationAt : List ℕ → ℕ → ReadNumber
@@ -77,10 +82,10 @@ operationAt t p =
 -- the fields that an operation uses, each as large as its bytes of the record allow; "Fields that an operation does not use are zero"
 unfoldable pub fieldsAt : ℕ → List ℕ → ℕ → ReadStep
 fieldsAt op t p =
-    onField (fieldAt (usesV op) 255 t p) (λ v a.
-    onField (fieldAt (usesI op) 65535 t a) (λ i b.
-    onField (fieldAt (usesJ op) 65535 t b) (λ j e.
-    onField (fieldAt (usesLiteral op) 255 t e) (λ literal z.
+    onField (fieldAt (usesV op) variableLead 255 t p) (λ v a.
+    onField (fieldAt (usesI op) [] 65535 t a) (λ i b.
+    onField (fieldAt (usesJ op) [] 65535 t b) (λ j e.
+    onField (fieldAt (usesLiteral op) [] 255 t e) (λ literal z.
     step-is.Read (record { op = op; v = v; i = i; j = j; literal = literal; zero = 0 }) z))))
 
 unfoldable pub stepIn : List ℕ → ℕ → ReadStep

@@ -21,13 +21,17 @@ turnWord = 116 ∷ 117 ∷ 114 ∷ 110 ∷ []
 abbrev pub lWord : List ℕ
 lWord = 76 ∷ []
 
--- a space and a number
-abbrev pub fieldText : ℕ → List ℕ
-fieldText x = 32 ∷ decimal x
+-- what stands before the number of a variable: x2 is variable 2
+abbrev pub variableLead : List ℕ
+variableLead = 120 ∷ []
+
+-- a space, a lead and a number
+abbrev pub fieldText : List ℕ → ℕ → List ℕ
+fieldText lead x = 32 ∷ (lead ++ decimal x)
 
 unfoldable pub stepText : Step → List ℕ
-stepText (drop i j) = dropWord ++ (fieldText i ++ fieldText j)
-stepText (join i j) = joinWord ++ (fieldText i ++ fieldText j)
-stepText (split v i) = splitWord ++ (fieldText v ++ fieldText i)
-stepText (turn v i j) = turnWord ++ (fieldText v ++ (fieldText i ++ fieldText j))
-stepText (L v b) = lWord ++ (fieldText v ++ fieldText b)
+stepText (drop i j) = dropWord ++ (fieldText [] i ++ fieldText [] j)
+stepText (join i j) = joinWord ++ (fieldText [] i ++ fieldText [] j)
+stepText (split v i) = splitWord ++ (fieldText variableLead v ++ fieldText [] i)
+stepText (turn v i j) = turnWord ++ (fieldText variableLead v ++ (fieldText [] i ++ fieldText [] j))
+stepText (L v b) = lWord ++ (fieldText variableLead v ++ fieldText [] b)

@@ -1,8 +1,9 @@
-// Single bytes of a text and of a lent buffer; words.
+// Single bytes of a text and of a lent buffer; words; blanks.
 use crate::ReadNumber;
 ghost use mathlib.Core.Path.{_≡_};
 ghost use mathlib.Core.List.{[], _∷_};
 ghost use lib.ListN.{getD};
+ghost use Rattle.text.specs.Blanks.{blank, pastBlanks};
 ghost use Rattle.text.specs.Places.{Laid};
 ghost use Rattle.text.specs.Reading.{wordIn};
 
@@ -61,4 +62,31 @@ pub fn word_at(text: &[u8], at: usize, word: &[u8], number: usize) -> ReadNumber
         k += 1;
     }
     ReadNumber::Read(number, p)
+}
+
+// Whether a byte is a space, a tab or a carriage return.
+pub fn is_blank(b: u8) -> bool
+    ensures { λ r. ⌜ r ≡ blank b ⌝ }
+{
+    if b == b' ' {
+        return true;
+    }
+    if b == b'\t' {
+        return true;
+    }
+    b == b'\r'
+}
+
+// The place after the blanks that stand from a place on.
+pub fn past_blanks(text: &[u8], at: usize) -> usize
+    ensures { λ r. ⌜ r ≡ pastBlanks (now (text .entry)) at ⌝ }
+{
+    let mut p = at;
+    while p < text.len() {
+        if !is_blank(text[p]) {
+            return p;
+        }
+        p += 1;
+    }
+    p
 }

@@ -10,7 +10,7 @@ ghost use Rattle.script.specs.Scripts.{usesJ};
 ghost use Rattle.text.specs.Places.{Laid};
 ghost use Rattle.text.specs.Steps.{stepText};
 ghost use Rattle.text.specs.Printing.{wordOf, fieldIf};
-ghost use Rattle.text.specs.Reading.{fieldAt, operationAt, fieldsAt, stepIn};
+ghost use Rattle.text.specs.Reading.{gapIn, fieldAt, operationAt, fieldsAt, stepIn};
 
 // The greatest variable and literal, and the greatest place, that a step's record holds.
 const MOST_BYTE: usize = 255;
@@ -36,14 +36,15 @@ fn put_word(out: &mut [u8], at: usize, op: u8) -> usize
     place::put_text(out, at, b"L")
 }
 
-// A space and a number, where the field is used.
-fn put_field(out: &mut [u8], at: usize, used: bool, x: usize) -> usize
-    ensures { λ r. ⌜ Laid (now (out .entry)) at (fieldIf used x) r (now (out .exit)) ⌝ }
+// A space, a lead and a number, where the field is used.
+pub fn put_field(out: &mut [u8], at: usize, used: bool, lead: &[u8], x: usize) -> usize
+    ensures { λ r. ⌜ Laid (now (out .entry)) at (fieldIf used (now (lead .entry)) x) r (now (out .exit)) ⌝ }
 {
     if !used {
         return at;
     }
-    let next = place::put_byte(out, at, b' ');
+    let first = place::put_byte(out, at, b' ');
+    let next = place::put_text(out, first, lead);
     number::put_number(out, next, x)
 }
 
@@ -53,22 +54,35 @@ pub fn put_step(out: &mut [u8], at: usize, x: StepRecord) -> usize
 {
     let op = x.op;
     let v = put_word(out, at, op);
-    let i = put_field(out, v, 3 <= op, x.v as usize);
-    let j = put_field(out, i, op <= 4, x.i);
-    let literal = put_field(out, j, uses_j(op), x.j);
-    put_field(out, literal, 5 <= op, x.literal as usize)
+    let i = put_field(out, v, 3 <= op, b"x", x.v as usize);
+    let j = put_field(out, i, op <= 4, b"", x.i);
+    let literal = put_field(out, j, uses_j(op), b"", x.j);
+    put_field(out, literal, 5 <= op, b"", x.literal as usize)
+}
+
+// The place after the blanks at a place of a text; wrong where there are none.
+pub fn gap_at(text: &[u8], at: usize) -> ReadNumber
+    ensures { λ r. ⌜ r ≡ gapIn (now (text .entry)) at ⌝ }
+{
+    if !place::is_blank(place::byte_at(text, at)) {
+        return ReadNumber::Wrong(at);
+    }
+    ReadNumber::Read(0, place::past_blanks(text, at))
 }
 
 // A field where it is used, and 0 where it isn't.
-fn field_at(text: &[u8], at: usize, used: bool, most: usize) -> ReadNumber
-    ensures { λ r. ⌜ r ≡ fieldAt used most (now (text .entry)) at ⌝ }
+pub fn field_at(text: &[u8], at: usize, used: bool, lead: &[u8], most: usize) -> ReadNumber
+    ensures { λ r. ⌜ r ≡ fieldAt used (now (lead .entry)) most (now (text .entry)) at ⌝ }
 {
     if !used {
         return ReadNumber::Read(0, at);
     }
-    match place::word_at(text, at, b" ", 0) {
+    match gap_at(text, at) {
         ReadNumber::Wrong(p) => ReadNumber::Wrong(p),
-        ReadNumber::Read(_, p) => number::number_at(text, p, most),
+        ReadNumber::Read(_, p) => match place::word_at(text, p, lead, 0) {
+            ReadNumber::Wrong(q) => ReadNumber::Wrong(q),
+            ReadNumber::Read(_, q) => number::number_at(text, q, most),
+        },
     }
 }
 
@@ -106,13 +120,13 @@ fn uses_j(op: u8) -> bool
 fn fields_at(text: &[u8], at: usize, op: u8) -> ReadStep
     ensures { λ r. ⌜ r ≡ fieldsAt op (now (text .entry)) at ⌝ }
 {
-    match field_at(text, at, 3 <= op, MOST_BYTE) {
+    match field_at(text, at, 3 <= op, b"x", MOST_BYTE) {
         ReadNumber::Wrong(a) => ReadStep::Wrong(a),
-        ReadNumber::Read(v, a) => match field_at(text, a, op <= 4, MOST_PLACE) {
+        ReadNumber::Read(v, a) => match field_at(text, a, op <= 4, b"", MOST_PLACE) {
             ReadNumber::Wrong(b) => ReadStep::Wrong(b),
-            ReadNumber::Read(i, b) => match field_at(text, b, uses_j(op), MOST_PLACE) {
+            ReadNumber::Read(i, b) => match field_at(text, b, uses_j(op), b"", MOST_PLACE) {
                 ReadNumber::Wrong(e) => ReadStep::Wrong(e),
-                ReadNumber::Read(j, e) => match field_at(text, e, op == 5, MOST_BYTE) {
+                ReadNumber::Read(j, e) => match field_at(text, e, op == 5, b"", MOST_BYTE) {
                     ReadNumber::Wrong(z) => ReadStep::Wrong(z),
                     ReadNumber::Read(literal, z) => ReadStep::Read(
                         StepRecord {
