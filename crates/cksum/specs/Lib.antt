@@ -1,0 +1,2 @@
+-- What the contracts of the checksum cite. Assumes nothing.
+pub mod Cksum
