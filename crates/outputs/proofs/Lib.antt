@@ -1,0 +1,5 @@
+pub mod Gathering
+pub mod Sharing
+pub mod Calls
+pub mod Round
+pub mod Determined
