@@ -25,6 +25,8 @@ use Rattle.text.proofs.number.put_number.Kinds as put-number-kinds
 use Rattle.text.proofs.number.put_number.Reads as put-number-reads
 use Rattle.text.proofs.number.number_at.Kinds as number-at-kinds
 use Rattle.text.proofs.number.number_at.Reads as number-at-reads
+use Rattle.text.proofs.cubes.code_of.Kinds as code-of-kinds
+use Rattle.text.proofs.cubes.code_of.Reads as code-of-reads
 use Rattle.text.proofs.cubes.put_cube.Kinds as put-cube-kinds
 use Rattle.text.proofs.cubes.put_cube.Reads as put-cube-reads
 use Rattle.text.proofs.cubes.cube_at.Kinds as cube-at-kinds
@@ -69,6 +71,9 @@ put-number-determined κs a z z′ ws ws′ p q = (same (p .place) (q .place), a
 
 pub number-at-determined : Determined 1 number-at-kinds.ps number-at-kinds.r number-at-reads.Learnt
 number-at-determined κs a z z′ ws ws′ p q = (same p q, refl)
+
+pub code-of-determined : Determined 0 code-of-kinds.ps code-of-kinds.r code-of-reads.Learnt
+code-of-determined κs a z z′ ws ws′ p q = (same p q, refl)
 
 pub put-cube-determined : Determined 1 put-cube-kinds.ps put-cube-kinds.r put-cube-reads.Learnt
 put-cube-determined κs a z z′ ws ws′ p q = (same (p .place) (q .place), ap (λ (b : List ℕ). (b, (tt, (tt, (tt, tt))))) (same (p .bytes) (q .bytes)))

@@ -21,7 +21,7 @@ fn glyph(x: u8) -> u8
 }
 
 // The literal code of a character; 3 where it is none.
-fn code_of(b: u8) -> u8
+pub fn code_of(b: u8) -> u8
     ensures { λ r. ⌜ r ≡ codeOfGlyph b ⌝ }
 {
     if b == b'0' {
