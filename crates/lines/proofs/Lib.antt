@@ -3,3 +3,4 @@ pub mod Lines
 pub mod Words
 pub mod Gathering
 pub mod Determined
+pub mod Printed

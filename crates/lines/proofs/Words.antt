@@ -139,13 +139,13 @@ module _ (l w : List ℕ) {from end : ℕ} (d : from ≡ pastBlanks l 0) (e : en
   first : blanks l ≡ from
   first = omega arith
 
-  word-is : take (end - from) (drop from l) ≡ firstWord l
+  pub word-is : take (end - from) (drop from l) ≡ firstWord l
   unfolding firstWord
   word-is =
       let count : end - from ≡ letters (drop from l) = omega arith in
       rw (count, first)
 
-  after-is : drop end l ≡ afterWord l
+  pub after-is : drop end l ≡ afterWord l
   unfolding afterWord
   after-is =
       let place : end ≡ from + letters (drop from l) = e in
