@@ -50,7 +50,7 @@ on-read-most : (most : ℕ) (r : ReadNumber) (k : ℕ → ℕ → ReadNumber) �
 on-read-most most (number-is.Read x p) k f = f x p
 on-read-most most (number-is.Wrong p) k f = tt
 
-field-most : (used : Bool) (lead : List ℕ) (most : ℕ) (t : List ℕ) (p : ℕ) → AtMost most (fieldAt used lead most t p)
+pub field-most : (used : Bool) (lead : List ℕ) (most : ℕ) (t : List ℕ) (p : ℕ) → AtMost most (fieldAt used lead most t p)
 unfolding fieldAt
 field-most true lead most t p =
     on-read-most most (gapIn t p) (λ x q. onRead (wordIn 0 lead t q) (λ y z. numberIn most t z))
