@@ -48,12 +48,12 @@ enter() {
     cd "$1" || exit
 }
 
-# Runs the program on standard input, in place of the script.
+# Runs the program on standard input, with these arguments, in place of the script.
 run() {
     if [ "$(uname -m)" = x86_64 ]; then
-        exec "$program"
+        exec "$program" "$@"
     fi
     # The program is for x86-64. Elsewhere the toolchain has an emulator, and the C library that the program runs with.
     tools=$(dirname "$(dirname "$(rt doc)")")/on/$(uname -m)/toolchain
-    exec "$tools/bin/qemu-x86_64" "$tools/lib/ld-linux-x86-64.so.2" --library-path "$tools/lib" "$program"
+    exec "$tools/bin/qemu-x86_64" "$tools/lib/ld-linux-x86-64.so.2" --library-path "$tools/lib" "$program" "$@"
 }

@@ -1,7 +1,7 @@
 -- A text read line by line: what the loop over its lines keeps, what each line does to it, and what is answered and left in the buffer at the end.
 -- Assumes nothing.
 use mathlib.Core.Path.{_≡_, refl, sym, ap, _∙_, subst}
-use mathlib.Core.Bool.{Bool, true, false, cond, not, _&&_, _||_}
+use mathlib.Core.Bool.{Bool, true, false, cond, _&&_, _||_}
 use mathlib.Core.List.{List, [], _∷_, _++_}
 use Prim.Native.Nat.{ℕ, suc, _+_, _-_, _*_, _/_, _≤_, _<_}
 use native.Mathlib.Nat.{sub-zero, mul-le-mul-left}
@@ -32,7 +32,6 @@ use Rattle.pla.specs.declared.Header.{Header}
 use Rattle.pla.specs.declared.Line.{Line}
 use Rattle.pla.specs.declared.Line.the-variants as line-is
 use Rattle.pla.specs.declared.ReadPla.{ReadPla}
-use Rattle.pla.specs.declared.ReadPla.the-variants as read-is
 use Rattle.pla.specs.declared.Spelt.{Spelt}
 use Rattle.pla.specs.declared.Spelt.the-variants as spelt-is
 use Rattle.pla.specs.Header.{unsaid, nothingSaid, inputsSaid, outputsSaid, typeSaid, productsSaid, endSaid, mostStated, named}

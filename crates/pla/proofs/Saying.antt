@@ -15,7 +15,7 @@ use Rattle.lines.specs.declared.Said.the-variants as said-is
 use Rattle.text.specs.Blanks.{blanks, pastBlanks}
 use Rattle.lines.specs.Lines.{hash, content}
 use Rattle.lines.specs.Words.{pastWord, afterWord, same, onlyNumber, onlyWord, blankFrom}
-use Rattle.lines.specs.Gathering.{Says, knows, has, over, bad}
+use Rattle.lines.specs.Gathering.{Says, knows, bad}
 use Rattle.lines.proofs.Words.{blank-told, word-is, after-is}
 use Rattle.pla.specs.declared.Header.{Header}
 use Rattle.pla.specs.Header.{unsaid, inputsSaid, outputsSaid, typeSaid, productsSaid, endSaid, mostStated, named}

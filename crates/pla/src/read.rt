@@ -8,7 +8,7 @@ use records::Refusal;
 use shared::list;
 ghost use mathlib.Core.Path.{_≡_};
 ghost use mathlib.Core.List.{List};
-ghost use Prim.Native.Nat.{ℕ, _<_, _≤_};
+ghost use Prim.Native.Nat.{_<_, _≤_};
 ghost use lib.ListN.{length};
 ghost use Rattle.records.specs.Records.{zeros};
 ghost use Rattle.shared.specs.declared.Shared.{Shared};

@@ -16,19 +16,15 @@ use Rattle.records.proofs.Records.{holds-push, length-stored, capacity-fits}
 use Rattle.steps.specs.declared.StepRecord.{StepRecord}
 use Rattle.script.specs.Scripts.{stepRecords, narrowStep, stepWidth, mostSteps}
 use Rattle.script.proofs.Scripts.{steps-lawful}
-use Rattle.lines.specs.Lines.{newline, lines, content}
-use Rattle.lines.specs.Gathering.{mostText, Says, knows, has, over, bad, Progress, through}
+use Rattle.lines.specs.Lines.{newline, content}
+use Rattle.lines.specs.Gathering.{mostText, Says, knows, has, over, bad, Progress}
 use Rattle.lines.specs.Gathering as progress-is
 use Rattle.lines.proofs.Gathering.{Gathering, gathering-none, gathering-end, gathering-knows, gathering-bad, gathering-takes, gathering-full, gathered-long, gathered-whole}
 use Rattle.script_lines.specs.declared.Reached.{Reached}
 use Rattle.script_lines.specs.declared.Reached.the-variants as reached-is
 use Rattle.script_lines.specs.Scripts.{stepBefore, lineSays, each, readThrough, atEnd, scriptOf, stepCapacity, toldOf, stepsOf, scriptOutcome, scriptAfter}
-use Rattle.script_lines.specs.Inside.{reachedBy, storedBy}
+use Rattle.script_lines.specs.Inside.{reachedBy, storedBy, wholeOf}
 use Rattle.script_lines.proofs.Saying.{Sayable, says-sayable}
-
--- what the lines of a text come to, in a buffer of so many bytes
-abbrev pub wholeOf : ℕ → List ℕ → Progress (Unit {0}) StepRecord
-wholeOf bytes t = through lineSays each 35 (stepCapacity bytes) (progress-is.before tt [] 1) (lines t)
 
 -- a clear buffer holds no step
 clear-image : {b : List ℕ} (bytes : ℕ) → b ≡ zeros bytes → b ≡ image stepRecords bytes []
@@ -97,8 +93,8 @@ module _ {t : List ℕ} {bytes : ℕ} {out : List ℕ} {at n k : ℕ} (g : Readi
     unfolding lineSays
     said d = d
 
-    pushed : {x : StepRecord} → stepBefore (content line) ≡ has tt x → narrowStep x ≡ x → n < room → {out′ : List ℕ} → out′ ≡ stored stepRecords out n (narrowStep x)
-        → Reading t bytes out′ (end + 1) (n + 1) (k + 1)
+    pushed : {x : StepRecord} → stepBefore (content line) ≡ has tt x → narrowStep x ≡ x → n < room
+        → {out′ : List ℕ} → out′ ≡ stored stepRecords out n (narrowStep x) → Reading t bytes out′ (end + 1) (n + 1) (k + 1)
     pushed {x} d w r {out′} eo =
         let put : out′ ≡ stored stepRecords out (length (g .list)) x = eo ∙ ap₂ (stored stepRecords out) (sym (g .count)) w in
         let more : suc (length (g .list)) ≤ stepCapacity bytes = omega (arith, g .count) in

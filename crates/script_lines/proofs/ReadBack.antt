@@ -104,7 +104,8 @@ step-short (step-of.drop i j) b = omega (arith, two-short [] [] i j (b .i-word) 
 step-short (step-of.join i j) b = omega (arith, two-short [] [] i j (b .i-word) (b .j-word))
 step-short (step-of.split v i) b = omega (arith, two-short variableLead [] v i (omega (arith, b .v-byte)) (b .i-word))
 step-short (step-of.turn v i j) b =
-    omega (arith, length-append (fieldText variableLead v) (fieldText [] i ++ fieldText [] j), field-short variableLead v (omega (arith, b .v-byte)), two-short [] [] i j (b .i-word) (b .j-word))
+    let first : length (fieldText variableLead v) ≤ 7 = field-short variableLead v (omega (arith, b .v-byte)) in
+    omega (arith, length-append (fieldText variableLead v) (fieldText [] i ++ fieldText [] j), two-short [] [] i j (b .i-word) (b .j-word))
 step-short (step-of.L v x) b = omega (arith, two-short variableLead [] v x (omega (arith, b .v-byte)) (omega (arith, b .literal-byte)))
 
 -- ---- a line that holds its step
@@ -172,7 +173,8 @@ module _ (r : StepRecord) (wi : r .i ≤ 65535) (wj : r .j ≤ 65535) where
     is-merge =
         let a = both-true (eqb (r .v) 0) (eqb (r .literal) 0 && eqb (r .zero) 0) f in
         let b = both-true (eqb (r .literal) 0) (eqb (r .zero) 0) (a .1) in
-        same-record _ r (sym (eqb-true (r .op) mergeOperation h)) (sym (eqb-true (r .v) 0 (a .0))) refl refl (sym (eqb-true (r .literal) 0 (b .0))) (sym (eqb-true (r .zero) 0 (b .1)))
+        same-record _ r (sym (eqb-true (r .op) mergeOperation h)) (sym (eqb-true (r .v) 0 (a .0))) refl refl
+        (sym (eqb-true (r .literal) 0 (b .0))) (sym (eqb-true (r .zero) 0 (b .1)))
 
     merge-back : anyStepIn (mergeWord ++ places) 0 ≡ step-is.Read r (length (mergeWord ++ places))
     merge-back =
@@ -247,7 +249,8 @@ all-taken room (r ∷ l) acc k f h =
 
 -- ---- the theorem
 
-pub script-back : (room : ℕ) (l : List StepRecord) → All (λ r. lineFits r ≡ true) l → length l ≤ room → length (scriptText l) ≤ mostText → scriptOf room (scriptText l) ≡ made l
+pub script-back : (room : ℕ) (l : List StepRecord) → All (λ r. lineFits r ≡ true) l → length l ≤ room → length (scriptText l) ≤ mostText
+    → scriptOf room (scriptText l) ≡ made l
 unfolding scriptOf readThrough
 script-back room l f h o = ap atEnd (gathered-whole lineSays each 35 room 36 tt (scriptText l) o ∙ all-taken room l [] 1 f (omega arith))
 

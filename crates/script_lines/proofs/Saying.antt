@@ -108,21 +108,24 @@ content-said l e d = d ∙ ap (λ (k : ℕ). stepBefore (take k l)) e
 -- ---- one line of the script, in the buffer
 
 module _ (room n : ℕ) (b : List ℕ) {m : Line} {s : Says (Unit {0}) StepRecord} (e : saidBy m ≡ s) where
+  said-as : {m′ : Line} → m ≡ m′ → saidBy m′ ≡ s
+  said-as d = sym (ap saidBy d) ∙ e
+
   pub nothing-reached : m ≡ line-is.Nothing → reached-is.Steps n ≡ reachedBy room n s
-  nothing-reached d = ap (reachedBy room n) (sym (ap saidBy d) ∙ e)
+  nothing-reached d = ap (reachedBy room n) (said-as d)
 
   pub nothing-stored : m ≡ line-is.Nothing → b ≡ storedBy room n b s
-  nothing-stored d = ap (storedBy room n b) (sym (ap saidBy d) ∙ e)
+  nothing-stored d = ap (storedBy room n b) (said-as d)
 
   pub wrong-reached : m ≡ line-is.Wrong → reached-is.Refused 34 ≡ reachedBy room n s
-  wrong-reached d = ap (reachedBy room n) (sym (ap saidBy d) ∙ e)
+  wrong-reached d = ap (reachedBy room n) (said-as d)
 
   pub wrong-stored : m ≡ line-is.Wrong → b ≡ storedBy room n b s
-  wrong-stored d = ap (storedBy room n b) (sym (ap saidBy d) ∙ e)
+  wrong-stored d = ap (storedBy room n b) (said-as d)
 
   module _ {x : StepRecord} (d : m ≡ line-is.Step x) where
     says-x : has tt x ≡ s
-    says-x = sym (ap saidBy d) ∙ e
+    says-x = said-as d
 
     pub full-reached : room ≤ n → reached-is.Refused 35 ≡ reachedBy room n s
     full-reached h = rw (← says-x, le-ltb n room h)

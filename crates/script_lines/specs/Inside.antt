@@ -9,12 +9,13 @@ use Rattle.steps.specs.declared.StepRecord.{StepRecord}
 use Rattle.steps.specs.Steps.{meaning}
 use Rattle.script.specs.Scripts.{stepRecords, narrowStep}
 use Rattle.text.specs.Steps.{fieldText, stepText}
-use Rattle.lines.specs.Gathering.{Says, knows, has, over, bad}
+use Rattle.lines.specs.Lines.{lines}
+use Rattle.lines.specs.Gathering.{Says, knows, has, over, bad, Progress, before, through}
 use Rattle.script_lines.specs.declared.Line.{Line}
 use Rattle.script_lines.specs.declared.Line.the-variants as line-is
 use Rattle.script_lines.specs.declared.Reached.{Reached}
 use Rattle.script_lines.specs.declared.Reached.the-variants as reached-is
-use Rattle.script_lines.specs.Scripts.{mergeOperation, mergeWord}
+use Rattle.script_lines.specs.Scripts.{mergeOperation, mergeWord, lineSays, each, stepCapacity}
 
 -- a step, without the end of its line
 unfoldable pub anyStepText : StepRecord → List ℕ
@@ -39,3 +40,7 @@ storedBy room n b (knows u) = b
 storedBy room n b (has u r) = cond (ltb n room) (stored stepRecords b n (narrowStep r)) b
 storedBy room n b over = b
 storedBy room n b (bad number) = b
+
+-- what the lines of a text come to, where the buffer has so many bytes
+abbrev pub wholeOf : ℕ → List ℕ → Progress (Unit {0}) StepRecord
+wholeOf bytes t = through lineSays each 35 (stepCapacity bytes) (before tt [] 1) (lines t)

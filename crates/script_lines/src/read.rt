@@ -15,15 +15,13 @@ use text::ReadStep;
 use text::place;
 use text::step;
 ghost use mathlib.Core.Path.{_≡_};
-ghost use mathlib.Core.List.{[]};
 ghost use lib.ListN.{length};
 ghost use Rattle.records.specs.Answers.{counted};
 ghost use Rattle.records.specs.Records.{zeros, image};
 ghost use Rattle.script.specs.Scripts.{stepRecords};
-ghost use Rattle.lines.specs.Lines.{content, lines as Lines·lines};
-ghost use Rattle.lines.specs.Gathering.{through, before};
-ghost use Rattle.script_lines.specs.Scripts.{mergeIn, anyStepIn, stepBefore, lineSays, each, atEnd, toldOf, stepsOf, stepCapacity, scriptOutcome, scriptAfter};
-ghost use Rattle.script_lines.specs.Inside.{saidBy, reachedBy, storedBy};
+ghost use Rattle.lines.specs.Lines.{content};
+ghost use Rattle.script_lines.specs.Scripts.{mergeIn, anyStepIn, stepBefore, atEnd, toldOf, stepsOf, stepCapacity, scriptOutcome, scriptAfter};
+ghost use Rattle.script_lines.specs.Inside.{saidBy, reachedBy, storedBy, wholeOf};
 
 // The greatest place that a step's record holds.
 const MOST_PLACE: usize = 65535;
@@ -122,8 +120,8 @@ fn capacity(bytes: usize) -> usize
 // The lines in turn, into a buffer that is clear; a refusal clears it again.
 fn read_lines(text: &[u8], out: &mut [u8]) -> Counted
     requires { ⌜ now out ≡ zeros (length (now out)) ⌝ }
-    ensures { λ r. ⌜ counted r ≡ toldOf (atEnd (through lineSays each 35 (stepCapacity (length (now (out .entry)))) (before tt [] 1) (Lines·lines (now (text .entry))))) ⌝ }
-    ensures { λ _. ⌜ now (out .exit) ≡ image stepRecords (length (now (out .entry))) (stepsOf (atEnd (through lineSays each 35 (stepCapacity (length (now (out .entry)))) (before tt [] 1) (Lines·lines (now (text .entry)))))) ⌝ }
+    ensures { λ r. ⌜ counted r ≡ toldOf (atEnd (wholeOf (length (now (out .entry))) (now (text .entry)))) ⌝ }
+    ensures { λ _. ⌜ now (out .exit) ≡ image stepRecords (length (now (out .entry))) (stepsOf (atEnd (wholeOf (length (now (out .entry))) (now (text .entry))))) ⌝ }
 {
     let room = capacity(out.len());
     let mut at: usize = 0;

@@ -3,7 +3,7 @@
 mod buffers;
 mod files;
 mod part;
-mod print;
+pub mod print;
 
 use program::file;
 use program::label;

@@ -108,7 +108,7 @@ pub(crate) fn settled(n: usize, lengths: &[u64], told: ByList, lists: &[u8])
 }
 
 // What is told of a label in a map of so many bits, with the reasons in a buffer.
-pub(crate) fn shown(bits: usize, told: ByList, bytes: &[u8])
+pub fn shown(bits: usize, told: ByList, bytes: &[u8])
     requires { ⌜ bits ≤ mostLists ⌝ }
 {
     let answer = told.answer;

@@ -1,6 +1,6 @@
-use borrow.Author.Needs.{needs}
 -- `product::lacking` meets its contract, by its three tests.
 -- Assumes nothing.
+use borrow.Author.Needs.{needs}
 use Rattle.pla.proofs.Products.{lacks-inputs, lacks-outputs, lacks-type, lacks-nothing}
 use Rattle.pla.proofs.product.lacking.Statement.{statement}
 use Rattle.pla.proofs.product.lacking.Tie as tie

@@ -1,7 +1,6 @@
 -- `product::spelt` meets its contract. The invariant: what is read from here on is what is read of the whole line; the measure is what is left of it.
 -- Assumes nothing.
 use Prim.Native.Nat.{_-_}
-use native.Mathlib.Omega.{arith}
 use lib.ListN.{length}
 use borrow.Author.Needs.{needs}
 use Rattle.pla.proofs.Products.{Spelling, spelling-none, spelling-blank, code-other, code-more, too-many, output-other, output-added, output-more, too-few, spelt-all}

@@ -1,0 +1,2 @@
+-- The laws behind the proofs of this crate. Assumes nothing.
+pub mod Costs
