@@ -1,4 +1,4 @@
--- A text as lines. Maps and scripts as text have "comments `#`, blank lines", and a last line whose newline may be missing.
+-- A text as lines: docs/TEXTS.md, "Lines".
 -- Assumes nothing.
 use mathlib.Core.Bool.{cond}
 use mathlib.Core.List.{List, [], _∷_}

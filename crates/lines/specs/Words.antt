@@ -1,4 +1,4 @@
--- The words of a line: bytes between blanks.
+-- The words of a line: bytes between blanks. docs/TEXTS.md, "Lines".
 -- Assumes nothing.
 use mathlib.Core.Bool.{Bool, true, false, cond, _&&_}
 use mathlib.Core.List.{List, [], _∷_}

@@ -1,4 +1,4 @@
--- What the lines of a map as text say before its products, and what is refused of them. Refusals of a text have numbers of their own, after 26, and a line.
+-- What the lines of a map as text say before its products, and what is refused of them. docs/TEXTS.md, "A map: ESOP-PLA". Refusals of a text have numbers of their own, after 26, and a line.
 -- Assumes nothing.
 use mathlib.Core.Bool.{Bool, true, false, cond, _&&_}
 use mathlib.Core.List.{List, [], _∷_}

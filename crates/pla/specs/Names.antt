@@ -1,4 +1,4 @@
--- The words of ESOP-PLA: "`.i n`, `.o m`, `.type esop`, `.p` […], `.ilb`/`.ob` read over, […] `.e` or `.end`".
+-- The words of ESOP-PLA. docs/TEXTS.md, "A map: ESOP-PLA": "`.i n`, `.o m`, `.type esop`, `.p` […], `.ilb`/`.ob` read over, […] `.e` or `.end`".
 -- Assumes nothing.
 use mathlib.Core.Bool.{cond, _||_}
 use mathlib.Core.List.{List, [], _∷_}

@@ -1,4 +1,4 @@
--- A map as text: ESOP-PLA. What it is read as, what is answered, and what is left in the buffer.
+-- A map as text: ESOP-PLA. What it is read as, what is answered, and what is left in the buffer. docs/TEXTS.md.
 -- Assumes nothing.
 use mathlib.Core.Bool.{Bool, cond, not, _||_}
 use mathlib.Core.List.{List, [], _∷_}

@@ -1,4 +1,4 @@
--- A map written out, in ESOP-PLA.
+-- A map written out, in ESOP-PLA. docs/TEXTS.md: "A map is printed with `.i`, `.o`, `.type esop` and `.p`, a line for each product, `0` for an output that it is not in, and `.e`."
 -- Assumes nothing.
 use mathlib.Core.Bool.{cond}
 use mathlib.Core.List.{List, [], _∷_, _++_}

@@ -1,4 +1,4 @@
--- A line with a product: "cubes `01- 1`". "An output character 1 puts the product into that output, 0, `-` or `~` doesn't."
+-- A line with a product. docs/TEXTS.md, "A map: ESOP-PLA": "cubes `01- 1`". "An output character 1 puts the product into that output, 0, `-` or `~` doesn't."
 -- Assumes nothing.
 use mathlib.Core.Bool.{Bool, true, false, cond, _||_}
 use mathlib.Core.List.{List, [], _∷_}

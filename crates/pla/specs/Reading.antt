@@ -1,4 +1,4 @@
--- What is in the buffer while a text is read, before a refusal clears it.
+-- Inside: what is in the buffer while a text is read, before a refusal clears it.
 -- Assumes nothing.
 use mathlib.Core.Path.{_≡_}
 use mathlib.Core.List.{List}

@@ -1,4 +1,4 @@
--- What the functions inside answer: what a line says, and how far one line takes a script in a buffer.
+-- Inside: what a line says, and how far one line takes a script in a buffer.
 -- Assumes nothing.
 use mathlib.Core.Bool.{cond}
 use mathlib.Core.List.{List, [], _++_}

@@ -1,4 +1,4 @@
--- Scripts as text, "one step a line: `drop 0 1`, `join 1 2`, `split x2 0`, `turn x0 0 1`, `L x0 1`, `merge 0 1`; comments, blank lines".
+-- Scripts as text. docs/TEXTS.md, "A script": "one step a line: `drop 0 1`, `join 1 2`, `split x2 0`, `turn x0 0 1`, `L x0 1`, `merge 0 1`; comments, blank lines".
 -- Assumes nothing.
 use mathlib.Core.Bool.{Bool, true, cond}
 use mathlib.Core.List.{List, [], _∷_, _++_}
