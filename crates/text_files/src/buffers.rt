@@ -13,11 +13,11 @@ const CUBES_BYTES: usize = cube::list::RECORD_WIDTH * cube::list::MOST_RECORDS;
 // Bytes of the longest script.
 const STEPS_BYTES: usize = script::check::STEP_WIDTH * script::check::MOST_STEPS;
 
-// Bytes of the longest text of a map: its lines before and after the products, and 66 characters of each product with its newline.
+// Bytes of the longest text of a map: its lines before and after the products, fewer than 128, and 66 characters of each product with its newline.
 const MAP_TEXT_BYTES: usize = 128 + 66 * cube::list::MOST_RECORDS;
 
-// Bytes of the longest text of a script: a step has at most 20 characters with its newline.
-const SCRIPT_TEXT_BYTES: usize = 20 * script::check::MOST_STEPS;
+// Bytes of the longest text of a script: `turn x255 65535 65535` and its newline are the longest line.
+const SCRIPT_TEXT_BYTES: usize = 22 * script::check::MOST_STEPS;
 
 // Bytes of the places of the longest list.
 const PLACES_BYTES: usize = records::place::PLACE_WIDTH * cube::list::MOST_RECORDS;
@@ -59,7 +59,7 @@ pub fn map_text() -> [u8; MAP_TEXT_BYTES]
 }
 
 pub fn script_text() -> [u8; SCRIPT_TEXT_BYTES]
-    ensures { λ r. ⌜ 20480 ≡ length r ⌝ }
+    ensures { λ r. ⌜ 22528 ≡ length r ⌝ }
 {
     [0; SCRIPT_TEXT_BYTES]
 }
