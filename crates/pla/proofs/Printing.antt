@@ -1,25 +1,29 @@
--- A map laid into a buffer: a line, the outputs of a product, and the lines of a list of records in turn.
+-- A map laid into a buffer: a line, the outputs of a product, and the lines of a list of records in turn; and how long its text is.
 -- Assumes nothing.
-use mathlib.Core.Path.{_≡_, sym, ap, _∙_}
+use mathlib.Core.Path.{_≡_, refl, sym, ap, _∙_}
 use mathlib.Core.Bool.{cond}
 use mathlib.Core.List.{List, [], _∷_, _++_, append-nil}
-use Prim.Native.Nat.{ℕ, suc, _+_, _/_, _≤_, _<_}
+use Prim.Native.Nat.{ℕ, zero, suc, _+_, _*_, _/_, _≤_, _<_}
+use native.Mathlib.Nat.{mul-le-mul-right}
 use native.Mathlib.Numerals.{add-one}
 use native.Mathlib.Omega.{arith}
 use lib.Dec.{eqb}
-use lib.ListN.{length, getD, take}
+use lib.ListN.{length, getD, take, length-append}
 use lib.Seq.{take-suc, take-all}
 use borrow.Author.Tests.{eq-eqb, ne-eqb}
 use Rattle.bits.specs.Bits.{bit}
+use Rattle.cube.specs.Lists.{mostVariables, mostRecords}
 use Rattle.records.specs.Records.{flat}
-use Rattle.records.proofs.Images.{flat-append}
+use Rattle.records.proofs.Images.{flat-append, length-flat}
 use Rattle.records.proofs.Records.{length-list}
 use Rattle.shared.specs.declared.Shared.{Shared}
 use Rattle.shared.specs.SharedRecord.{shares, sharesOf, noShared, sharedWidth}
+use Rattle.shared.specs.Outputs.{outputCount}
 use Rattle.text.specs.Numbers.{decimal}
 use Rattle.text.specs.Cubes.{cubeText}
 use Rattle.text.specs.Places.{Laid}
-use Rattle.text.proofs.Laying.{none, after, kept}
+use Rattle.text.proofs.Laying.{none, after, kept, length-cube}
+use Rattle.text.proofs.Numbers.{decimal-short}
 use Rattle.pla.specs.Names.{iName, oName, typeName, pName, eName, esopWord}
 use Rattle.pla.specs.Printing.{nameLine, headText, outputsText, productText, plaText}
 
@@ -108,3 +112,43 @@ pub pla-laid : {b b1 b2 b3 : List ℕ} {p q z : ℕ} (n m : ℕ) (list : List �
     → Laid b1 p (flat (productText n m) (sharesOf list)) q b2 → Laid b2 q (eName ++ (10 ∷ [])) z b3 → Laid b 0 (plaText n m (sharesOf list)) z b3
 unfolding plaText
 pla-laid n m list f g h = rw (length-list shares list) (after f (after g h))
+
+-- ---- how long it is
+
+outputs-long : (m o : ℕ) → length (outputsText m o) ≡ m
+unfolding outputsText
+outputs-long zero o = refl
+outputs-long (suc m) o = length-append (outputsText m o) (cond (eqb (bit o m) 1) 49 48 ∷ []) ∙ rw (outputs-long m o) (add-one m)
+
+line-long : (x y : List ℕ) → length (nameLine x y) ≡ length x + length y + 2
+line-long x y = omega (arith, length-append x (32 ∷ (y ++ (10 ∷ []))), length-append y (10 ∷ []))
+
+product-long : (n m : ℕ) (s : Shared) → length (productText n m s) ≡ n + m + 2
+unfolding productText
+product-long n m s = line-long (cubeText n (s .cube)) (outputsText m (s .outputs)) ∙ rw (length-cube n (s .cube), outputs-long m (s .outputs))
+
+head-long : (n m count : ℕ) → n ≤ mostVariables → m ≤ outputCount → count ≤ mostRecords → length (headText n m count) ≤ 64
+unfolding headText
+head-long n m count few low many =
+    let A : List ℕ = nameLine iName (decimal n) in
+    let B : List ℕ = nameLine oName (decimal m) in
+    let C : List ℕ = nameLine typeName esopWord in
+    let D : List ℕ = nameLine pName (decimal count) in
+    let a : length (decimal n) ≤ 2 = decimal-short 1 n (omega arith) in
+    let b : length (decimal m) ≤ 2 = decimal-short 1 m (omega arith) in
+    let d : length (decimal count) ≤ 4 = decimal-short 3 count (omega arith) in
+    omega (arith, length-append A (B ++ (C ++ D)), length-append B (C ++ D), length-append C D, line-long iName (decimal n), line-long oName (decimal m), line-long pName (decimal count))
+
+-- the text of the longest list: 66 characters for each of 4,096 products, and 128 for the other lines
+pub text-long : (n m : ℕ) (l : List Shared) → n ≤ mostVariables → m ≤ outputCount → length l ≤ mostRecords → length (plaText n m l) ≤ 270464
+unfolding plaText
+text-long n m l few low many =
+    let F : List ℕ = flat (productText n m) l in
+    let wide : (n + m + 2) * length l ≤ 66 * length l = mul-le-mul-right (length l) (omega arith) in
+    omega (
+      arith,
+      length-append (headText n m (length l)) (F ++ (eName ++ (10 ∷ []))),
+      length-append F (eName ++ (10 ∷ [])),
+      head-long n m (length l) few low many,
+      length-flat (productText n m) (n + m + 2) (product-long n m) l,
+    )

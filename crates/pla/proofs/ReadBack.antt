@@ -5,7 +5,7 @@ use mathlib.Core.Bool.{Bool, true, false, cond, not}
 use mathlib.Core.Logic.{⊎-elim}
 use mathlib.Core.List.{List, [], _∷_, _++_, append-nil, append-assoc}
 use Prim.Native.Nat.{ℕ, zero, suc, _+_, _-_, _*_, _^_, _≤_, _<_}
-use native.Mathlib.Nat.{add-zero, zero-add, mul-le-mul-right}
+use native.Mathlib.Nat.{add-zero, zero-add}
 use native.Mathlib.Numerals.{add-one}
 use native.Mathlib.Omega.{arith}
 use lib.Dec.{eqb}
@@ -23,15 +23,12 @@ use Rattle.cube.specs.Cubes.{Good, code, one, withCode, put, maskBits}
 use Rattle.cube.specs.Lists.{mostVariables, mostRecords}
 use Rattle.cube.proofs.Codes.{code-lt, code-same, code-other, with-put, one-good, put-good, cube-ext}
 use Rattle.records.specs.Records.{flat}
-use Rattle.records.proofs.Images.{length-flat}
 use Rattle.shared.specs.declared.Shared.{Shared}
 use Rattle.shared.specs.SharedRecord.{sharing, Fine}
 use Rattle.shared.specs.Outputs.{outputCount}
 use Rattle.text.specs.Blanks.{blank, blanks}
 use Rattle.text.specs.Numbers.{decimal}
 use Rattle.text.specs.Cubes.{glyph, codeOfGlyph, cubeText}
-use Rattle.text.proofs.Laying.{length-cube}
-use Rattle.text.proofs.Numbers.{decimal-short}
 use Rattle.lines.specs.Lines.{lines}
 use Rattle.lines.specs.Words.{letters, blankFrom, firstWord, afterWord, onlyWord, same}
 use Rattle.lines.specs.Gathering.{Says, knows, has, over, Progress, through, gathered, mostText}
@@ -44,6 +41,7 @@ use Rattle.pla.specs.Header.{unsaid, nothingSaid, named, inputsSaid, out
 use Rattle.pla.specs.Products.{outputOf, spelt, productSaid, lacking, product}
 use Rattle.pla.specs.Pla.{saysBefore, lineSays, inSome, readThrough, made, finished, atEnd, plaOf}
 use Rattle.pla.specs.Printing.{nameLine, headText, outputsText, productText, plaText}
+use Rattle.pla.proofs.Printing.{text-long}
 
 -- ---- the characters of a product
 
@@ -375,45 +373,6 @@ module _ (room : ℕ) where
         ∙ on-knows (partly n m false) [] 3 (lineOf typeName esopWord) _ (type-says n m count)
         ∙ on-knows (partly n m true) [] 4 (lineOf pName (decimal count)) (lines t) (products-say n m count h)
 
--- ---- how long the text is
-
-outputs-long : (m o : ℕ) → length (outputsText m o) ≡ m
-unfolding outputsText
-outputs-long zero o = refl
-outputs-long (suc m) o = length-append (outputsText m o) (markOf (bit o m) ∷ []) ∙ rw (outputs-long m o) (add-one m)
-
-line-long : (x y : List ℕ) → length (nameLine x y) ≡ length x + length y + 2
-line-long x y = omega (arith, length-append x (32 ∷ (y ++ (10 ∷ []))), length-append y (10 ∷ []))
-
-product-long : (n m : ℕ) (s : Shared) → length (productText n m s) ≡ n + m + 2
-unfolding productText
-product-long n m s = line-long (cubeText n (s .cube)) (outputsText m (s .outputs)) ∙ rw (length-cube n (s .cube), outputs-long m (s .outputs))
-
-head-long : (n m count : ℕ) → n ≤ mostVariables → m ≤ outputCount → count ≤ mostRecords → length (headText n m count) ≤ 64
-unfolding headText
-head-long n m count few low many =
-    let A : List ℕ = nameLine iName (decimal n) in
-    let B : List ℕ = nameLine oName (decimal m) in
-    let C : List ℕ = nameLine typeName esopWord in
-    let D : List ℕ = nameLine pName (decimal count) in
-    let a : length (decimal n) ≤ 2 = decimal-short 1 n (omega arith) in
-    let b : length (decimal m) ≤ 2 = decimal-short 1 m (omega arith) in
-    let d : length (decimal count) ≤ 4 = decimal-short 3 count (omega arith) in
-    omega (arith, length-append A (B ++ (C ++ D)), length-append B (C ++ D), length-append C D, line-long iName (decimal n), line-long oName (decimal m), line-long pName (decimal count))
-
-pub text-long : (n m : ℕ) (l : List Shared) → n ≤ mostVariables → m ≤ outputCount → length l ≤ mostRecords → length (plaText n m l) ≤ mostText
-unfolding plaText
-text-long n m l few low many =
-    let F : List ℕ = flat (productText n m) l in
-    let wide : (n + m + 2) * length l ≤ 66 * length l = mul-le-mul-right (length l) (omega arith) in
-    omega (
-      arith,
-      length-append (headText n m (length l)) (F ++ (eName ++ (10 ∷ []))),
-      length-append F (eName ++ (10 ∷ [])),
-      head-long n m (length l) few low many,
-      length-flat (productText n m) (n + m + 2) (product-long n m) l,
-    )
-
 -- ---- a map that was printed
 
 module _ (n m room : ℕ) (l : List Shared) (few : n ≤ mostVariables) (some : 1 ≤ m) (low : m ≤ outputCount) where
@@ -432,6 +391,6 @@ module _ (n m room : ℕ) (l : List Shared) (few : n ≤ mostVariables) (some : 
       ∙ products-read room n m count few some low l [] 0 5 end fine inside (omega arith)
       ∙ end-read room (known n m count (0 + count)) l (5 + count) in
       ap (λ (t : Bool). atEnd (cond t (reads room (progress-is.before nothingSaid [] 1) (lines (plaText n m l))) (progress-is.refusedBy 36 0)))
-      (le-leb (length (plaText n m l)) mostText (text-long n m l few low many))
+      (le-leb (length (plaText n m l)) mostText (omega (arith, text-long n m l few low many)))
       ∙ ap atEnd whole
       ∙ finishes (0 + count) (5 + count) many (sym (zero-add count))

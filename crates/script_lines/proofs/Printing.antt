@@ -1,24 +1,31 @@
--- A script laid line by line.
+-- A script laid line by line, and how long its text is.
 -- Assumes nothing.
-use mathlib.Core.Path.{_≡_, sym, ap, _∙_}
-use mathlib.Core.Bool.{true}
+use mathlib.Core.Path.{_≡_, sym, ap, subst, _∙_}
+use mathlib.Core.Bool.{Bool, true, false, cond}
 use mathlib.Core.List.{List, [], _∷_, _++_, append-nil}
-use Prim.Native.Nat.{ℕ, _+_, _/_, _≤_, _<_}
+use Prim.Native.Nat.{ℕ, zero, suc, _+_, _*_, _/_, _^_, _≤_, _<_}
 use native.Mathlib.Numerals.{add-one}
 use native.Mathlib.Omega.{arith}
-use lib.ListN.{length, getD, take}
+use lib.Dec.{eqb}
+use lib.ListN.{length, getD, take, length-append}
 use lib.Seq.{take-suc, take-all}
 use borrow.Author.Tests.{eq-eqb, ne-eqb}
+use Rattle.bits.specs.Sums.{All}
+use Rattle.bits.proofs.Sums.{all-of}
 use Rattle.records.specs.Records.{flat, listOf}
 use Rattle.records.proofs.Images.{flat-append}
-use Rattle.records.proofs.Records.{length-list}
+use Rattle.records.proofs.Records.{length-list, list-at}
+use Rattle.records.proofs.Widths.{number-lt}
 use Rattle.steps.specs.declared.StepRecord.{StepRecord}
-use Rattle.steps.specs.Steps.{meaning}
+use Rattle.steps.specs.Steps.{meaning, meaningBy}
 use Rattle.script.specs.Scripts.{stepRecords, stepWidth}
 use Rattle.text.specs.Places.{Laid}
-use Rattle.text.specs.Steps.{stepText}
+use Rattle.text.specs.Numbers.{decimal}
+use Rattle.text.specs.Steps.{variableLead, fieldText, stepText}
 use Rattle.text.specs.Printing.{fieldIf}
 use Rattle.text.proofs.Laying.{none, after, kept}
+use Rattle.text.proofs.Numbers.{decimal-short}
+use Rattle.text.proofs.ReadBack.{Bytes}
 use Rattle.script_lines.specs.Scripts.{mergeOperation, mergeWord, lineText, scriptText}
 use Rattle.script_lines.specs.Inside.{anyStepText}
 
@@ -67,3 +74,68 @@ module _ {script b b′ : List ℕ} {p k : ℕ} (f : Printed script b p b′ k) 
 
   pub printed-kept : length b′ ≡ length b
   printed-kept = kept (f .front)
+
+-- ---- how long it is
+
+-- a field of a number that has at most suc k digits
+field-short : (k : ℕ) (lead : List ℕ) (x : ℕ) → x < 10 ^ suc k → length (fieldText lead x) ≤ length lead + k + 2
+field-short k lead x h = omega (arith, length-append lead (decimal x), decimal-short k x h)
+
+module _ (r : StepRecord) (b : Bytes r) where
+  v-short : length (fieldText variableLead (r .v)) ≤ 5
+  v-short = field-short 2 variableLead (r .v) (omega (arith, b .v-byte))
+
+  i-short : length (fieldText [] (r .i)) ≤ 6
+  i-short = field-short 4 [] (r .i) (omega (arith, b .i-word))
+
+  j-short : length (fieldText [] (r .j)) ≤ 6
+  j-short = field-short 4 [] (r .j) (omega (arith, b .j-word))
+
+  literal-short : length (fieldText [] (r .literal)) ≤ 4
+  literal-short = field-short 2 [] (r .literal) (omega (arith, b .literal-byte))
+
+  places-short : length (fieldText [] (r .i) ++ fieldText [] (r .j)) ≤ 12
+  places-short = omega (arith, length-append (fieldText [] (r .i)) (fieldText [] (r .j)), i-short, j-short)
+
+  -- of every operation, also of one that there is not; the longest is `turn x255 65535 65535`
+  step-short : (op : ℕ) → length (stepText (meaningBy op r)) ≤ 21
+  unfolding stepText
+  step-short zero = omega (arith, places-short)
+  step-short (suc zero) = omega (arith, places-short)
+  step-short (suc (suc zero)) = omega (arith, places-short)
+  step-short (suc (suc (suc zero))) = omega (arith, length-append (fieldText variableLead (r .v)) (fieldText [] (r .i)), v-short, i-short)
+  step-short (suc (suc (suc (suc zero)))) =
+      omega (arith, length-append (fieldText variableLead (r .v)) (fieldText [] (r .i) ++ fieldText [] (r .j)), v-short, places-short)
+  step-short (suc (suc (suc (suc (suc op))))) = omega (arith, length-append (fieldText variableLead (r .v)) (fieldText [] (r .literal)), v-short, literal-short)
+
+  line-short : length (lineText r) ≤ 22
+  unfolding lineText meaning
+  line-short = go (eqb (r .op) mergeOperation)
+    where
+      go : (t : Bool) → length (cond t (mergeWord ++ (fieldText [] (r .i) ++ fieldText [] (r .j))) (stepText (meaning r)) ++ (10 ∷ [])) ≤ 22
+      go true = omega (arith, length-append (mergeWord ++ (fieldText [] (r .i) ++ fieldText [] (r .j))) (10 ∷ []), places-short)
+      go false = omega (arith, length-append (stepText (meaning r)) (10 ∷ []), step-short (r .op))
+
+pub text-short : (l : List StepRecord) → All Bytes l → length (scriptText l) ≤ 22 * length l
+unfolding scriptText
+text-short [] f = omega arith
+text-short (r ∷ l) f = omega (arith, length-append (lineText r) (scriptText l), line-short r (f .0), text-short l (f .1))
+
+-- the fields of a record that is read from bytes
+module _ (b : List ℕ) (small : (i : ℕ) → getD b i 0 < 256) where
+  bytes-at : (i : ℕ) → Bytes (stepRecords .read b i)
+  bytes-at i = record {
+    v-byte = omega (arith, number-lt b small 1 (8 * i + 1));
+    i-word = omega (arith, number-lt b small 2 (8 * i + 2));
+    j-word = omega (arith, number-lt b small 2 (8 * i + 4));
+    literal-byte = omega (arith, number-lt b small 1 (8 * i + 6));
+  }
+
+  bytes-all : All Bytes (listOf stepRecords b)
+  bytes-all =
+      all-of Bytes (stepRecords .none) (listOf stepRecords b)
+      (λ i h. subst Bytes (sym (list-at stepRecords b i (stepRecords .none) (omega (arith, length-list stepRecords b)))) (bytes-at i))
+
+  -- the text of any bytes as a script
+  pub script-long : length (scriptText (listOf stepRecords b)) ≤ 22 * length (listOf stepRecords b)
+  script-long = text-short (listOf stepRecords b) bytes-all

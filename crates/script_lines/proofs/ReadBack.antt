@@ -3,7 +3,7 @@
 use mathlib.Core.Path.{_≡_, refl, sym, ap, ap₂, subst, _∙_}
 use mathlib.Core.Bool.{Bool, true, false, cond, _&&_}
 use mathlib.Core.List.{List, [], _∷_, _++_, append-assoc, append-nil}
-use Prim.Native.Nat.{ℕ, suc, _+_, _*_, _≤_}
+use Prim.Native.Nat.{ℕ, suc, _+_, _≤_}
 use native.Mathlib.Omega.{arith}
 use lib.Dec.{eqb, ltb, leb}
 use lib.ListN.{length, getD, drop, length-append}
@@ -11,6 +11,7 @@ use lib.Seq.{drop-length}
 use borrow.Author.Tests.{eq-eqb, eqb-true, ltb-true, leb-true, lt-ltb}
 use Rattle.bits.specs.Sums.{All}
 use Rattle.bits.proofs.Bools.{both-true}
+use Rattle.bits.proofs.Sums.{all-each}
 use Rattle.steps.specs.declared.StepRecord.{StepRecord}
 use Rattle.steps.specs.Steps.{Step, meaning}
 use Rattle.steps.specs.Steps as step-of
@@ -20,7 +21,6 @@ use Rattle.text.specs.declared.ReadStep.the-variants as step-is
 use Rattle.text.specs.Blanks.{blanks, pastBlanks}
 use Rattle.text.specs.Numbers.{decimal}
 use Rattle.text.specs.Steps.{dropWord, joinWord, splitWord, turnWord, lWord, variableLead, fieldText, stepText}
-use Rattle.text.proofs.Numbers.{decimal-short}
 use Rattle.text.proofs.ReadBack.{Bytes, Two, two-back, word-back, step-back}
 use Rattle.lines.specs.Lines.{newline, lines}
 use Rattle.lines.specs.Words.{blankFrom}
@@ -30,6 +30,7 @@ use Rattle.lines.proofs.Gathering.{gathered-whole}
 use Rattle.lines.proofs.Printed.{solid, Plain, solid-plain, plain-append, lines-on, content-all, decimal-solid, blanks-word, not-blank}
 use Rattle.script_lines.specs.Scripts.{mergeOperation, mergeWord, lineText, scriptText, anyStepIn, stepBefore, lineSays, each, readThrough, made, atEnd, scriptOf}
 use Rattle.script_lines.specs.Inside.{anyStepText}
+use Rattle.script_lines.proofs.Printing.{text-short}
 use Rattle.script_lines.proofs.Saying.{reads-merge, reads-plain, says-step, merge-read}
 
 -- ---- what a line can hold: a merge, or a step that passes rule 9 over 256 variables, whose places have two bytes each
@@ -90,31 +91,13 @@ no-m (step-of.split v i) e = omega arith
 no-m (step-of.turn v i j) e = omega arith
 no-m (step-of.L v b) e = omega arith
 
--- ---- how long a line is
-
-field-short : (lead : List ℕ) (x : ℕ) → x ≤ 65535 → length (fieldText lead x) ≤ length lead + 6
-field-short lead x h = omega (arith, length-append lead (decimal x), decimal-short 4 x (omega arith))
-
-two-short : (lx ly : List ℕ) (x y : ℕ) → x ≤ 65535 → y ≤ 65535 → length (fieldText lx x ++ fieldText ly y) ≤ length lx + length ly + 12
-two-short lx ly x y h k = omega (arith, length-append (fieldText lx x) (fieldText ly y), field-short lx x h, field-short ly y k)
-
-step-short : (s : Step) → Bytes (recordOf s) → length (stepText s) ≤ 31
-unfolding stepText recordOf
-step-short (step-of.drop i j) b = omega (arith, two-short [] [] i j (b .i-word) (b .j-word))
-step-short (step-of.join i j) b = omega (arith, two-short [] [] i j (b .i-word) (b .j-word))
-step-short (step-of.split v i) b = omega (arith, two-short variableLead [] v i (omega (arith, b .v-byte)) (b .i-word))
-step-short (step-of.turn v i j) b =
-    let first : length (fieldText variableLead v) ≤ 7 = field-short variableLead v (omega (arith, b .v-byte)) in
-    omega (arith, length-append (fieldText variableLead v) (fieldText [] i ++ fieldText [] j), two-short [] [] i j (b .i-word) (b .j-word))
-step-short (step-of.L v x) b = omega (arith, two-short variableLead [] v x (omega (arith, b .v-byte)) (omega (arith, b .literal-byte)))
-
 -- ---- a line that holds its step
 
 record Backed (r : StepRecord) : Type 0 where
   begun : Begun (anyStepText r)
   plain : Plain (anyStepText r)
   back : anyStepIn (anyStepText r) 0 ≡ step-is.Read r (length (anyStepText r))
-  short : length (anyStepText r) ≤ 31
+  bytes : Bytes r
 
 -- a field that is used passes its test, and one that is not is zero: either way it is within its bytes
 byte-of : (used test : Bool) (x most : ℕ) → (test ≡ true → x ≤ most) → field used test x ≡ true → x ≤ most
@@ -131,22 +114,22 @@ module _ (r : StepRecord) (wi : r .i ≤ 65535) (wj : r .j ≤ 65535) where
     same : recordOf (meaning r) ≡ r
     same = record-meaning 256 r f
 
-    bytes : Bytes (recordOf (meaning r))
+    bytes : Bytes r
     bytes =
         let p : Fitting 256 r = fits-parts 256 r f in
-        subst Bytes (sym same) (record {
+        record {
           v-byte = byte-of (usesV (r .op)) (ltb (r .v) 256) (r .v) 255 (λ e. omega (arith, ltb-true (r .v) 256 e)) (p .v-fits);
           i-word = wi;
           j-word = wj;
           literal-byte = byte-of (usesLiteral (r .op)) (leb (r .literal) 1) (r .literal) 255 (λ e. omega (arith, leb-true (r .literal) 1 e)) (p .literal-fits);
-        })
+        }
 
     plain-read : anyStepIn (stepText (meaning r)) 0 ≡ step-is.Read r (length (stepText (meaning r)))
     plain-read =
         let s : Step = meaning r in
         let end : 0 + length (stepText s) ≡ length (stepText s) = omega arith in
         sym (reads-plain (stepText s) 0 refl (no-m s) refl)
-        ∙ step-back s bytes (stepText s) [] 0 refl (sym (append-nil (stepText s)))
+        ∙ step-back s (subst Bytes (sym same) bytes) (stepText s) [] 0 refl (sym (append-nil (stepText s)))
         ∙ ap (λ (x : StepRecord). step-is.Read x (0 + length (stepText s))) same
         ∙ ap (step-is.Read r) end
 
@@ -157,7 +140,7 @@ module _ (r : StepRecord) (wi : r .i ≤ 65535) (wj : r .j ≤ 65535) where
           begun = subst Begun e (step-begun (meaning r));
           plain = subst Plain e (step-plain (meaning r));
           back = subst (λ (c : List ℕ). anyStepIn c 0 ≡ step-is.Read r (length c)) e plain-read;
-          short = subst (λ (c : List ℕ). length c ≤ 31) e (step-short (meaning r) bytes);
+          bytes = bytes;
         }
 
   -- a merge
@@ -190,12 +173,11 @@ module _ (r : StepRecord) (wi : r .i ≤ 65535) (wj : r .j ≤ 65535) where
         let e : mergeWord ++ places ≡ anyStepText r = sym merge-text in
         let begun-merge : Begun (mergeWord ++ places) = record { first = 109; rest = _; is = refl; dark = refl } in
         let plain-merge : Plain (mergeWord ++ places) = plain-append mergeWord places (refl, (refl, (refl, (refl, (refl, tt))))) (places-plain (r .i) (r .j)) in
-        let short-merge : length (mergeWord ++ places) ≤ 31 = omega (arith, two-short [] [] (r .i) (r .j) wi wj) in
         record {
           begun = subst Begun e begun-merge;
           plain = subst Plain e plain-merge;
           back = subst (λ (c : List ℕ). anyStepIn c 0 ≡ step-is.Read r (length c)) e merge-back;
-          short = subst (λ (c : List ℕ). length c ≤ 31) e short-merge;
+          bytes = subst Bytes is-merge (record { v-byte = omega arith; i-word = wi; j-word = wj; literal-byte = omega arith });
         }
 
 backed : (r : StepRecord) → lineFits r ≡ true → Backed r
@@ -255,11 +237,5 @@ unfolding scriptOf readThrough
 script-back room l f h o = ap atEnd (gathered-whole lineSays each 35 room 36 tt (scriptText l) o ∙ all-taken room l [] 1 f (omega arith))
 
 -- the text of a script that is not too long is not too long either
-text-short : (l : List StepRecord) → All (λ r. lineFits r ≡ true) l → length (scriptText l) ≤ 32 * length l
-unfolding scriptText lineText anyStepText
-text-short [] f = omega arith
-text-short (r ∷ l) f =
-    omega (arith, length-append (lineText r) (scriptText l), length-append (anyStepText r) (newline ∷ []), backed r (f .0) .short, text-short l (f .1))
-
 pub script-short : (l : List StepRecord) → All (λ r. lineFits r ≡ true) l → length l ≤ mostSteps → length (scriptText l) ≤ mostText
-script-short l f h = omega (arith, text-short l f)
+script-short l f h = omega (arith, text-short l (all-each (λ r. lineFits r ≡ true) Bytes (λ r e. backed r e .bytes) l f))

@@ -5,6 +5,8 @@ pub mod load;
 pub mod show;
 pub mod tell;
 
+ghost use mathlib.Core.Path.{_≡_};
+ghost use Prim.Native.Nat.{_≤_};
 ghost use Rattle.io.specs.Counts.{Counts};
 
 // What was loaded of a map: its inputs, its outputs and how many records; or nothing, and why was told.
@@ -60,7 +62,10 @@ pub fn twelves(count: usize, b: &[u8]) -> usize
 }
 
 // A number of variables or of outputs as 32 bits: 32 in place of one that is larger.
-pub fn at_most_32(x: usize) -> u32 {
+pub fn at_most_32(x: usize) -> u32
+    ensures { λ r. ⌜ r ≤ 32 ⌝ }
+    ensures { λ r. ⌜ (x ≤ 32 → r ≡ x) ⌝ }
+{
     if 32 < x {
         return 32;
     }
