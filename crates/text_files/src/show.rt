@@ -19,7 +19,10 @@ ghost use Rattle.script_lines.specs.Scripts.{scriptText};
 // A text to standard output; where not all of it can be written, that is told.
 fn put(text: &[u8]) {
     if !io::write_all(STDOUT_FILENO, text) {
-        explain::say(STDERR_FILENO, b"druthmoy: standard output can't be written\n");
+        explain::say(
+            STDERR_FILENO,
+            b"druthmoy: standard output can't be written\n",
+        );
     }
 }
 
