@@ -4,6 +4,7 @@ use crate::buffers;
 use crate::twelves;
 use libc::STDERR_FILENO;
 use libc::STDOUT_FILENO;
+use records::Counted;
 ghost use mathlib.Core.Path.{_≡_};
 ghost use Prim.Native.Nat.{_≤_};
 ghost use lib.ListN.{length, take};
@@ -47,13 +48,16 @@ pub fn shares(n: usize, m: usize, list: &[u8]) {
     put(&text[..end]);
 }
 
-// A list of cubes, as a map of one output.
+// A list of cubes, as a map of one output; one of more than 4,096 is not printed.
 pub fn cubes(n: usize, list: &[u8]) {
     let mut products = buffers::shares();
-    outputs::shares_of(0, list, &mut products);
-    let count = list.len() / cube::list::RECORD_WIDTH;
-    let end = twelves(count, &products);
-    shares(n, 1, &products[..end]);
+    match outputs::shares_of(0, list, &mut products) {
+        Counted::Refused(_) => {}
+        Counted::Count(count) => {
+            let end = twelves(count, &products);
+            shares(n, 1, &products[..end]);
+        }
+    }
 }
 
 // The text of a script at the front of a buffer that has room for every script of at most 1,024 steps, and how long it is.
