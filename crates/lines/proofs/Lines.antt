@@ -11,7 +11,7 @@ use lib.ListN.{length, take, drop, drop-of-length-le, length-drop}
 use lib.Seq.{take-length, length-take-le, drop-drop}
 use Rattle.io.specs.Counts.{Counts}
 use Rattle.bytes.specs.Bytes.{indexOf, indexAfter, slice}
-use Rattle.lines.specs.Lines.{newline, before, lines}
+use Rattle.lines.specs.Lines.{newline, begun, lines}
 
 -- ---- where a byte first stands
 
@@ -49,8 +49,8 @@ none-past b {at} t h = rw (drop-of-length-le t h) (sym (add-zero at))
 
 -- ---- the first line of a text
 
-by-byte : (b : ℕ) (s : Bool) (t : List ℕ) (k : ℕ) → before b (lines t) ≡ (b ∷ take k t) ∷ lines (drop (suc k) t)
-    → cond s ([] ∷ lines t) (before b (lines t)) ≡ take (indexAfter s k) (b ∷ t) ∷ lines (drop (suc (indexAfter s k)) (b ∷ t))
+by-byte : (b : ℕ) (s : Bool) (t : List ℕ) (k : ℕ) → begun b (lines t) ≡ (b ∷ take k t) ∷ lines (drop (suc k) t)
+    → cond s ([] ∷ lines t) (begun b (lines t)) ≡ take (indexAfter s k) (b ∷ t) ∷ lines (drop (suc (indexAfter s k)) (b ∷ t))
 unfolding indexAfter
 by-byte b true t k e = refl
 by-byte b false t k e = e
@@ -58,7 +58,7 @@ by-byte b false t k e = e
 first-line : (b : ℕ) (t : List ℕ) → lines (b ∷ t) ≡ take (indexOf newline (b ∷ t)) (b ∷ t) ∷ lines (drop (suc (indexOf newline (b ∷ t))) (b ∷ t))
 unfolding lines indexOf
 first-line b [] = by-byte b (eqb b newline) [] 0 refl
-first-line b (c ∷ t) = by-byte b (eqb b newline) (c ∷ t) (indexOf newline (c ∷ t)) (ap (before b) (first-line c t))
+first-line b (c ∷ t) = by-byte b (eqb b newline) (c ∷ t) (indexOf newline (c ∷ t)) (ap (begun b) (first-line c t))
 
 some-line : (s : List ℕ) → 0 < length s → lines s ≡ take (indexOf newline s) s ∷ lines (drop (suc (indexOf newline s)) s)
 some-line [] h = absurd (omega arith)

@@ -61,7 +61,7 @@ unfolding lines
 lines-on [] t p = refl
 lines-on (b ∷ x) t p =
     let no : eqb b newline ≡ false = not-true (eqb b newline) (both-true (not (eqb b newline)) (not (eqb b hash)) (p .0) .0) in
-    simp no (ap (line-of.before b) (lines-on x t (p .1)))
+    simp no (ap (line-of.begun b) (lines-on x t (p .1)))
 
 no-hash : (x : List ℕ) → Plain x → indexOf hash x ≡ length x
 unfolding indexOf indexAfter
@@ -114,17 +114,9 @@ pub blanks-word : (b : ℕ) (w : List ℕ) → solid b ≡ true → blanks (b �
 unfolding blanks
 blanks-word b w h = simp (solid-blank b h)
 
-pub blanks-space : (t : List ℕ) → blanks (32 ∷ t) ≡ suc (blanks t)
-unfolding blanks
-blanks-space t = refl
-
 pub not-blank : (b : ℕ) (t : List ℕ) → solid b ≡ true → blankFrom (b ∷ t) 0 ≡ false
 unfolding blankFrom
 not-blank b t h = ne-eqb (pastBlanks (b ∷ t) 0) (length (b ∷ t)) (λ e. omega (arith, blanks-word b t h))
-
-pub nothing-blank : blankFrom [] 0 ≡ true
-unfolding blankFrom blanks
-nothing-blank = refl
 
 module _ (b : ℕ) (w r : List ℕ) (s : Solid (b ∷ w)) (h : letters r ≡ 0) where
   from : drop (blanks (b ∷ (w ++ r))) (b ∷ (w ++ r)) ≡ b ∷ (w ++ r)

@@ -15,14 +15,14 @@ abbrev pub hash : ℕ
 hash = 35
 
 -- a byte before the first of these lines; where there is none, a line of its own
-abbrev pub before : ℕ → List (List ℕ) → List (List ℕ)
-before b [] = (b ∷ []) ∷ []
-before b (l ∷ rest) = (b ∷ l) ∷ rest
+abbrev pub begun : ℕ → List (List ℕ) → List (List ℕ)
+begun b [] = (b ∷ []) ∷ []
+begun b (l ∷ rest) = (b ∷ l) ∷ rest
 
 -- the lines of a text, without their newlines: after the last newline there is a line only where there is a byte
 unfoldable pub lines : List ℕ → List (List ℕ)
 lines [] = []
-lines (b ∷ t) = cond (eqb b newline) ([] ∷ lines t) (before b (lines t))
+lines (b ∷ t) = cond (eqb b newline) ([] ∷ lines t) (begun b (lines t))
 
 -- what a line says: what stands before its comment
 unfoldable pub content : List ℕ → List ℕ

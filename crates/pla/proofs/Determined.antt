@@ -19,8 +19,6 @@ use Rattle.pla.proofs.names.name_of.Kinds as name-of-kinds
 use Rattle.pla.proofs.names.name_of.Reads as name-of-reads
 use Rattle.pla.proofs.names.named.Kinds as named-kinds
 use Rattle.pla.proofs.names.named.Reads as named-reads
-use Rattle.pla.proofs.print.print.Kinds as print-kinds
-use Rattle.pla.proofs.print.print.Reads as print-reads
 use Rattle.pla.proofs.product.lacking.Kinds as lacking-kinds
 use Rattle.pla.proofs.product.lacking.Reads as lacking-reads
 use Rattle.pla.proofs.read.read.Kinds as read-kinds
@@ -61,6 +59,3 @@ lacking-determined κs a z z′ ws ws′ p q = (same p q, refl)
 
 pub read-determined : Determined 2 read-kinds.ps read-kinds.r read-reads.Learnt
 read-determined κs a z z′ ws ws′ p q = (same-told readPla read-back read-known (p .0) (q .0), ap (λ (b : List ℕ). (tt, (b, tt))) (same (p .1) (q .1)))
-
-pub print-determined : Determined 2 print-kinds.ps print-kinds.r print-reads.Learnt
-print-determined κs a z z′ ws ws′ p q = (same (p .place) (q .place), ap (λ (b : List ℕ). (tt, (tt, (tt, (b, tt))))) (same (p .bytes) (q .bytes)))

@@ -4,4 +4,3 @@ pub mod Header
 pub mod Products
 pub mod Pla
 pub mod Reading
-pub mod Printing

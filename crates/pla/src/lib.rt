@@ -1,6 +1,5 @@
 // Maps as text, in ESOP-PLA: read as a list of shared products.
 pub mod names;
-pub mod print;
 pub mod product;
 pub mod read;
 

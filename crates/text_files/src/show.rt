@@ -14,7 +14,7 @@ ghost use Rattle.cube.specs.Lists.{mostVariables, mostRecords};
 ghost use Rattle.shared.specs.SharedRecord.{sharesOf};
 ghost use Rattle.shared.specs.Outputs.{outputCount};
 ghost use Rattle.script.specs.Scripts.{stepRecords, mostSteps};
-ghost use Rattle.pla.specs.Printing.{plaText};
+ghost use Rattle.pla_print.specs.Printing.{plaText};
 ghost use Rattle.script_lines.specs.Scripts.{scriptText};
 
 // A text to standard output; where not all of it can be written, that is told.
@@ -35,7 +35,7 @@ fn spell_map(n: u32, m: u32, list: &[u8], text: &mut [u8]) -> usize
     ensures { λ r. ⌜ Counts r (now (text .exit)) ⌝ }
     ensures { λ r. ⌜ take r (now (text .exit)) ≡ plaText n m (sharesOf (now (list .entry))) ⌝ }
 {
-    pla::print::print(n, m, list, text)
+    pla_print::print(n, m, list, text)
 }
 
 // A list of shared products; one of more than 4,096 is not printed.

@@ -41,9 +41,9 @@ use Rattle.pla.specs.Header.{unsaid, nothingSaid, inputsSaid, outputsSaid, type
 use Rattle.pla.specs.Names.{dot, esopWord, nameOf}
 use Rattle.pla.specs.Products.{outputOf, spelt, productSaid, lacking, product}
 use Rattle.pla.specs.Pla.{saysBefore, lineSays, inSome, readThrough, Pla, made, wrong, finished, atEnd, plaOf}
-use Rattle.pla.specs.Printing.{plaText}
+use Rattle.pla_print.specs.Printing.{plaText}
 use Rattle.pla.proofs.Products.{nothing-lacks}
-use Rattle.pla.proofs.ReadBack.{read-back}
+use Rattle.pla_print.proofs.ReadBack.{read-back}
 use Rattle.text_promises.specs.TextMeaning.{textValue, Below, FineMap}
 use Rattle.text_promises.proofs.Meaning.{what-a-text-means}
 use Rattle.text_promises.proofs.Gathered.{by-test, After, Throughout, gathered-keeps}

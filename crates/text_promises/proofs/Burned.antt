@@ -11,8 +11,8 @@ use Rattle.shared.specs.declared.Shared.{Shared}
 use Rattle.shared.specs.SharedRecord.{Fine}
 use Rattle.shared.specs.Outputs.{outputValue}
 use Rattle.pla.specs.Pla.{made, plaOf}
-use Rattle.pla.specs.Printing.{plaText}
-use Rattle.pla.proofs.ReadBack.{read-back}
+use Rattle.pla_print.specs.Printing.{plaText}
+use Rattle.pla_print.proofs.ReadBack.{read-back}
 use Rattle.text_promises.specs.TextMeaning.{Below, BurnedText}
 use Rattle.text_promises.proofs.Meaning.{what-a-text-means}
 use Rattle.text_promises.proofs.Accepted.{accepted-is-fine}

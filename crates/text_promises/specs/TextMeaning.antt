@@ -16,7 +16,7 @@ use Rattle.settling.specs.Calls.{settleOut}
 use Rattle.shared_run.specs.declared.SharedSettlement.{SharedSettlement}
 use Rattle.shared_run.specs.Calls.{sharedSettleOut}
 use Rattle.pla.specs.Pla.{Pla, made, wrong, plaOf, plaAfter}
-use Rattle.pla.specs.Printing.{plaText}
+use Rattle.pla_print.specs.Printing.{plaText}
 
 -- the value at a of output k of a map; 0 for a text that is refused
 abbrev pub plaValue : ℕ → Pla → ℕ → ℕ

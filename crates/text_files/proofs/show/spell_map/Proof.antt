@@ -2,7 +2,7 @@
 -- Assumes nothing.
 use native.Mathlib.Omega.{arith}
 use Rattle.shared.specs.SharedRecord.{sharesOf}
-use Rattle.pla.proofs.Printing.{text-long}
+use Rattle.pla_print.proofs.Printing.{text-long}
 use Rattle.text_files.proofs.Texts.{spelt}
 use borrow.Author.Needs.{needs}
 use Rattle.text_files.proofs.show.spell_map.Statement.{statement}

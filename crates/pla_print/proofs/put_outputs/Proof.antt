@@ -1,10 +1,10 @@
--- `print::put_outputs` meets its contract. The invariant: the characters of the outputs passed are laid; the measure is how many are left.
+-- `put_outputs` meets its contract. The invariant: the characters of the outputs passed are laid; the measure is how many are left.
 -- Assumes nothing.
 use Prim.Native.Nat.{_-_}
-use Rattle.pla.proofs.Printing.{Marked, marked-none, marked-more, marked-end, marked-kept}
+use Rattle.pla_print.proofs.Printing.{Marked, marked-none, marked-more, marked-end, marked-kept}
 use borrow.Author.Needs.{needs}
-use Rattle.pla.proofs.print.put_outputs.Statement.{statement}
-use Rattle.pla.proofs.print.put_outputs.Tie as tie
+use Rattle.pla_print.proofs.put_outputs.Statement.{statement}
+use Rattle.pla_print.proofs.put_outputs.Tie as tie
 
 abbrev Inv-loop : tie.InvT-loop
 Inv-loop out₀ at m outputs p₀ k₀ out p k = Marked m outputs out₀ at p out k

@@ -1,9 +1,9 @@
--- `print::mark` meets its contract: one law for each bit.
+-- `mark` meets its contract: one law for each bit.
 -- Assumes nothing.
-use Rattle.pla.proofs.Printing.{mark-one, mark-zero}
+use Rattle.pla_print.proofs.Printing.{mark-one, mark-zero}
 use borrow.Author.Needs.{needs}
-use Rattle.pla.proofs.print.mark.Statement.{statement}
-use Rattle.pla.proofs.print.mark.Tie as tie
+use Rattle.pla_print.proofs.mark.Statement.{statement}
+use Rattle.pla_print.proofs.mark.Tie as tie
 
 returns : tie.Need-returns
 returns c = search (mark-one, needs)

@@ -11,7 +11,7 @@ ghost use Rattle.records.specs.Records.{flat};
 ghost use Rattle.shared.specs.SharedRecord.{sharesOf};
 ghost use Rattle.text.specs.Numbers.{decimal};
 ghost use Rattle.text.specs.Places.{Laid};
-ghost use Rattle.pla.specs.Printing.{nameLine, headText, outputsText, productText, plaText};
+ghost use Rattle.pla_print.specs.Printing.{nameLine, headText, outputsText, productText, plaText};
 
 // A line with a name and its number at a place of a buffer, and the next place.
 fn put_named(out: &mut [u8], at: usize, name: &[u8], x: usize) -> usize

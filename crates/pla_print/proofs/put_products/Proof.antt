@@ -1,12 +1,12 @@
--- `print::put_products` meets its contract. The invariant: the lines of the records passed are laid; the measure is how many are left.
+-- `put_products` meets its contract. The invariant: the lines of the records passed are laid; the measure is how many are left.
 -- Assumes nothing.
 use Prim.Native.Nat.{_-_, _/_}
 use lib.ListN.{length}
 use Rattle.shared.specs.SharedRecord.{sharedWidth}
-use Rattle.pla.proofs.Printing.{Listed, listed-none, listed-more, listed-end, listed-kept}
+use Rattle.pla_print.proofs.Printing.{Listed, listed-none, listed-more, listed-end, listed-kept}
 use borrow.Author.Needs.{needs}
-use Rattle.pla.proofs.print.put_products.Statement.{statement}
-use Rattle.pla.proofs.print.put_products.Tie as tie
+use Rattle.pla_print.proofs.put_products.Statement.{statement}
+use Rattle.pla_print.proofs.put_products.Tie as tie
 
 abbrev Inv-loop : tie.InvT-loop
 Inv-loop out₀ at n m list count p₀ i₀ out p i = Listed n m list out₀ at p out i

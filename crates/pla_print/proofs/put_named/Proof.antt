@@ -1,9 +1,9 @@
--- `print::put_named` meets its contract: the parts of a line, one after another.
+-- `put_named` meets its contract: the parts of a line, one after another.
 -- Assumes nothing.
-use Rattle.pla.proofs.Printing.{line-laid}
+use Rattle.pla_print.proofs.Printing.{line-laid}
 use borrow.Author.Needs.{needs}
-use Rattle.pla.proofs.print.put_named.Statement.{statement}
-use Rattle.pla.proofs.print.put_named.Tie as tie
+use Rattle.pla_print.proofs.put_named.Statement.{statement}
+use Rattle.pla_print.proofs.put_named.Tie as tie
 
 put-text-requires : tie.Need-put-text-requires
 put-text-requires c κs = search needs

@@ -1,9 +1,9 @@
--- `print::put_head` meets its contract: four lines, one after another.
+-- `put_head` meets its contract: four lines, one after another.
 -- Assumes nothing.
-use Rattle.pla.proofs.Printing.{head-laid}
+use Rattle.pla_print.proofs.Printing.{head-laid}
 use borrow.Author.Needs.{needs}
-use Rattle.pla.proofs.print.put_head.Statement.{statement}
-use Rattle.pla.proofs.print.put_head.Tie as tie
+use Rattle.pla_print.proofs.put_head.Statement.{statement}
+use Rattle.pla_print.proofs.put_head.Tie as tie
 
 slice-aggregate-put-named : tie.Need-slice-aggregate-put-named
 slice-aggregate-put-named c = search needs

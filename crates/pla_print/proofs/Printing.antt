@@ -24,8 +24,8 @@ use Rattle.text.specs.Cubes.{cubeText}
 use Rattle.text.specs.Places.{Laid}
 use Rattle.text.proofs.Laying.{none, after, kept, length-cube}
 use Rattle.text.proofs.Numbers.{decimal-short}
 use Rattle.pla.specs.Names.{iName, oName, typeName, pName, eName, esopWord}
-use Rattle.pla.specs.Printing.{nameLine, headText, outputsText, productText, plaText}
+use Rattle.pla_print.specs.Printing.{nameLine, headText, outputsText, productText, plaText}
 
 -- ---- a line of two parts
 

@@ -34,14 +34,14 @@ use Rattle.lines.specs.Words.{letters, blankFrom, firstWord, afterWord, onlyWor
 use Rattle.lines.specs.Gathering.{Says, knows, has, over, Progress, through, gathered, mostText}
 use Rattle.lines.specs.Gathering as progress-is
 use Rattle.lines.proofs.Printed.{solid, Plain, Solid, solid-plain, plain-append, solid-append, lines-on, content-all, no-letters, no-letters-space, blanks-word, not-blank, first-word, after-word, decimal-solid, number-alone}
 use Rattle.pla.specs.declared.Header.{Header}
 use Rattle.pla.specs.declared.Spelt.the-variants as spelt-is
 use Rattle.pla.specs.Names.{dot, iName, oName, typeName, pName, eName, esopWord, nameOf}
 use Rattle.pla.specs.Header.{unsaid, nothingSaid, named, inputsSaid, outputsSaid, productsSaid, mostStated}
 use Rattle.pla.specs.Products.{outputOf, spelt, productSaid, lacking, product}
 use Rattle.pla.specs.Pla.{saysBefore, lineSays, inSome, readThrough, made, finished, atEnd, plaOf}
-use Rattle.pla.specs.Printing.{nameLine, headText, outputsText, productText, plaText}
-use Rattle.pla.proofs.Printing.{text-long}
+use Rattle.pla_print.specs.Printing.{nameLine, headText, outputsText, productText, plaText}
+use Rattle.pla_print.proofs.Printing.{text-long}
 
 -- ---- the characters of a product
 

@@ -1,9 +1,9 @@
--- `print::print` meets its contract: the lines before the products, the products, and the end.
+-- `print` meets its contract: the lines before the products, the products, and the end.
 -- Assumes nothing.
-use Rattle.pla.proofs.Printing.{pla-laid}
+use Rattle.pla_print.proofs.Printing.{pla-laid}
 use borrow.Author.Needs.{needs}
-use Rattle.pla.proofs.print.print.Statement.{statement}
-use Rattle.pla.proofs.print.print.Tie as tie
+use Rattle.pla_print.proofs.print.Statement.{statement}
+use Rattle.pla_print.proofs.print.Tie as tie
 
 put-head-requires : tie.Need-put-head-requires
 put-head-requires c κs = search needs

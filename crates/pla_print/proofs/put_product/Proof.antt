@@ -1,9 +1,9 @@
--- `print::put_product` meets its contract: the parts of a line, one after another.
+-- `put_product` meets its contract: the parts of a line, one after another.
 -- Assumes nothing.
-use Rattle.pla.proofs.Printing.{product-laid}
+use Rattle.pla_print.proofs.Printing.{product-laid}
 use borrow.Author.Needs.{needs}
-use Rattle.pla.proofs.print.put_product.Statement.{statement}
-use Rattle.pla.proofs.print.put_product.Tie as tie
+use Rattle.pla_print.proofs.put_product.Statement.{statement}
+use Rattle.pla_print.proofs.put_product.Tie as tie
 
 put-cube-requires : tie.Need-put-cube-requires
 put-cube-requires c κs = search needs

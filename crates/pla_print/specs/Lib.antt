@@ -1,0 +1,2 @@
+-- What the contracts of a map written out cite. Assumes nothing.
+pub mod Printing
