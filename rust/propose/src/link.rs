@@ -6,7 +6,7 @@ use crate::random::Random;
 use crate::work::{NO, Operation, Work};
 
 /// The most variables in which two products are linked.
-pub const MOST: usize = 5;
+pub const MOST: usize = 4;
 
 /// An order of the differing variables, as bits.
 #[derive(Clone, Copy)]
@@ -17,16 +17,21 @@ pub struct Way {
     pub dearer: i32,
 }
 
-/// A way that makes the list as short as one can.
-pub fn best(work: &Work, from: Product, to: Product, random: &mut Random) -> Way {
-    let mut differing = from.differing(to);
+/// Any order of the variables of a set, and how many they are.
+fn drawn(mut set: u32, random: &mut Random) -> ([u32; MOST], usize) {
     let mut bits = [0; MOST];
-    let count = differing.count_ones() as usize;
-    for bit in bits.iter_mut().take(count) {
-        *bit = differing & differing.wrapping_neg();
-        differing ^= *bit;
+    let count = set.count_ones() as usize;
+    for bit in &mut bits[..count] {
+        *bit = set & set.wrapping_neg();
+        set ^= *bit;
     }
     random.shuffle(&mut bits[..count]);
+    (bits, count)
+}
+
+/// A way that makes the list as short as one can; of several any one, since the variables are drawn.
+pub fn best(work: &Work, from: Product, to: Product, random: &mut Random) -> Way {
+    let (bits, count) = drawn(from.differing(to), random);
     let third = from.third(to);
     let all = (1 << count) - 1;
     // for each set of changed variables the least that the way there costs, and the last variable on it

@@ -1,13 +1,14 @@
 //! Pairs of products that differ in few variables, by hashing: the variables are dealt into one group more than may differ, so such a pair is equal in
 //! at least one of the groups. Products that are equal in a group are in one bucket.
 
+use crate::link;
 use crate::product::Product;
 use crate::random::Random;
 use std::collections::HashMap;
 use std::hash::{BuildHasherDefault, Hasher};
 
-/// More groups than any pair needs.
-const MOST: usize = 6;
+/// The most groups.
+const MOST: usize = link::MOST + 1;
 
 /// For keys that are mixed already.
 #[derive(Default)]

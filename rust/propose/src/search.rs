@@ -12,17 +12,17 @@ use crate::script::{MOST_STEPS, Script, Unfit};
 use crate::tidy::tidy;
 use crate::work::{Done, NO, Work};
 
-/// Products that differ in at most so many variables are linked.
-const DIFFERING: usize = 4;
 /// One of so many links may make the list dearer than the script's, by one product.
 const UPHILL: usize = 50;
 /// After so many steps with nothing shorter, and two more for each product, it goes back to the script's list: what is found far from there needs more steps than a script has.
 const WANDER: usize = 1_000;
 /// After so many tries with nothing shorter, another attempt is made.
 const STALL: usize = 1_000_000;
-
 /// A script with more steps than this is full where what is found next doesn't fit.
 const LONG: usize = MOST_STEPS / 2;
+
+/// What costs no more than this can't be made cheaper, once it is joined: a list that costs nothing is 0 or 1 everywhere.
+const LEAST: i32 = 1;
 
 /// Why an attempt ended.
 #[derive(Clone, Copy, PartialEq, Eq)]
@@ -59,7 +59,7 @@ pub struct Search<'a> {
 impl Search<'_> {
     pub fn new(shape: Shape, given: &[Product], seed: u64, clock: Clock) -> Search<'_> {
         let mut random = Random::new(seed);
-        let work = Work::new(shape, given.len(), DIFFERING, &mut random);
+        let work = Work::new(shape, given.len(), link::MOST, &mut random);
         Search { shape, given, work, random, clock, attempt: 0, best: Script::new(given.to_vec()) }
     }
 
@@ -73,7 +73,7 @@ impl Search<'_> {
                 self.best = script;
             }
             let full = better && end == End::Full;
-            if full || self.clock.is_over() || self.is_short(&self.best) {
+            if full || self.clock.is_over() || worth(self.shape, &self.best.list).0 <= LEAST {
                 return self.ended(full);
             }
         }
@@ -82,11 +82,6 @@ impl Search<'_> {
     fn is_better(&self, script: &Script) -> bool {
         let judged = |script: &Script| (worth(self.shape, &script.list), script.steps.len());
         judged(script) < judged(&self.best)
-    }
-
-    /// Whether no list can be cheaper, since just a list that is 0 or 1 everywhere costs less than one.
-    fn is_short(&self, script: &Script) -> bool {
-        worth(self.shape, &script.list).0 < 2
     }
 
     /// The best script with its merges, unless others are to come before them.
@@ -126,15 +121,8 @@ impl Search<'_> {
             if (self.work.cost(), self.work.len()) < base {
                 return true;
             }
-            if self.is_short(script) {
+            if base.0 <= LEAST || tries % 1024 == 0 && self.is_time_over(script) {
                 return false;
-            }
-            if tries % 1024 == 0 {
-                let best = if self.is_better(script) { script } else { &self.best };
-                self.clock.tell(self.attempt, self.given.len(), best.list.len(), best.steps.len());
-                if self.clock.is_over() {
-                    return false;
-                }
             }
             if self.work.log().len() > WANDER + 2 * script.list.len() {
                 self.again(script);
@@ -142,6 +130,12 @@ impl Search<'_> {
             self.try_link(base.0);
         }
         false
+    }
+
+    fn is_time_over(&mut self, script: &Script) -> bool {
+        let best = if self.is_better(script) { script } else { &self.best };
+        self.clock.tell(self.attempt, self.given.len(), best.list.len(), best.steps.len());
+        self.clock.is_over()
     }
 
     /// Goes back to the list that the script ends in.
@@ -155,7 +149,7 @@ impl Search<'_> {
         let (from, to) = self.work.pair(&mut self.random);
         let (first, second) = (self.work.at(from), self.work.at(to));
         let differing = first.differing(second).count_ones() as usize;
-        if !(2..=DIFFERING).contains(&differing) || first.outputs != second.outputs {
+        if !(2..=link::MOST).contains(&differing) || first.outputs != second.outputs {
             return;
         }
         let allowed = i32::from(self.work.cost() <= base && self.random.one_in(UPHILL));

@@ -43,23 +43,28 @@ impl Tidy<'_> {
 
     fn add(&mut self, mut done: Done) {
         done.took = done.took.map(|took| self.name(took));
-        let Some((at, before)) = self.before(&done) else {
+        if self.before(&done).is_none_or(|(at, before)| !self.is_one(at, before, done)) {
             self.steps.push(None);
             self.set(self.steps.len() - 1, done);
-            return;
-        };
+        }
+    }
+
+    /// Whether the step before and this one are none, or one turn; then they are left out, or replaced.
+    fn is_one(&mut self, at: usize, before: Done, done: Done) -> bool {
         if let Some(took) = self.in_order(before.took, done.made) {
-            // what it makes was there before
+            // what is made was there before
             self.steps[at] = None;
             for (made, took) in done.made.into_iter().zip(took).filter(|&(made, _)| made != NO) {
                 self.names[made as usize] = took;
             }
-        } else if done.operation == Operation::Turn && before.operation == Operation::Turn {
-            self.turn(at, before, done);
-        } else {
-            self.steps.push(None);
-            self.set(self.steps.len() - 1, done);
+            return true;
         }
+        let turns = before.operation == Operation::Turn && done.operation == Operation::Turn;
+        if turns {
+            let turn = self.turn(before, done);
+            self.set(at, turn);
+        }
+        turns
     }
 
     /// The step that made just what this one takes.
@@ -76,17 +81,13 @@ impl Tidy<'_> {
         [took, [took[1], took[0]]].into_iter().find(|&took| same(took))
     }
 
-    /// One turn for two.
-    fn turn(&mut self, at: usize, before: Done, done: Done) {
-        let took = before.took.map(|number| self.products[number as usize]);
-        let made = done.made.map(|number| self.products[number as usize]);
-        // the first that is made differs from one of those that were taken in one variable
-        let swapped = took[0].differing(made[0]).count_ones() != 1;
-        let took = if swapped { [before.took[1], before.took[0]] } else { before.took };
-        let variable = self.products[took[0] as usize].differing(made[0]).trailing_zeros();
-        self.set(
-            at,
-            Done { operation: Operation::Turn, variable, took, made: done.made, dearer: before.dearer + done.dearer },
-        );
+    /// One turn for two. The first product that is made differs from one of those that were taken in one variable, from the other in two.
+    fn turn(&self, before: Done, done: Done) -> Done {
+        let differing = |took: u32| self.products[took as usize].differing(self.products[done.made[0] as usize]);
+        let mut took = before.took;
+        if differing(took[0]).count_ones() != 1 {
+            took.reverse();
+        }
+        Done { variable: differing(took[0]).trailing_zeros(), took, dearer: before.dearer + done.dearer, ..done }
     }
 }
