@@ -3,7 +3,7 @@
 
 use crate::link;
 use crate::product::Product;
-use crate::random::Random;
+use crate::random::{Random, mixed};
 use std::collections::HashMap;
 use std::hash::{BuildHasherDefault, Hasher};
 
@@ -26,9 +26,21 @@ impl Hasher for Mixed {
     }
 }
 
-pub struct Pairs {
-    groups: Vec<u32>,
+struct Group {
+    variables: u32,
     buckets: HashMap<u64, Vec<u32>, BuildHasherDefault<Mixed>>,
+}
+
+impl Group {
+    /// The same for products that are equal here and have the same outputs, and else hardly ever.
+    fn key(&self, product: Product) -> u64 {
+        let (seen, value) = (product.seen & self.variables, product.value & self.variables);
+        mixed(u64::from(seen) << 32 | u64::from(value)) ^ u64::from(product.outputs)
+    }
+}
+
+pub struct Pairs {
+    groups: Vec<Group>,
     /// For each slot, where it stands in its bucket of each group.
     stands: Vec<[u32; MOST]>,
 }
@@ -38,48 +50,40 @@ impl Pairs {
     pub fn new(variables: u32, differing: usize, random: &mut Random) -> Pairs {
         let mut order: Vec<u32> = (0..variables).collect();
         random.shuffle(&mut order);
-        let mut groups = vec![0; differing + 1];
-        for (place, variable) in order.into_iter().enumerate() {
-            groups[place % (differing + 1)] |= 1 << variable;
-        }
-        Pairs { groups, buckets: HashMap::default(), stands: Vec::new() }
-    }
-
-    fn key(&self, group: usize, product: Product) -> u64 {
-        let mask = self.groups[group];
-        let cube = u64::from(product.seen & mask) << 32 | u64::from(product.value & mask);
-        let mut key =
-            (cube ^ (group as u64 + 1) << 29 ^ u64::from(product.outputs)).wrapping_mul(0x9e37_79b9_7f4a_7c15);
-        key = (key ^ key >> 29).wrapping_mul(0xbf58_476d_1ce4_e5b9);
-        key ^ key >> 32
+        let dealt =
+            |group: usize| order.iter().skip(group).step_by(differing + 1).fold(0, |all, variable| all | 1 << variable);
+        let groups = (0..=differing).map(|group| Group { variables: dealt(group), buckets: HashMap::default() });
+        Pairs { groups: groups.collect(), stands: Vec::new() }
     }
 
     pub fn add(&mut self, product: Product, slot: u32) {
         if self.stands.len() <= slot as usize {
             self.stands.resize(slot as usize + 1, [0; MOST]);
         }
-        for group in 0..self.groups.len() {
-            let bucket = self.buckets.entry(self.key(group, product)).or_default();
-            self.stands[slot as usize][group] = bucket.len() as u32;
+        for (group, stands) in self.groups.iter_mut().zip(&mut self.stands[slot as usize]) {
+            let bucket = group.buckets.entry(group.key(product)).or_default();
+            *stands = bucket.len() as u32;
             bucket.push(slot);
         }
     }
 
     pub fn remove(&mut self, product: Product, slot: u32) {
-        for group in 0..self.groups.len() {
-            let key = self.key(group, product);
-            let bucket = self.buckets.get_mut(&key).expect("what is present is in a bucket");
-            let stood = self.stands[slot as usize][group] as usize;
+        for (number, group) in self.groups.iter_mut().enumerate() {
+            let key = group.key(product);
+            let bucket = group.buckets.get_mut(&key).expect("what is present is in a bucket");
+            let stood = self.stands[slot as usize][number] as usize;
             bucket.swap_remove(stood);
             if let Some(&moved) = bucket.get(stood) {
-                self.stands[moved as usize][group] = stood as u32;
+                self.stands[moved as usize][number] = stood as u32;
+            } else if bucket.is_empty() {
+                group.buckets.remove(&key);
             }
         }
     }
 
     /// One that is equal to the product in a group, perhaps the product itself.
     pub fn mate(&self, product: Product, random: &mut Random) -> u32 {
-        let group = random.below(self.groups.len());
-        random.pick(&self.buckets[&self.key(group, product)])
+        let group = &self.groups[random.below(self.groups.len())];
+        random.pick(&group.buckets[&group.key(product)])
     }
 }

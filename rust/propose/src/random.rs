@@ -2,6 +2,13 @@
 
 pub struct Random(u64);
 
+/// Another number for each, with no order to be seen.
+pub fn mixed(mut z: u64) -> u64 {
+    z = (z ^ z >> 30).wrapping_mul(0xbf58476d1ce4e5b9);
+    z = (z ^ z >> 27).wrapping_mul(0x94d049bb133111eb);
+    z ^ z >> 31
+}
+
 impl Random {
     pub fn new(seed: u64) -> Random {
         Random(seed)
@@ -9,10 +16,7 @@ impl Random {
 
     fn word(&mut self) -> u64 {
         self.0 = self.0.wrapping_add(0x9e3779b97f4a7c15);
-        let mut z = self.0;
-        z = (z ^ z >> 30).wrapping_mul(0xbf58476d1ce4e5b9);
-        z = (z ^ z >> 27).wrapping_mul(0x94d049bb133111eb);
-        z ^ z >> 31
+        mixed(self.0)
     }
 
     /// A number below `limit`, which is not 0.

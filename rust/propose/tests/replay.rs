@@ -13,7 +13,8 @@ use propose::search::{Search, worth};
 use std::time::Duration;
 
 fn product(random: &mut Random, shape: Shape) -> Product {
-    let mut product = Product { outputs: 1 + random.below((1 << shape.outputs) - 1) as u32, ..Product::default() };
+    let mut product =
+        Product { outputs: 1 + random.below((1_usize << shape.outputs) - 1) as u32, ..Product::default() };
     for variable in 0..shape.variables {
         let code = random.below(3);
         product.seen |= u32::from(code < 2) << variable;
@@ -81,8 +82,8 @@ fn random_lists() {
 #[test]
 fn as_long_as_can_be() {
     let mut random = Random::new(2);
-    for variables in [9, 32] {
-        let shape = Shape { variables, outputs: 1 };
+    for (variables, outputs) in [(9, 1), (32, 1), (4, 32), (32, 32)] {
+        let shape = Shape { variables, outputs };
         let given: Vec<Product> = (0..MOST_PRODUCTS).map(|_| product(&mut random, shape)).collect();
         replay(shape, &given, &proposed(shape, &given, 500));
     }
