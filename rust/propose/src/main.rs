@@ -10,7 +10,7 @@ use std::{env, fs};
 
 const USAGE: &str = "usage: propose [--seconds S] [--patience S] [--seed K] A.pla
        propose --list A.pla
-  --seconds S   search for at most so long (20 if not said)
+  --seconds S   search for at most so long (60 if not said)
   --patience S  give up where nothing shorter is found for so long (10 if not said)
   --seed K      where the generator of random numbers starts (1 if not said)
   --list        print the map as ESOP-PLA, and no script";
@@ -24,7 +24,7 @@ struct Asked {
 }
 
 fn asked(mut words: impl Iterator<Item = String>) -> Option<Asked> {
-    let mut asked = Asked { seconds: 20, patience: 10, seed: 1, list: false, path: String::new() };
+    let mut asked = Asked { seconds: 60, patience: 10, seed: 1, list: false, path: String::new() };
     while let Some(word) = words.next() {
         match word.as_str() {
             "--seconds" => asked.seconds = words.next()?.parse().ok()?,

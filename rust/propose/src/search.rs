@@ -107,7 +107,7 @@ impl Search<'_> {
                 _ if self.clock.is_over() => return (script, End::Stalled),
                 _ => {}
             }
-            if self.is_better(&script) {
+            if worth(self.shape, &script.list) < worth(self.shape, &self.best.list) {
                 self.clock.gained();
             }
             self.again(&script);
