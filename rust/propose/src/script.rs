@@ -125,11 +125,11 @@ impl Script {
         Ok(script)
     }
 
-    /// With the merges that the list it ends in allows, as many as there is room for.
-    pub fn merged(self) -> Script {
+    /// With the merges that the list it ends in allows, at most so many, and as many as there is room for.
+    pub fn merged(self, most: usize) -> Script {
         let numbered: Vec<(u32, Product)> = (0..).zip(self.list.iter().copied()).collect();
         let (steps, made) = merging(&numbered, self.list.len() as u32);
         let products = [self.list.clone(), made].concat();
-        self.then(steps.iter().take(self.room()), &products).unwrap_or(self)
+        self.then(steps.iter().take(most.min(self.room())), &products).unwrap_or(self)
     }
 }

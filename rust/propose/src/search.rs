@@ -84,10 +84,10 @@ impl Search<'_> {
         judged(script) < judged(&self.best)
     }
 
-    /// The best script with its merges, unless others are to come before them.
+    /// The best script with its merges; where others are to come before them, with so many that the list is shorter than the given one.
     fn ended(self, full: bool) -> Script {
-        let shorter = self.best.list.len() < self.given.len();
-        if self.shape.outputs == 1 || full && shorter { self.best } else { self.best.merged() }
+        let merges = if full { (self.best.list.len() + 1).saturating_sub(self.given.len()) } else { usize::MAX };
+        if self.shape.outputs == 1 { self.best } else { self.best.merged(merges) }
     }
 
     fn attempted(&mut self) -> (Script, End) {
