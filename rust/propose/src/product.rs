@@ -44,7 +44,7 @@ impl Product {
         }
     }
 
-    /// Different for different cubes with the same outputs. It is never 1, since the value is within what is seen.
+    /// Different for different cubes with the same outputs, and but by a chance of one in 2^64 for different outputs. Of one output it is never 1, since the value is within what is seen.
     pub fn key(self) -> u64 {
         let cube = u64::from(self.seen) << 32 | u64::from(self.value);
         if self.outputs == 1 { cube } else { cube ^ u64::from(self.outputs).wrapping_mul(0x9e37_79b9_7f4a_7c15) }
