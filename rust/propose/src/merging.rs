@@ -49,12 +49,12 @@ pub fn merging(present: &[(u32, Product)], next: u32) -> (Vec<Done>, Vec<Product
         };
         let took = [first, number];
         if before.outputs == product.outputs {
-            steps.push(Done { operation: Operation::Drop, variable: 0, took, made: [NO; 2], dearer: -2 * WORTH });
+            steps.push(Done { operation: Operation::Drop, variable: 0, took, made: [NO; 2], price: -2 * WORTH });
             last = None;
         } else {
             let merged = Product { outputs: before.outputs ^ product.outputs, ..product };
             let number = next + made.len() as u32;
-            steps.push(Done { operation: Operation::Merge, variable: 0, took, made: [number, NO], dearer: -WORTH });
+            steps.push(Done { operation: Operation::Merge, variable: 0, took, made: [number, NO], price: -WORTH });
             made.push(merged);
             last = Some((number, merged));
         }

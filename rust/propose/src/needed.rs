@@ -93,7 +93,7 @@ pub fn needed(log: &[Done]) -> Vec<bool> {
     let mut network = Network::new(log.len() + 2);
     let mut makers: HashMap<u32, usize> = HashMap::new();
     for (step, done) in log.iter().enumerate() {
-        let profit = -done.dearer - 1;
+        let profit = -done.price - 1;
         if profit > 0 {
             network.add(source, step, profit);
         } else {

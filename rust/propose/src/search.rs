@@ -34,7 +34,7 @@ enum End {
 }
 
 /// What a list is judged by: its cost, and then its products. Of several outputs, products with one cube cost one, since they can be merged.
-pub fn worth(shape: Shape, list: &[Product]) -> (i32, usize) {
+pub fn standing(shape: Shape, list: &[Product]) -> (i32, usize) {
     let cost = if shape.outputs == 1 {
         list.len() - usize::from(list.iter().any(|product| product.is_constant()))
     } else {
@@ -73,14 +73,14 @@ impl Search<'_> {
                 self.best = script;
             }
             let full = better && end == End::Full;
-            if full || self.clock.is_over() || worth(self.shape, &self.best.list).0 <= LEAST {
+            if full || self.clock.is_over() || standing(self.shape, &self.best.list).0 <= LEAST {
                 return self.ended(full);
             }
         }
     }
 
     fn is_better(&self, script: &Script) -> bool {
-        let judged = |script: &Script| (worth(self.shape, &script.list), script.steps.len());
+        let judged = |script: &Script| (standing(self.shape, &script.list), script.steps.len());
         judged(script) < judged(&self.best)
     }
 
@@ -102,12 +102,12 @@ impl Search<'_> {
                 return (script, End::Stalled);
             }
             match self.extended(&script) {
-                Ok(next) if worth(self.shape, &next.list) < worth(self.shape, &script.list) => script = next,
+                Ok(next) if standing(self.shape, &next.list) < standing(self.shape, &script.list) => script = next,
                 Err(Unfit::Steps) if script.steps.len() > LONG => return (script, End::Full),
                 _ if self.clock.is_over() => return (script, End::Stalled),
                 _ => {}
             }
-            if worth(self.shape, &script.list) < worth(self.shape, &self.best.list) {
+            if standing(self.shape, &script.list) < standing(self.shape, &self.best.list) {
                 self.clock.gained();
             }
             self.again(&script);
@@ -116,7 +116,7 @@ impl Search<'_> {
 
     /// Goes on until the list is shorter than the script's; whether it is before the tries or the time are over.
     fn is_shorter_within(&mut self, script: &Script) -> bool {
-        let base = worth(self.shape, &script.list);
+        let base = standing(self.shape, &script.list);
         for tries in 0..STALL {
             if (self.work.cost(), self.work.len()) < base {
                 return true;
@@ -179,7 +179,7 @@ impl Search<'_> {
         let is_own = |done: &Done| done.took.into_iter().chain(done.made).all(|number| number == NO || number < own);
         let kept = log.iter().zip(needed(&log)).filter(|&(done, needed)| needed && is_own(done));
         let mut chosen: Vec<&Done> = kept.map(|(done, _)| done).collect();
-        if script.room() > 0 && chosen.iter().all(|done| done.dearer < 0) {
+        if script.room() > 0 && chosen.iter().all(|done| done.price < 0) {
             chosen.truncate(script.room());
         }
         script.then(chosen.into_iter(), &products)

@@ -88,6 +88,6 @@ impl Tidy<'_> {
         if differing(took[0]).count_ones() != 1 {
             took.reverse();
         }
-        Done { variable: differing(took[0]).trailing_zeros(), took, dearer: before.dearer + done.dearer, ..done }
+        Done { variable: differing(took[0]).trailing_zeros(), took, price: before.price + done.price, ..done }
     }
 }

@@ -30,8 +30,8 @@ pub struct Done {
     pub variable: u32,
     pub took: [u32; 2],
     pub made: [u32; 2],
-    /// By how much the list gets dearer, in steps: what one would do to save it.
-    pub dearer: i64,
+    /// What it adds to the list's worth, in steps: less than 0 where the list gets cheaper.
+    pub price: i64,
 }
 
 /// What a product is worth in steps: more than a script has.
@@ -201,16 +201,16 @@ impl Work {
     /// Notes a step, and numbers what it makes.
     pub fn note(&mut self, operation: Operation, variable: u32, took: [u32; 2], made: &[Product]) -> [u32; 2] {
         let mut numbers = [NO; 2];
-        let mut dearer = 0;
+        let mut price = 0;
         for number in took.into_iter().filter(|&number| number != NO) {
-            dearer -= self.worth(self.products[number as usize]);
+            price -= self.worth(self.products[number as usize]);
         }
         for (number, &product) in numbers.iter_mut().zip(made) {
             *number = self.products.len() as u32;
             self.products.push(product);
-            dearer += self.worth(product);
+            price += self.worth(product);
         }
-        self.log.push(Done { operation, variable, took, made: numbers, dearer });
+        self.log.push(Done { operation, variable, took, made: numbers, price });
         numbers
     }
 

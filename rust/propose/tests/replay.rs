@@ -9,7 +9,7 @@ use propose::pla;
 use propose::product::Product;
 use propose::random::Random;
 use propose::script::{MOST_PRODUCTS, MOST_STEPS, Script, Step};
-use propose::search::{Search, worth};
+use propose::search::{Search, standing};
 use std::time::Duration;
 
 fn product(random: &mut Random, shape: Shape) -> Product {
@@ -56,7 +56,7 @@ fn replay(shape: Shape, given: &[Product], script: &Script) -> Shared {
     assert!(shape.outputs > 1 || steps.iter().all(|step| matches!(step, Whole::Plain(_))));
     let left = shared::run(&as_shared(shape, given), &steps, MOST_PRODUCTS).unwrap().list;
     assert_eq!(left, as_shared(shape, &script.list));
-    assert!(worth(shape, &script.list) <= worth(shape, given));
+    assert!(standing(shape, &script.list) <= standing(shape, given));
     left
 }
 
