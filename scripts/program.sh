@@ -1,6 +1,6 @@
 # shellcheck shell=sh
 # What the scripts that run a program share; they source it with the program in `name` and the repository in `root`.
-program=${root:?}/target/bin/${name:?}
+program=${root:?}/crates/${name:?}/out/$name
 
 # How many crates of crates.txt the program needs, itself included.
 needed() {
@@ -21,14 +21,14 @@ needed() {
         }' "$root/crates.txt"
 }
 
-# Proves and builds the program: a line for each crate, and all else in target/NAME.log.
+# Proves and builds the program: a line for each crate, and all else in target/NAME.log. `rt run` runs it too, once, on no input.
 build() {
     log=$root/target/$name.log
     mkdir -p "$root/target"
     count=$(needed)
     echo "$name: the program isn't built yet; proving its $count crates, which takes some minutes" >&2
-    { (cd "$root" && rt check "$name") 2>&1 && echo "$name: built" || echo "$name: not proved"; } | tee "$log" |
-        awk -v left="$count" -v name="$name" '/^rt: .* proved \(/ { left--; print name ": " $2 " proved, " left " left"; fflush() }' >&2
+    { (cd "$root/crates/$name" && rt run </dev/null 2>&1 >/dev/null) && [ -x "$program" ] && echo "$name: built" || echo "$name: not proved"; } | tee "$log" |
+        awk -v left="$count" -v name="$name" '/^rt: chose --jobs [0-9]+ for / { left--; print name ": proving " $NF ", at most " left " left"; fflush() }' >&2
     if [ "$(tail -n 1 "$log")" != "$name: built" ]; then
         echo "$name: a proof failed; the end of target/$name.log:" >&2
         tail -n 40 "$log" >&2
@@ -50,10 +50,10 @@ enter() {
 
 # Runs the program on standard input, with these arguments, in place of the script.
 run() {
-    if [ "$(uname -m)" = x86_64 ]; then
-        exec "$program" "$@"
+    # The program is for x86-64. Elsewhere an emulator runs it, where there is one, with the C library of the toolchain.
+    if [ "$(uname -m)" != x86_64 ] && command -v qemu-x86_64 >/dev/null; then
+        lib=$(dirname "$(rt doc)")/toolchain/lib
+        exec qemu-x86_64 "$lib/ld-linux-x86-64.so.2" --library-path "$lib" "$program" "$@"
     fi
-    # The program is for x86-64. Elsewhere the toolchain has an emulator, and the C library that the program runs with.
-    tools=$(dirname "$(dirname "$(rt doc)")")/on/$(uname -m)/toolchain
-    exec "$tools/bin/qemu-x86_64" "$tools/lib/ld-linux-x86-64.so.2" --library-path "$tools/lib" "$program" "$@"
+    exec "$program" "$@"
 }

@@ -1,2 +1,4 @@
 // What a call answers and leaves, printed.
+#![tactic(auto)]
+
 pub mod print;

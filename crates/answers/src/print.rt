@@ -3,12 +3,12 @@ ghost use Rattle.io.specs.Counts.{IsPrefixLen};
 
 use cube::{Cube, Valued, list};
 use kronecker::KroneckerList;
-use libc::STDOUT_FILENO;
 use polarity::Best;
 use reasons::Reasoned;
 use records::{Counted, Refusal};
 use rows::data;
 use script::Finished;
+use streams::STDOUT_FILENO;
 use text::cubes;
 use trees::TreeList;
 use writer::Wrote;

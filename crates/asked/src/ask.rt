@@ -4,11 +4,11 @@ ghost use Rattle.selector.specs.Maps.{most_lists};
 
 use crate::{lists, trues};
 use explain::{say, say_number};
-use libc::STDOUT_FILENO;
 use program::label::label_in;
 use reasons::Reasoned;
 use records::Refusal;
 use selector::{MOST_LISTS, MapAnswer};
+use streams::STDOUT_FILENO;
 use text_files::tell;
 
 fn sizes(n: usize, m: usize, products: usize) {

@@ -1,7 +1,7 @@
 // The products of a list that are true at a label, printed.
 use cube::Cube;
 use explain::{say, say_number};
-use libc::STDOUT_FILENO;
+use streams::STDOUT_FILENO;
 use text::cubes::put_cube;
 use text::place::put_byte;
 use text_files::{at_most_32, within};

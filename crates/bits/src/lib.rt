@@ -1,4 +1,6 @@
 // Bits of a number, and numbers as sets of variables.
+#![tactic(auto)]
+
 pub mod packed;
 pub mod packing;
 pub mod word;

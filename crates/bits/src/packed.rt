@@ -6,7 +6,7 @@ ghost use Rattle.bits.specs.Packed.{alone, bit_at, both, summed, without_bits, l
 use crate::{packing, word};
 
 // Four words, the lowest first.
-#[derive(Drop)]
+#[derive(Clone, Copy)]
 pub struct Packed {
     pub a: u64,
     pub b: u64,

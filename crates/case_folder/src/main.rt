@@ -1,4 +1,6 @@
 // `map.cub` is a folder, which can be opened and not read: no file.
-fn main() {
-    map_files::run();
+#![tactic(auto)]
+
+fn main(rt: HostRuntime) {
+    map_files::run(&rt);
 }

@@ -1,4 +1,6 @@
 // A list that has to grow to shrink: three products, then four, then two.
-fn main() {
-    map_files::run();
+#![tactic(auto)]
+
+fn main(rt: HostRuntime) {
+    map_files::run(&rt);
 }

@@ -1,4 +1,6 @@
 // The label's line has no newline, and ends the input.
-fn main() {
-    why_files::run();
+#![tactic(auto)]
+
+fn main(rt: HostRuntime) {
+    why_files::run(&rt);
 }

@@ -1,4 +1,6 @@
 // An empty line: refusal 1, whatever the line after it says.
-fn main() {
-    map_files::run();
+#![tactic(auto)]
+
+fn main(rt: HostRuntime) {
+    map_files::run(&rt);
 }

@@ -1,4 +1,6 @@
 // `map.scr` is missing, and the list is good: no file. The line has no newline.
-fn main() {
-    map_files::run();
+#![tactic(auto)]
+
+fn main(rt: HostRuntime) {
+    map_files::run(&rt);
 }

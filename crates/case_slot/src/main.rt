@@ -1,4 +1,6 @@
 // The slot of a label in the demonstration's map of three bits; the label's line ends the input.
-fn main() {
-    selector_files::run();
+#![tactic(auto)]
+
+fn main(rt: HostRuntime) {
+    selector_files::run(&rt);
 }

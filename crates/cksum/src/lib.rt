@@ -1,4 +1,6 @@
 // The checksum of POSIX's `cksum`.
+#![tactic(auto)]
+
 ghost use Rattle.std.specs.Prelude.{◌≡◌};
 ghost use Rattle.cksum.specs.Cksum.{crc_turn, crc_byte, crc_bytes, length_bytes, checksum};
 

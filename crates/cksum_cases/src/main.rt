@@ -1,5 +1,7 @@
 // The checksums of nothing, of the byte 'a', of "123456789" and of 300 zero bytes, one to a line.
-use libc::STDOUT_FILENO;
+#![tactic(auto)]
+
+use streams::STDOUT_FILENO;
 
 fn print(sum: u32) {
     io::print_decimal(STDOUT_FILENO, sum as u64);

@@ -1,7 +1,7 @@
 // The commands by their names.
 use lines::word::same;
 
-#[derive(Drop)]
+#[derive(Clone, Copy)]
 pub enum Verb {
     Settle,
     Check,

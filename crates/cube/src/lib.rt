@@ -1,4 +1,6 @@
 // Cubes: products of literals by value, as two masks.
+#![tactic(auto)]
+
 pub mod list;
 pub mod record;
 pub mod value;
@@ -11,14 +13,14 @@ ghost use Rattle.cube.specs.Cubes.{mask_bits, code, with_code, one, good, variab
 use records::Refusal;
 
 // Bit k of seen is set where variable k has a literal, and bit k of value holds that literal's code.
-#[derive(Drop)]
+#[derive(Clone, Copy)]
 pub struct Cube {
     pub seen: u32,
     pub value: u32,
 }
 
 // What the value call answers: the bit and the number of true products, or a refusal.
-#[derive(Drop)]
+#[derive(Clone, Copy)]
 pub enum Valued {
     Bit(u8, usize),
     Refused(Refusal),

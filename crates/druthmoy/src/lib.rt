@@ -1,4 +1,6 @@
-// The calls for C and Rust: a slice passes as a pointer and a length, and every answer is eight words.
+// The calls that crate druthmoy_c exports for C and Rust: every answer is eight words.
+#![tactic(auto)]
+
 pub mod maps;
 
 ghost use Rattle.std.specs.Prelude.{◌≡◌, length, get_or};
@@ -24,8 +26,7 @@ ghost use Rattle.druthmoy.specs.Faces.{words, settled_words, with_start, starts_
 use index::GROUPS;
 
 // Checking a list. Values: its count.
-#[unsafe(no_mangle)]
-pub extern "C" fn dm_check(n: u64, list: &[u8], answer: &mut [u64; 8])
+pub fn dm_check(n: u64, list: &[u8], answer: &mut [u64; 8])
     ensures { answer.new ≡ words (check_list most_variables n list.now) }
 {
     let counted = cube::list::check(n as usize, list);
@@ -33,8 +34,7 @@ pub extern "C" fn dm_check(n: u64, list: &[u8], answer: &mut [u64; 8])
 }
 
 // The value of a list at the assignment a. Values: the bit and the number of true products.
-#[unsafe(no_mangle)]
-pub extern "C" fn dm_value(n: u64, list: &[u8], a: u64, answer: &mut [u64; 8])
+pub fn dm_value(n: u64, list: &[u8], a: u64, answer: &mut [u64; 8])
     ensures { answer.new ≡ words (value_outcome n list.now a) }
 {
     let valued = cube::value::value(n as usize, list, a);
@@ -42,8 +42,7 @@ pub extern "C" fn dm_value(n: u64, list: &[u8], a: u64, answer: &mut [u64; 8])
 }
 
 // The places of the products of a list that are true at the assignment a. Values: their number and the bit.
-#[unsafe(no_mangle)]
-pub extern "C" fn dm_reasons(n: u64, list: &[u8], a: u64, out: &mut [u8], answer: &mut [u64; 8])
+pub fn dm_reasons(n: u64, list: &[u8], a: u64, out: &mut [u8], answer: &mut [u64; 8])
     ensures answer_after { answer.new ≡ words (reasons_outcome n list.now a (length out.old)) }
     ensures out_after { out.new ≡ reasons_after n list.now a out.old }
 {
@@ -52,8 +51,7 @@ pub extern "C" fn dm_reasons(n: u64, list: &[u8], a: u64, out: &mut [u8], answer
 }
 
 // The truth vector of a list. Values: 2^n.
-#[unsafe(no_mangle)]
-pub extern "C" fn dm_truth_vector(n: u64, list: &[u8], out: &mut [u8], answer: &mut [u64; 8])
+pub fn dm_truth_vector(n: u64, list: &[u8], out: &mut [u8], answer: &mut [u64; 8])
     ensures answer_after { answer.new ≡ words (vector_outcome n list.now (length out.old)) }
     ensures out_after { out.new ≡ vector_after n list.now out.old }
 {
@@ -62,14 +60,7 @@ pub extern "C" fn dm_truth_vector(n: u64, list: &[u8], out: &mut [u8], answer: &
 }
 
 // The coefficients of a truth vector under the polarity p. Values: 2^n.
-#[unsafe(no_mangle)]
-pub extern "C" fn dm_coefficients(
-    n: u64,
-    vector: &[u8],
-    p: u64,
-    out: &mut [u8],
-    answer: &mut [u64; 8],
-)
+pub fn dm_coefficients(n: u64, vector: &[u8], p: u64, out: &mut [u8], answer: &mut [u64; 8])
     ensures answer_after { answer.new ≡ words (coefficients_outcome n vector.now p (length out.old)) }
     ensures out_after { out.new ≡ coefficients_after n vector.now p out.old }
 {
@@ -78,14 +69,7 @@ pub extern "C" fn dm_coefficients(
 }
 
 // The truth vector of coefficients under the polarity p. Values: 2^n.
-#[unsafe(no_mangle)]
-pub extern "C" fn dm_vector(
-    n: u64,
-    coefficients: &[u8],
-    p: u64,
-    out: &mut [u8],
-    answer: &mut [u64; 8],
-)
+pub fn dm_vector(n: u64, coefficients: &[u8], p: u64, out: &mut [u8], answer: &mut [u64; 8])
     ensures answer_after { answer.new ≡ words (coefficients_outcome n coefficients.now p (length out.old)) }
     ensures out_after { out.new ≡ back_after n coefficients.now p out.old }
 {
@@ -94,14 +78,7 @@ pub extern "C" fn dm_vector(
 }
 
 // The list of a form from its coefficients under the polarity p. Values: its count.
-#[unsafe(no_mangle)]
-pub extern "C" fn dm_write_form(
-    n: u64,
-    coefficients: &[u8],
-    p: u64,
-    out: &mut [u8],
-    answer: &mut [u64; 8],
-)
+pub fn dm_write_form(n: u64, coefficients: &[u8], p: u64, out: &mut [u8], answer: &mut [u64; 8])
     ensures answer_after { answer.new ≡ words (form_outcome n coefficients.now p (length out.old)) }
     ensures out_after { out.new ≡ form_after n coefficients.now p out.old }
 {
@@ -110,8 +87,7 @@ pub extern "C" fn dm_write_form(
 }
 
 // The best polarity of a truth vector. Values: it and its size.
-#[unsafe(no_mangle)]
-pub extern "C" fn dm_best_polarity(n: u64, vector: &[u8], answer: &mut [u64; 8])
+pub fn dm_best_polarity(n: u64, vector: &[u8], answer: &mut [u64; 8])
     ensures { answer.new ≡ words (best_outcome n vector.now) }
 {
     let best = polarity::choose::best_polarity(n as usize, vector);
@@ -119,8 +95,7 @@ pub extern "C" fn dm_best_polarity(n: u64, vector: &[u8], answer: &mut [u64; 8])
 }
 
 // The list of a truth vector's cheapest tree. Values: its products and its cost.
-#[unsafe(no_mangle)]
-pub extern "C" fn dm_write_tree(n: u64, vector: &[u8], out: &mut [u8], answer: &mut [u64; 8])
+pub fn dm_write_tree(n: u64, vector: &[u8], out: &mut [u8], answer: &mut [u64; 8])
     ensures answer_after { answer.new ≡ words (tree_outcome n vector.now (length out.old)) }
     ensures out_after { out.new ≡ tree_after n vector.now out.old }
 {
@@ -129,8 +104,7 @@ pub extern "C" fn dm_write_tree(n: u64, vector: &[u8], out: &mut [u8], answer: &
 }
 
 // The list of a truth vector's cheapest choice of one expansion for each variable. Values: its cost, the choice and its products.
-#[unsafe(no_mangle)]
-pub extern "C" fn dm_write_kronecker(n: u64, vector: &[u8], out: &mut [u8], answer: &mut [u64; 8])
+pub fn dm_write_kronecker(n: u64, vector: &[u8], out: &mut [u8], answer: &mut [u64; 8])
     ensures answer_after { answer.new ≡ words (kronecker_outcome n vector.now (length out.old)) }
     ensures out_after { out.new ≡ kronecker_after n vector.now out.old }
 {
@@ -139,8 +113,7 @@ pub extern "C" fn dm_write_kronecker(n: u64, vector: &[u8], out: &mut [u8], answ
 }
 
 // Runs a script on a list. Values: the count and the peak.
-#[unsafe(no_mangle)]
-pub extern "C" fn dm_run(n: u64, list: &[u8], script: &[u8], work: &mut [u8], answer: &mut [u64; 8])
+pub fn dm_run(n: u64, list: &[u8], script: &[u8], work: &mut [u8], answer: &mut [u64; 8])
     ensures answer_after { answer.new ≡ words (run_outcome n list.now script.now (length work.old)) }
     ensures work_after { work.new ≡ run_after n list.now script.now work.old }
 {
@@ -149,8 +122,7 @@ pub extern "C" fn dm_run(n: u64, list: &[u8], script: &[u8], work: &mut [u8], an
 }
 
 // The index of a list by number of literals. Values: its count. The starts are written where it is accepted.
-#[unsafe(no_mangle)]
-pub extern "C" fn dm_index(
+pub fn dm_index(
     n: u64,
     list: &[u8],
     index: &mut [u8],
@@ -166,8 +138,7 @@ pub extern "C" fn dm_index(
 }
 
 // The group of a number in a lent index. Values: how many entries its run has, and the entry that it begins at.
-#[unsafe(no_mangle)]
-pub extern "C" fn dm_group(
+pub fn dm_group(
     n: u64,
     list: &[u8],
     index: &[u8],
@@ -184,8 +155,7 @@ pub extern "C" fn dm_group(
 }
 
 // Runs a script on a list and keeps an index for the work list. Values: the count and the peak. The starts are written where the run came to the steps.
-#[unsafe(no_mangle)]
-pub extern "C" fn dm_run_indexed(
+pub fn dm_run_indexed(
     n: u64,
     list: &[u8],
     script: &[u8],
@@ -210,8 +180,7 @@ pub extern "C" fn dm_run_indexed(
 }
 
 // Writes the easy script of a list. Values: the number of its steps, and 1 where no pair is left, else 0.
-#[unsafe(no_mangle)]
-pub extern "C" fn dm_write_script(
+pub fn dm_write_script(
     n: u64,
     list: &[u8],
     work: &mut [u8],
@@ -227,14 +196,7 @@ pub extern "C" fn dm_write_script(
 }
 
 // Compacts a script, for lists of so many products. Values: the number of steps left.
-#[unsafe(no_mangle)]
-pub extern "C" fn dm_compact(
-    n: u64,
-    count: u64,
-    script: &[u8],
-    out: &mut [u8],
-    answer: &mut [u64; 8],
-)
+pub fn dm_compact(n: u64, count: u64, script: &[u8], out: &mut [u8], answer: &mut [u64; 8])
     ensures answer_after { answer.new ≡ words (compact_outcome n count script.now (length out.old)) }
     ensures out_after { out.new ≡ compact_after n count script.now out.old }
 {
@@ -243,8 +205,7 @@ pub extern "C" fn dm_compact(
 }
 
 // Settles a map. Values: given, peak, the script's count, the best polarity and its size (both all ones above 8 variables), burned.
-#[unsafe(no_mangle)]
-pub extern "C" fn dm_settle(
+pub fn dm_settle(
     n: u64,
     list: &[u8],
     script: &[u8],
@@ -261,8 +222,7 @@ pub extern "C" fn dm_settle(
 }
 
 // Wide from narrow: an old list of 4-byte records as a list of 8-byte records. Values: its count.
-#[unsafe(no_mangle)]
-pub extern "C" fn dm_wide_from_narrow(n: u64, list: &[u8], out: &mut [u8], answer: &mut [u64; 8])
+pub fn dm_wide_from_narrow(n: u64, list: &[u8], out: &mut [u8], answer: &mut [u64; 8])
     ensures answer_after { answer.new ≡ words (wide_outcome n list.now (length out.old)) }
     ensures out_after { out.new ≡ wide_after n list.now out.old }
 {
@@ -271,8 +231,7 @@ pub extern "C" fn dm_wide_from_narrow(n: u64, list: &[u8], out: &mut [u8], answe
 }
 
 // Narrow from wide: a list of at most 16 variables as a list of 4-byte records. Values: its count.
-#[unsafe(no_mangle)]
-pub extern "C" fn dm_narrow_from_wide(n: u64, list: &[u8], out: &mut [u8], answer: &mut [u64; 8])
+pub fn dm_narrow_from_wide(n: u64, list: &[u8], out: &mut [u8], answer: &mut [u64; 8])
     ensures answer_after { answer.new ≡ words (narrow_outcome n list.now (length out.old)) }
     ensures out_after { out.new ≡ narrow_after n list.now out.old }
 {
@@ -281,8 +240,7 @@ pub extern "C" fn dm_narrow_from_wide(n: u64, list: &[u8], out: &mut [u8], answe
 }
 
 // Checking a list of shared products. Values: its count.
-#[unsafe(no_mangle)]
-pub extern "C" fn dm_shared_check(n: u64, list: &[u8], answer: &mut [u64; 8])
+pub fn dm_shared_check(n: u64, list: &[u8], answer: &mut [u64; 8])
     ensures { answer.new ≡ words (check_shared n list.now) }
 {
     let counted = shared::list::check(n as usize, list);
@@ -290,8 +248,7 @@ pub extern "C" fn dm_shared_check(n: u64, list: &[u8], answer: &mut [u64; 8])
 }
 
 // The values of all outputs of a list of shared products at the assignment a. Values: one word, bit k for output k.
-#[unsafe(no_mangle)]
-pub extern "C" fn dm_shared_value(n: u64, list: &[u8], a: u64, answer: &mut [u64; 8])
+pub fn dm_shared_value(n: u64, list: &[u8], a: u64, answer: &mut [u64; 8])
     ensures { answer.new ≡ words (word_outcome n list.now a) }
 {
     let worded = shared::value::value(n as usize, list, a);
@@ -299,14 +256,7 @@ pub extern "C" fn dm_shared_value(n: u64, list: &[u8], a: u64, answer: &mut [u64
 }
 
 // Runs a script on a list of shared products. Values: the count and the peak.
-#[unsafe(no_mangle)]
-pub extern "C" fn dm_shared_run(
-    n: u64,
-    list: &[u8],
-    script: &[u8],
-    work: &mut [u8],
-    answer: &mut [u64; 8],
-)
+pub fn dm_shared_run(n: u64, list: &[u8], script: &[u8], work: &mut [u8], answer: &mut [u64; 8])
     ensures answer_after { answer.new ≡ words (shared_run_outcome n list.now script.now (length work.old)) }
     ensures work_after { work.new ≡ shared_run_after n list.now script.now work.old }
 {
@@ -315,8 +265,7 @@ pub extern "C" fn dm_shared_run(
 }
 
 // Settles a list of shared products. Values: given, peak, the script's count, burned.
-#[unsafe(no_mangle)]
-pub extern "C" fn dm_shared_settle(
+pub fn dm_shared_settle(
     n: u64,
     list: &[u8],
     script: &[u8],

@@ -6,8 +6,7 @@ ghost use Rattle.druthmoy.specs.Faces.{map_words, SettleFaced, ReasonsFaced};
 use selector::MOST_LISTS;
 
 // The slot of a label in a map. Values: the slot number.
-#[unsafe(no_mangle)]
-pub extern "C" fn dm_slot(n: u64, lists: &[u8], lengths: &[u64], a: u64, answer: &mut [u64; 8])
+pub fn dm_slot(n: u64, lists: &[u8], lengths: &[u64], a: u64, answer: &mut [u64; 8])
     ensures { answer.new ≡ map_words (slot_outcome n lists.now lengths.now a) }
 {
     let told = selector::slot::slot(n as usize, lists, lengths, a);
@@ -15,8 +14,7 @@ pub extern "C" fn dm_slot(n: u64, lists: &[u8], lengths: &[u64], a: u64, answer:
 }
 
 // Settles a map, each list with its own script. Values: the total cost. The lengths of the burned lists are written like the buffers.
-#[unsafe(no_mangle)]
-pub extern "C" fn dm_settle_map(
+pub fn dm_settle_map(
     n: u64,
     lists: &[u8],
     lengths: &[u64],
@@ -44,8 +42,7 @@ pub extern "C" fn dm_settle_map(
 }
 
 // The reasons of a map at a label. Values: the slot number. The number of true products of each list is written like the output.
-#[unsafe(no_mangle)]
-pub extern "C" fn dm_map_reasons(
+pub fn dm_map_reasons(
     n: u64,
     lists: &[u8],
     lengths: &[u64],

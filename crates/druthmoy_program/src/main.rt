@@ -1,4 +1,6 @@
 // Maps and scripts as text: settled, asked, made and packed, by the program's arguments.
-fn main() {
-    commands::run();
+#![tactic(auto)]
+
+fn main(rt: HostRuntime) {
+    commands::run(&rt);
 }

@@ -1,4 +1,5 @@
 // What a refusal's number says, in words, written to a file descriptor.
+#![tactic(auto)]
 
 // A text.
 pub fn say(fd: i32, t: &[u8]) {

@@ -1,4 +1,6 @@
 // The rows whose calls take a vector or coefficients: the call made, and its answer printed.
+#![tactic(auto)]
+
 use answers::print;
 use kronecker::choice;
 use polarity::{choose, form, transform, vector};

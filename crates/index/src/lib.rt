@@ -1,4 +1,6 @@
 // The index of a list by number of literals: its places, ordered by number of literals and then by place, with the start of each group.
+#![tactic(auto)]
+
 pub mod build;
 mod count;
 pub mod group;
@@ -9,7 +11,7 @@ use records::Counted;
 pub const GROUPS: usize = 33;
 
 // What the build answers: the count, with the start of each group, counted in entries; or a refusal, and then each start is 0.
-#[derive(Drop)]
+#[derive(Clone, Copy)]
 pub struct Indexed {
     pub answer: Counted,
     pub starts: [u64; GROUPS],

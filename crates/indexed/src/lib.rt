@@ -1,4 +1,6 @@
 // Running a script with an index by number of literals kept up beside the work list.
+#![tactic(auto)]
+
 ghost use Rattle.std.specs.Prelude.{◌≡◌, true, map, ◌*◌, ◌/◌, ◌≤◌, ◌<◌, length};
 ghost use Rattle.bits.specs.Sums.{All};
 ghost use Rattle.records.specs.Records.{Held, records, list_of, image};
@@ -32,7 +34,7 @@ const NO_STARTS: [u64; GROUPS] = [0; GROUPS];
 
 // What a run with an index answers: whether it came to the steps, since a refusal before the first one has written nothing; what run answers; and the start
 // of each group at the end, each 0 where the run is refused.
-#[derive(Drop)]
+#[derive(Clone, Copy)]
 pub struct IndexedRun {
     pub begun: bool,
     pub answer: Finished,

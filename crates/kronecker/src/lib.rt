@@ -1,4 +1,6 @@
 // Kronecker lists of truth vectors: one expansion, Shannon, positive Davio or negative Davio, for each variable.
+#![tactic(auto)]
+
 pub mod choice;
 mod search;
 mod table;
@@ -6,7 +8,7 @@ mod table;
 use records::Refusal;
 
 // A choice of expansions, its cost and its products.
-#[derive(Drop)]
+#[derive(Clone, Copy)]
 pub struct Found {
     pub cost: usize,
     pub choice: usize,
@@ -14,7 +16,7 @@ pub struct Found {
 }
 
 // What writing a Kronecker list answers: its cost, its choice and its products, or a refusal.
-#[derive(Drop)]
+#[derive(Clone, Copy)]
 pub enum KroneckerList {
     Written(usize, usize, usize),
     Refused(Refusal),

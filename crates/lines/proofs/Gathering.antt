@@ -7,7 +7,7 @@ use Prim.Native.Nat.{ℕ, ◌+◌, ◌-◌, ◌≤◌, ◌<◌}
 use native.Mathlib.Omega.{arith}
 use lib.ListN.{length, take, drop, length-append}
 use borrow.Author.Tests.{lt-ltb, le-ltb, le-leb, lt-leb}
-use Rattle.bytes.specs.Bytes.{index_of}
+use Rattle.lines.specs.Bytes.{index_of}
 use Rattle.lines.specs.Lines.{newline, lines}
 use Rattle.lines.specs.Gathering.{most_text, Says, knows, has, over, bad, before, ended, refused_by, by_line, through, gathered}
 use Rattle.lines.proofs.Lines.{line_end_within, lines_at, lines_past}

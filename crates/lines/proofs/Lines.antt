@@ -10,7 +10,7 @@ use lib.Dec.{eqb}
 use lib.ListN.{length, take, drop, drop_of_length-le, length-drop}
 use lib.Seq.{take-length, length-take-le, drop-drop}
 use Rattle.io.specs.Counts.{IsPrefixLen}
-use Rattle.bytes.specs.Bytes.{index_of, index_after, slice}
+use Rattle.lines.specs.Bytes.{index_of, index_after, slice}
 use Rattle.lines.specs.Lines.{newline, begun, lines}
 
 -- ---- where a byte first stands

@@ -14,7 +14,7 @@ use borrow.Author.Tests.{eq-eqb, ne_eqb, not-true}
 use Rattle.bits.specs.Sums.{All}
 use Rattle.bits.proofs.Bools.{both_true}
 use Rattle.bits.proofs.Sums.{all_append, all_each}
-use Rattle.bytes.specs.Bytes.{index_after, index_of}
+use Rattle.lines.specs.Bytes.{index_after, index_of}
 use Rattle.text.specs.declared.ReadNumber.TheVariants as number_is
 use Rattle.text.specs.Blanks.{blank, blanks, past_blanks}
 use Rattle.text.specs.Numbers.{decimal_by, decimal}

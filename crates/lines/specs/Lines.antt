@@ -1,7 +1,7 @@
 -- A text as lines: docs/TEXTS.md, "Lines".
 -- Assumes nothing.
 use Rattle.std.specs.Prelude.{cond, List, [], ◌∷◌, ℕ, eqb, take}
-use Rattle.bytes.specs.Bytes.{index_of}
+use Rattle.lines.specs.Bytes.{index_of}
 
 abbrev pub newline : ℕ
 newline = 10

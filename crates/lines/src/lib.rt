@@ -1,4 +1,6 @@
 // A text as lines, and a line as words: what stands before a comment, and between blanks.
+#![tactic(auto)]
+
 pub mod line;
 pub mod word;
 
@@ -6,7 +8,7 @@ pub mod word;
 pub const MOST_TEXT: usize = 1048576;
 
 // What a line says that should say one number: the number, or none.
-#[derive(Drop)]
+#[derive(Clone, Copy)]
 pub enum Said {
     Number(usize),
     Nothing,

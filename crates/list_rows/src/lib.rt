@@ -1,4 +1,6 @@
 // The rows whose calls take a list or a script: the call made, and its answer printed.
+#![tactic(auto)]
+
 mod starts;
 pub mod with_index;
 

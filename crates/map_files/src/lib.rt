@@ -1,4 +1,6 @@
 // Settling a map from its files: the number of variables from a line, the list and the script from files; the counts and the burned list are printed.
+#![tactic(auto)]
+
 mod print;
 
 ghost use Rattle.std.specs.Prelude.{◌≤◌};
@@ -8,6 +10,7 @@ use program::line::Line;
 use program::{file, line};
 use records::{Counted, Refusal};
 use settling::Settled;
+use std::rt::Files;
 
 // Bytes of the work buffer, and of the output.
 const BUFFER_BYTES: usize = cube::list::RECORD_WIDTH * cube::list::MOST_RECORDS;
@@ -30,11 +33,11 @@ fn burn(n: usize, list: &[u8], script: &[u8])
 }
 
 // The script read, once the list has passed.
-fn load_script(n: usize, list: &[u8], path: &[u8])
+fn load_script(rt: &impl Files, n: usize, list: &[u8], path: &[u8])
     requires { n ≤ most_variables }
 {
     let mut script = [0u8; file::SCRIPT_BYTES];
-    let s = file::load(path, &mut script);
+    let s = file::load(rt, path, &mut script);
     if !s.found {
         program::print::no_file();
         return;
@@ -44,11 +47,11 @@ fn load_script(n: usize, list: &[u8], path: &[u8])
 }
 
 // The list read and tested, before the script is looked for.
-fn load_list(n: usize, list_path: &[u8], script_path: &[u8])
+fn load_list(rt: &impl Files, n: usize, list_path: &[u8], script_path: &[u8])
     requires { n ≤ most_variables }
 {
     let mut list = [0u8; file::LIST_BYTES];
-    let l = file::load(list_path, &mut list);
+    let l = file::load(rt, list_path, &mut list);
     if !l.found {
         program::print::no_file();
         return;
@@ -59,26 +62,26 @@ fn load_list(n: usize, list_path: &[u8], script_path: &[u8])
             program::print::refusal(r);
         }
         Counted::Count(_) => {
-            load_script(n, &list[..count], script_path);
+            load_script(rt, n, &list[..count], script_path);
         }
     }
 }
 
 // The map of a line and of two files that are named: the line, then the list, then the script.
-pub fn settle_named(line: &[u8], list_path: &[u8], script_path: &[u8]) {
+pub fn settle_named(rt: &impl Files, line: &[u8], list_path: &[u8], script_path: &[u8]) {
     match line::variables_in(line) {
         Line::Bad => {
             program::print::refusal(Refusal::new(1, 0));
         }
         Line::Number(n) => {
-            load_list(n, list_path, script_path);
+            load_list(rt, n, list_path, script_path);
         }
     }
 }
 
 // The program: the line of standard input, `map.cub` and `map.scr`.
-pub fn run() {
+pub fn run(rt: &impl Files) {
     let mut bytes = [0u8; line::VARIABLE_BYTES];
     let count = line::read(&mut bytes);
-    settle_named(&bytes[..count], b"map.cub", b"map.scr");
+    settle_named(rt, &bytes[..count], b"map.cub", b"map.scr");
 }

@@ -8,7 +8,7 @@ use rows::{data, head};
 use text::{ReadNumber, number};
 
 // How many lengths there are, how many bytes the parts have together, and the place after them.
-#[derive(Drop)]
+#[derive(Clone, Copy)]
 pub(crate) struct Parts {
     pub count: usize,
     pub end: usize,
@@ -16,7 +16,7 @@ pub(crate) struct Parts {
 }
 
 // How many lengths stand in the row in place of those of the parts, and the place after them.
-#[derive(Drop)]
+#[derive(Clone, Copy)]
 struct Lengths {
     count: usize,
     p: usize,

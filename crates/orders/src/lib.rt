@@ -1,4 +1,6 @@
 // Literal codes by themselves: the third of two codes, by arithmetic, and the six orders of the codes 0, 1, 2, each rule of theirs a small constant table.
+#![tactic(auto)]
+
 ghost use Rattle.std.specs.Prelude.{◌≡◌};
 ghost use Rattle.orders.specs.Codes.{third_of};
 ghost use Rattle.orders.specs.Orders.{code_after, follow, inverse, letter_order};

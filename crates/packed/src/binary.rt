@@ -3,27 +3,18 @@ use command_words::verb::Verb;
 use program::line::Line;
 use program::{file, line};
 use records::{Counted, Refusal};
+use std::rt::Files;
 use text_files::{buffers, eights, show, tell};
 
 // Bytes written to a file of this name, in place of what it had.
-pub fn pack(list: &[u8], path: &[u8], err: i32) {
-    let fd = os::open_overwrite(path);
-    if fd < 0 {
-        tell::not_written(err, path);
-        return;
-    }
-    let whole = io::write_all(fd, list);
-    if libc::close(fd) != 0 {
-        tell::not_written(err, path);
-        return;
-    }
-    if !whole {
+pub fn pack(rt: &impl Files, list: &[u8], path: &[u8], err: i32) {
+    if !file::save(rt, path, list) {
         tell::not_written(err, path);
     }
 }
 
 // The same in old records, of 4 bytes.
-pub fn pack_narrow(n: usize, list: &[u8], a: &[u8], path: &[u8], err: i32) {
+pub fn pack_narrow(rt: &impl Files, n: usize, list: &[u8], a: &[u8], path: &[u8], err: i32) {
     let mut narrow = buffers::cubes();
     match converters::narrow_from_wide::narrow_from_wide(n, list, &mut narrow) {
         Counted::Refused(r) => {
@@ -31,7 +22,7 @@ pub fn pack_narrow(n: usize, list: &[u8], a: &[u8], path: &[u8], err: i32) {
         }
         Counted::Count(count) => {
             let end = text_files::fours(count, &narrow);
-            pack(&narrow[..end], path, err);
+            pack(rt, &narrow[..end], path, err);
         }
     }
 }
@@ -97,9 +88,9 @@ fn of_shared(n: usize, list: &[u8], path: &[u8], err: i32) {
 }
 
 // The list of a file of records, as text.
-fn of_file(verb: Verb, n: usize, path: &[u8], err: i32) {
+fn of_file(rt: &impl Files, verb: Verb, n: usize, path: &[u8], err: i32) {
     let mut list = buffers::packed();
-    let l = file::load(path, &mut list);
+    let l = file::load(rt, path, &mut list);
     if !l.found {
         tell::no_file(err, path);
         return;
@@ -113,13 +104,13 @@ fn of_file(verb: Verb, n: usize, path: &[u8], err: i32) {
 }
 
 // The same, where the number of variables is a word.
-pub fn unpack(verb: Verb, variables: &[u8], path: &[u8], err: i32) {
+pub fn unpack(rt: &impl Files, verb: Verb, variables: &[u8], path: &[u8], err: i32) {
     match line::variables_in(variables) {
         Line::Bad => {
             tell::whole(err, path, Refusal::new(1, 0));
         }
         Line::Number(n) => {
-            of_file(verb, n, path, err);
+            of_file(rt, verb, n, path, err);
         }
     }
 }

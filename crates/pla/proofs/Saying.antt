@@ -8,7 +8,7 @@ use native.Mathlib.Omega.{arith}
 use lib.ListN.{length, get_or, take, drop, length-drop}
 use lib.Seq.{take_all}
 use borrow.Author.Tests.{not-true, not-false, lt-leb, le-leb, eq-eqb, ne_eqb}
-use Rattle.bytes.specs.Bytes.{index_of}
+use Rattle.lines.specs.Bytes.{index_of}
 use Rattle.shared.specs.declared.Shared.{Shared}
 use Rattle.lines.specs.declared.Said.{Said}
 use Rattle.lines.specs.declared.Said.TheVariants as said_is

@@ -1,4 +1,6 @@
 // Maps as text, in ESOP-PLA: read as a list of shared products.
+#![tactic(auto)]
+
 pub mod names;
 pub mod product;
 pub mod read;
@@ -8,7 +10,7 @@ use shared::Shared;
 
 // What the lines of a text have said so far: the number of inputs, of outputs and of products, each UNSAID until it is said; whether the type is; at which line the number of
 // products was stated; and how many products there were.
-#[derive(Drop)]
+#[derive(Clone, Copy)]
 pub struct Header {
     pub inputs: usize,
     pub outputs: usize,
@@ -19,7 +21,7 @@ pub struct Header {
 }
 
 // What a line says: something to know, or nothing; a product; that the text ends; or it is refused, by a number.
-#[derive(Drop)]
+#[derive(Clone, Copy)]
 pub enum Line {
     Knows(Header),
     Has(Header, Shared),
@@ -28,14 +30,14 @@ pub enum Line {
 }
 
 // A product as its line spells it, or a line that is none.
-#[derive(Drop)]
+#[derive(Clone, Copy)]
 pub enum Spelt {
     Product(Shared),
     Wrong,
 }
 
 // What the reader answers: the inputs, the outputs and how many products are in some output; or a refusal, whose place is the line.
-#[derive(Drop)]
+#[derive(Clone, Copy)]
 pub enum ReadPla {
     Read(usize, usize, usize),
     Refused(Refusal),

@@ -1,4 +1,6 @@
 // A map written out.
+#![tactic(auto)]
+
 ghost use Rattle.std.specs.Prelude.{◌≡◌, cond, eqb};
 ghost use Rattle.records.specs.Records.{flat};
 ghost use Rattle.shared.specs.SharedRecord.{shares_of};

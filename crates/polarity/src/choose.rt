@@ -12,7 +12,7 @@ use bits::{packing, word};
 use records::Counted;
 
 // A polarity and the rank of its form.
-#[derive(Drop)]
+#[derive(Clone, Copy)]
 struct Chosen {
     polarity: usize,
     rank: usize,

@@ -6,14 +6,14 @@ ghost use Rattle.program.specs.Lines.{line_number, variables_line};
 use text::{ReadNumber, number};
 
 // What a line says: a number, or nothing that is one.
-#[derive(Drop)]
+#[derive(Clone, Copy)]
 pub enum Line {
     Number(usize),
     Bad,
 }
 
 // The next byte of a line, or its end: a newline, or no byte.
-#[derive(Drop)]
+#[derive(Clone, Copy)]
 enum Next {
     Byte(u8),
     End,
@@ -29,7 +29,7 @@ pub const VARIABLE_BYTES: usize = VARIABLE_DIGITS + 1;
 
 fn next_byte() -> Next {
     let mut byte = [0u8; 1];
-    let got = io::read_full(libc::STDIN_FILENO, &mut byte);
+    let got = io::read_full(streams::STDIN_FILENO, &mut byte);
     if got == 0 {
         return Next::End;
     }

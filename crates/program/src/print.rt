@@ -5,8 +5,8 @@ ghost use Rattle.cube.specs.Lists.{most_variables};
 ghost use Rattle.text.specs.Cubes.{cube_text};
 
 use cube::Cube;
-use libc::STDOUT_FILENO;
 use records::Refusal;
+use streams::STDOUT_FILENO;
 
 // A cube's characters and its newline.
 const LINE_BYTES: usize = cube::list::MOST_VARIABLES + 1;

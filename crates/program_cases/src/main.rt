@@ -1,9 +1,13 @@
 // Cases of the programs, a row each in the file `cases`, with a bar between its parts: `settle`, the line, the list's file and the script's file; or `why`, the
 // line, the label's line and the list's file; or `selector`, the line, the label's line and the folder of the map. Each row is printed, and after it what that
 // program prints for it: nothing, where no program has the name. A row that begins with `#` is a remark.
+#![tactic(auto)]
+
 ghost use Rattle.std.specs.Prelude.{◌≤◌, length};
 
-use libc::STDOUT_FILENO;
+use program::file;
+use std::rt::Files;
+use streams::STDOUT_FILENO;
 
 const NEWLINE: u8 = 10;
 
@@ -38,20 +42,20 @@ fn past(text: &[u8], p: usize) -> usize
 }
 
 // What the program of a name prints for its line and the two parts after it.
-fn program(name: &[u8], line: &[u8], second: &[u8], third: &[u8]) {
+fn program(rt: &impl Files, name: &[u8], line: &[u8], second: &[u8], third: &[u8]) {
     if check::same(name, b"settle") {
-        map_files::settle_named(line, second, third);
+        map_files::settle_named(rt, line, second, third);
     }
     if check::same(name, b"why") {
-        why_files::why_named(line, second, third);
+        why_files::why_named(rt, line, second, third);
     }
     if check::same(name, b"selector") {
-        selector_files::selector_named(line, second, third);
+        selector_files::selector_named(rt, line, second, third);
     }
 }
 
 // What is printed for the four parts of a row.
-fn case(row: &[u8]) {
+fn case(rt: &impl Files, row: &[u8]) {
     let start: usize = 0;
     let a = find(row, start, BAR);
     let b = past(row, a);
@@ -59,11 +63,11 @@ fn case(row: &[u8]) {
     let d = past(row, c);
     let e = find(row, d, BAR);
     let f = past(row, e);
-    program(&row[start..a], &row[b..c], &row[d..e], &row[f..]);
+    program(rt, &row[start..a], &row[b..c], &row[d..e], &row[f..]);
 }
 
 // One row: printed, and run where it is no remark.
-fn row(text: &[u8]) {
+fn row(rt: &impl Files, text: &[u8]) {
     io::write_all(STDOUT_FILENO, text);
     io::write_all(STDOUT_FILENO, b"\n");
     if 0 < text.len() {
@@ -71,15 +75,15 @@ fn row(text: &[u8]) {
             return;
         }
     }
-    case(text);
+    case(rt, text);
 }
 
 // All rows.
-fn cases(table: &[u8]) {
+fn cases(rt: &impl Files, table: &[u8]) {
     let mut p: usize = 0;
     while p < table.len() {
         let end = find(table, p, NEWLINE);
-        row(&table[p..end]);
+        row(rt, &table[p..end]);
         if end == table.len() {
             return;
         }
@@ -87,10 +91,9 @@ fn cases(table: &[u8]) {
     }
 }
 
-fn main() {
+fn main(rt: HostRuntime) {
     let mut table = io::large_buffer();
-    let fd = os::open_read(b"cases");
-    let count = io::read_full(fd, &mut table);
-    libc::close(fd);
-    cases(&table[..count]);
+    let loaded = file::load(&rt, b"cases", &mut table);
+    let count = loaded.count;
+    cases(&rt, &table[..count]);
 }

@@ -12,7 +12,7 @@ use Rattle.cube.specs.Cubes.{one, holds}
 abbrev pub shown_in : ℕ → List ℕ → List ℕ
 shown_in number out' = records places number out'
 
--- "exactly the true products are shown", "ascending"; `List.Memᴰ p shown` says that p is among those shown
+-- "exactly the true products are shown", "ascending"; `Memᴰ p shown` says that p is among those shown
 pub record ExactlyTrue (n : ℕ) (l : List Cube) (a : ℕ) (shown : List ℕ) : Type 0 where
   -- none else: what is shown is a place of the list, whose product is true at a
   pub true_there : (p : ℕ) → Memᴰ p shown → (p < length l) × (holds n (get_or l p one) a ≡ true)

@@ -72,7 +72,7 @@ pub record MapCalled (c : MapCall) (o : MapOutcome) (buffers : List (List ℕ)) 
   pub answer : o ≡ map_answers c
   pub left : buffers ≡ map_leaves (map_answers c) (map_makes c) (map_lent c)
 
--- that every outcome which a function's contract allows is one of a call on a map, as in Contracts.antt
+-- that every outcome which a function's contract allows is one of a call on a map, as in ContractOutcomes.antt
 abbrev pub IsMapCalled : (n : ℕ) (ps : List (ParamKind n)) (r : ResultKind n) → Out n ps r → ((κs : Lfts n) → Dens κs ps → MapCall)
     → ((κs : Lfts n) (a : Dens κs ps) → (res_t r κs).Denot → Lasts (ended_of n ps r) κs a → List (List ℕ)) → ((κs : Lfts n) → (res_t r κs).Denot → MapOutcome) → Type 0
 IsMapCalled n ps r Learnt call left told =

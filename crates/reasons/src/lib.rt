@@ -1,4 +1,6 @@
 // Why a label goes to its slot: the places of the products of a list that are true at an assignment.
+#![tactic(auto)]
+
 ghost use Rattle.std.specs.Prelude.{◌≡◌, ◌*◌, ◌/◌, ◌^◌, ◌≤◌, ◌<◌, length};
 ghost use Rattle.bits.specs.Sums.{All};
 ghost use Rattle.records.specs.Records.{written};
@@ -13,7 +15,7 @@ use records::place::put_place;
 use records::{Counted, Refusal};
 
 // What the call answers: the number of true products and the bit, or a refusal.
-#[derive(Drop)]
+#[derive(Clone, Copy)]
 pub enum Reasoned {
     Shown(usize, u8),
     Refused(Refusal),

@@ -1,4 +1,6 @@
 // Records of fixed width end to end in a lent buffer: their numbers, places, clearing and filling; and the refusal that every call answers with.
+#![tactic(auto)]
+
 pub mod numbers;
 pub mod place;
 
@@ -8,7 +10,7 @@ ghost use Rattle.records.specs.Answers.{refusal, refusal_with};
 
 // Why a call is refused: the number, the place, and a third answer: the number of differing variables, where the two cubes of a step are not
 // as it needs; else 0.
-#[derive(Drop)]
+#[derive(Clone, Copy)]
 pub struct Refusal {
     pub number: u8,
     pub place: usize,
@@ -16,7 +18,7 @@ pub struct Refusal {
 }
 
 // What most calls answer: a count, or a refusal.
-#[derive(Drop)]
+#[derive(Clone, Copy)]
 pub enum Counted {
     Count(usize),
     Refused(Refusal),

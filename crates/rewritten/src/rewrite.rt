@@ -2,6 +2,7 @@
 use explain::{say, say_number};
 use polarity::Best;
 use records::Counted;
+use std::rt::Files;
 use text_files::{LoadedSteps, buffers, eights, load, show, tell, within};
 use trees::TreeList;
 use writer::Wrote;
@@ -27,11 +28,11 @@ pub fn easy(n: usize, list: &[u8], a: &[u8], err: i32) {
     }
 }
 
-fn shortened(n: usize, count: usize, script: &[u8], steps: &[u8], err: i32) {
+fn shortened(rt: &impl Files, n: usize, count: usize, script: &[u8], steps: &[u8], err: i32) {
     let mut out = buffers::steps();
     match compactor::compact::compact(n, count, script, &mut out) {
         Counted::Refused(r) => {
-            tell::at_step(err, steps, load::line_of(steps, r.place), r);
+            tell::at_step(err, steps, load::line_of(rt, steps, r.place), r);
         }
         Counted::Count(left) => {
             say_number(err, b"steps ", script.len() / script::check::STEP_WIDTH);
@@ -44,13 +45,14 @@ fn shortened(n: usize, count: usize, script: &[u8], steps: &[u8], err: i32) {
 }
 
 // A script for lists of as many products as this one, without steps that undo each other.
-pub fn compact(n: usize, list: &[u8], steps: &[u8], err: i32) {
+pub fn compact(rt: &impl Files, n: usize, list: &[u8], steps: &[u8], err: i32) {
     let mut script = buffers::steps();
-    match load::steps(steps, &mut script, err) {
+    match load::steps(rt, steps, &mut script, err) {
         LoadedSteps::Nothing => {}
         LoadedSteps::Steps(count) => {
             let end = eights(count, &script);
             shortened(
+                rt,
                 n,
                 list.len() / cube::list::RECORD_WIDTH,
                 &script[..end],

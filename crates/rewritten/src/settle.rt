@@ -3,11 +3,12 @@ use explain::{say, say_number};
 use records::Refusal;
 use settling::{Fixed, Settled, Settlement};
 use shared_run::{SharedSettled, SharedSettlement};
+use std::rt::Files;
 use text_files::{LoadedSteps, buffers, eights, load, show, tell, twelves};
 
 // A refusal of settling: of a step, of the file of steps.
-pub fn refused(steps: &[u8], r: Refusal, err: i32) {
-    tell::at_step(err, steps, load::line_of(steps, r.place), r);
+pub fn refused(rt: &impl Files, steps: &[u8], r: Refusal, err: i32) {
+    tell::at_step(err, steps, load::line_of(rt, steps, r.place), r);
 }
 
 pub fn counts(s: Settlement, err: i32) {
@@ -36,12 +37,12 @@ pub fn shared_counts(s: SharedSettlement, err: i32) {
     say(err, b"\n");
 }
 
-fn burn_one(n: usize, list: &[u8], script: &[u8], steps: &[u8], err: i32) {
+fn burn_one(rt: &impl Files, n: usize, list: &[u8], script: &[u8], steps: &[u8], err: i32) {
     let mut work = buffers::cubes();
     let mut out = buffers::cubes();
     match settling::settle::settle(n, list, script, &mut work, &mut out) {
         Settled::Refused(r) => {
-            refused(steps, r, err);
+            refused(rt, steps, r, err);
         }
         Settled::Burned(s) => {
             counts(s, err);
@@ -52,23 +53,31 @@ fn burn_one(n: usize, list: &[u8], script: &[u8], steps: &[u8], err: i32) {
 }
 
 // A map of one output.
-pub fn one(n: usize, list: &[u8], steps: &[u8], err: i32) {
+pub fn one(rt: &impl Files, n: usize, list: &[u8], steps: &[u8], err: i32) {
     let mut script = buffers::steps();
-    match load::steps(steps, &mut script, err) {
+    match load::steps(rt, steps, &mut script, err) {
         LoadedSteps::Nothing => {}
         LoadedSteps::Steps(count) => {
             let end = eights(count, &script);
-            burn_one(n, list, &script[..end], steps, err);
+            burn_one(rt, n, list, &script[..end], steps, err);
         }
     }
 }
 
-fn burn_shared(n: usize, m: usize, list: &[u8], script: &[u8], steps: &[u8], err: i32) {
+fn burn_shared(
+    rt: &impl Files,
+    n: usize,
+    m: usize,
+    list: &[u8],
+    script: &[u8],
+    steps: &[u8],
+    err: i32,
+) {
     let mut work = buffers::shares();
     let mut out = buffers::shares();
     match shared_run::settle::settle(n, list, script, &mut work, &mut out) {
         SharedSettled::Refused(r) => {
-            refused(steps, r, err);
+            refused(rt, steps, r, err);
         }
         SharedSettled::Burned(s) => {
             shared_counts(s, err);
@@ -79,13 +88,13 @@ fn burn_shared(n: usize, m: usize, list: &[u8], script: &[u8], steps: &[u8], err
 }
 
 // A map of several outputs, as shared products.
-pub fn shared(n: usize, m: usize, list: &[u8], steps: &[u8], err: i32) {
+pub fn shared(rt: &impl Files, n: usize, m: usize, list: &[u8], steps: &[u8], err: i32) {
     let mut script = buffers::steps();
-    match load::steps(steps, &mut script, err) {
+    match load::steps(rt, steps, &mut script, err) {
         LoadedSteps::Nothing => {}
         LoadedSteps::Steps(count) => {
             let end = eights(count, &script);
-            burn_shared(n, m, list, &script[..end], steps, err);
+            burn_shared(rt, n, m, list, &script[..end], steps, err);
         }
     }
 }

@@ -6,7 +6,7 @@ use crate::{head, item};
 use text::place;
 
 // How far a part is read: the place in the row, how many bytes there are, how many there were at the last bracket, and whether hexadecimal digits follow.
-#[derive(Drop)]
+#[derive(Clone, Copy)]
 struct Spot {
     p: usize,
     end: usize,
@@ -15,7 +15,7 @@ struct Spot {
 }
 
 // How many bytes a part has, and the place after it.
-#[derive(Drop)]
+#[derive(Clone, Copy)]
 pub struct Part {
     pub end: usize,
     pub p: usize,

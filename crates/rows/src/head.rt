@@ -52,14 +52,14 @@ pub const TREE: usize = 23;
 pub const KRONECKER: usize = 24;
 
 // A number and the place after it; 0 and the same place where there is none.
-#[derive(Drop)]
+#[derive(Clone, Copy)]
 pub struct Numeral {
     pub x: usize,
     pub p: usize,
 }
 
 // The number of variables, the assignment, the polarity, the count or the group, the bytes of the lent buffer and of a second one, and the place after them.
-#[derive(Drop)]
+#[derive(Clone, Copy)]
 pub struct Head {
     pub n: usize,
     pub given: usize,

@@ -5,7 +5,7 @@ use steps::StepRecord;
 use text::{ReadCube, ReadNumber, ReadStep, cubes, number, place, step};
 
 // What a part is made of, and over how many variables its cubes are.
-#[derive(Drop)]
+#[derive(Clone, Copy)]
 pub struct Kind {
     pub of: u8,
     pub n: u32,
@@ -37,7 +37,7 @@ const MOST_OUTPUTS: usize = 4294967295;
 
 // An item: the place after it, its bytes as a number with the low byte first, and how many they are; how many times what stands since the last bracket is meant;
 // whether a bracket opens, and whether hexadecimal digits follow. The place of what is no item is where it begins.
-#[derive(Drop)]
+#[derive(Clone, Copy)]
 pub struct Item {
     pub p: usize,
     pub x: u64,

@@ -3,7 +3,7 @@
 -- Assumes nothing.
 use mathlib.Core.Path.{◌≡◌, refl, sym, ap, ◌∙◌}
 use mathlib.Core.Logic.{◌≢◌}
-use mathlib.Core.List.{List, [], ◌∷◌, map, append-nil, filter_map}
+use mathlib.Core.List.{List, [], ◌∷◌, map, append-nil, filter-map}
 use Prim.Native.Nat.{ℕ, ◌+◌, ◌*◌, ◌%◌, ◌≤◌, ◌<◌}
 use native.Mathlib.Decide.{ℕ_discrete}
 use native.Mathlib.Omega.{arith}
@@ -107,7 +107,7 @@ plain_records b = records_of_bytes (without (λ r. is_l (meaning r)) (list_of st
 -- .. and its steps are they
 pub plain_read : (b : List ℕ) → steps_of (without_l b) ≡ plain_steps (steps_of b)
 unfolding steps_of
-plain_read b = ap (map meaning) (plain_records b) ∙ sym (filter_map (λ x. ℕ_discrete (is_l x) 0) meaning (list_of step_records b))
+plain_read b = ap (map meaning) (plain_records b) ∙ sym (filter-map (λ x. ℕ_discrete (is_l x) 0) meaning (list_of step_records b))
 
 -- it passes 7, 8 and 9 where the script does
 pub plain_passes : (n : ℕ) (b v : List ℕ) → check_script n b ≡ accepted v → check_script n (without_l b) ≡ accepted (length (plain_steps (steps_of b)) ∷ [])
@@ -118,7 +118,7 @@ plain_passes n b v e =
     let left : List StepRecord = without (λ r. is_l (meaning r)) rs in
     let fewer : length left ≤ length rs = length_without (λ r. is_l (meaning r)) rs in
     let same : length left ≡ length (plain_steps (map meaning rs)) =
-    sym (length-map left meaning) ∙ ap length (sym (filter_map (λ x. ℕ_discrete (is_l x) 0) meaning rs)) in
+    sym (length-map left meaning) ∙ ap length (sym (filter-map (λ x. ℕ_discrete (is_l x) 0) meaning rs)) in
     records_pass n left (omega (arith, fewer, length_list step_records b, a.short)) (all_each _ _ (λ r p. p.1) left (all_without (λ r. is_l (meaning r)) _ rs a.each))
     ∙ ap (λ (k : ℕ). accepted (k ∷ [])) same
 
@@ -142,7 +142,7 @@ module _ (b : List ℕ) (bytes : All (λ x. x < 256) b) (whole : length b % step
   before_same : (s : ℕ) → without_before gone given s ≡ corresponding (map meaning given) s
   before_same s =
       sym (length-map (without gone (take s given)) meaning)
-      ∙ ap length (sym (filter_map (λ x. ℕ_discrete (is_l x) 0) meaning (take s given)) ∙ ap plain_steps (sym (take_map meaning s given)))
+      ∙ ap length (sym (filter-map (λ x. ℕ_discrete (is_l x) 0) meaning (take s given)) ∙ ap plain_steps (sym (take_map meaning s given)))
 
   pub plain_bytes : (s k : ℕ) → s < length (steps_of b) → is_l (get_or (steps_of b) s (drop 0 0)) ≡ 0 → k < step_width
       → get_or (without_l b) (step_width * corresponding (steps_of b) s + k) 0 ≡ get_or b (step_width * s + k) 0

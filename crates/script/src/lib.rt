@@ -1,4 +1,6 @@
 // Running a script on a list of cubes, in a lent work buffer.
+#![tactic(auto)]
+
 pub mod check;
 pub mod record;
 pub mod run;
@@ -8,14 +10,14 @@ use records::Refusal;
 use steps::StepRefusal;
 
 // What a run answers: the count and the peak, or a refusal.
-#[derive(Drop)]
+#[derive(Clone, Copy)]
 pub enum Finished {
     Done(usize, usize),
     Refused(Refusal),
 }
 
 // Where a run stands after a step: the count and the peak; or why the step is refused.
-#[derive(Drop)]
+#[derive(Clone, Copy)]
 pub struct Standing {
     pub done: bool,
     pub why: StepRefusal,
@@ -24,7 +26,7 @@ pub struct Standing {
 }
 
 // How far the steps went: where the run stands, with the count, the peak and an order pending for each variable; or to a refusal, and its place.
-#[derive(Drop)]
+#[derive(Clone, Copy)]
 pub struct Progress {
     pub done: bool,
     pub why: StepRefusal,

@@ -8,7 +8,7 @@ use native.Mathlib.Omega.{arith}
 use lib.Dec.{eqb, ltb}
 use lib.ListN.{length, get_or, take}
 use borrow.Author.Tests.{eq-eqb, ne_eqb, lt-ltb, le-ltb}
-use Rattle.bytes.specs.Bytes.{index_of}
+use Rattle.lines.specs.Bytes.{index_of}
 use Rattle.records.specs.Records.{stored}
 use Rattle.steps.specs.declared.StepRecord.{StepRecord}
 use Rattle.script.specs.Scripts.{step_records, place_size, narrow_step, uses_v, uses_i, uses_j, uses_literal}

@@ -1,4 +1,6 @@
 // Scripts as text, one step a line.
+#![tactic(auto)]
+
 pub mod print;
 pub mod read;
 
@@ -8,7 +10,7 @@ use steps::StepRecord;
 const MERGE: u8 = 6;
 
 // What a line says before its comment: nothing, a step, or something else.
-#[derive(Drop)]
+#[derive(Clone, Copy)]
 enum Line {
     Nothing,
     Step(StepRecord),
@@ -16,7 +18,7 @@ enum Line {
 }
 
 // How far a line takes a script: to so many steps; or the number of a refusal.
-#[derive(Drop)]
+#[derive(Clone, Copy)]
 enum Reached {
     Steps(usize),
     Refused(u8),

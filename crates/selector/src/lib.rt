@@ -1,4 +1,6 @@
 // A selector: a map of 1 to 12 lists, one per slot bit. It knows of the library below it only what the contracts say.
+#![tactic(auto)]
+
 mod lengths;
 pub mod map_reasons;
 pub mod settle_map;
@@ -14,7 +16,7 @@ use records::Refusal;
 pub const MOST_LISTS: usize = 12;
 
 // What a call on a map answers: a number; a refusal of the map; or a refusal of a list, with the list's number.
-#[derive(Drop)]
+#[derive(Clone, Copy)]
 pub enum MapAnswer {
     Number(usize),
     Refused(Refusal),
@@ -22,7 +24,7 @@ pub enum MapAnswer {
 }
 
 // The same with a number for each list, zeros after the last: how many bytes its burned list has, or how many of its products are true. A refusal has zeros.
-#[derive(Drop)]
+#[derive(Clone, Copy)]
 pub struct ByList {
     pub answer: MapAnswer,
     pub each: [u64; MOST_LISTS],

@@ -12,7 +12,7 @@ use records::{Counted, Refusal};
 use settling::Settled;
 
 // What is told of one list of a map: how many bytes its burned list has and what it costs, or why it is refused.
-#[derive(Drop)]
+#[derive(Clone, Copy)]
 pub(crate) enum Part {
     Burned(usize, usize),
     Refused(Refusal),

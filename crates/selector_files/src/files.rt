@@ -6,12 +6,13 @@ ghost use Rattle.selector_files.specs.Paths.{bit_path};
 
 use crate::part::part_end;
 use program::file;
+use std::rt::Files;
 
 // Bytes of a path, at most.
 const PATH_BYTES: usize = 64;
 
 // What was loaded of a bit's file: whether it was read as far as it is taken, and how many bytes; or whether it is there and can't be read.
-#[derive(Drop)]
+#[derive(Clone, Copy)]
 struct Bit {
     loaded: bool,
     failed: bool,
@@ -19,7 +20,7 @@ struct Bit {
 }
 
 // What was loaded of a map: whether a file is there that can't be read; the files of how many bits were, and how many bytes.
-#[derive(Drop)]
+#[derive(Clone, Copy)]
 pub(crate) struct Loaded {
     pub failed: bool,
     pub bits: usize,
@@ -59,17 +60,17 @@ fn put_path(folder: &[u8], k: usize, ending: &[u8], path: &mut [u8]) -> usize
 }
 
 // At most the buffer's length of the file's bytes of a path, to the front of the buffer.
-fn load_path(path: &[u8], buf: &mut [u8]) -> Bit
+fn load_path(rt: &impl Files, path: &[u8], buf: &mut [u8]) -> Bit
     ensures { result.count ≤ length buf.old }
 {
-    if file::is_missing(path) {
+    if file::is_missing(rt, path) {
         return Bit {
             loaded: false,
             failed: false,
             count: 0,
         };
     }
-    let l = file::load(path, buf);
+    let l = file::load(rt, path, buf);
     Bit {
         loaded: l.found,
         failed: !l.found,
@@ -78,18 +79,27 @@ fn load_path(path: &[u8], buf: &mut [u8]) -> Bit
 }
 
 // The same of a bit's file, to the bytes from..end of a buffer.
-fn load_bit(folder: &[u8], k: usize, ending: &[u8], buf: &mut [u8], from: usize, end: usize) -> Bit
+fn load_bit(
+    rt: &impl Files,
+    folder: &[u8],
+    k: usize,
+    ending: &[u8],
+    buf: &mut [u8],
+    from: usize,
+    end: usize,
+) -> Bit
     requires { (from ≤ end) × (end ≤ length buf.old) }
     ensures { from + result.count ≤ end }
 {
     let mut path = [0u8; PATH_BYTES];
     let size = put_path(folder, k, ending, &mut path);
-    load_path(&path[..size], &mut buf[from..end])
+    load_path(rt, &path[..size], &mut buf[from..end])
 }
 
 // The files of bits 0, 1 and so on, up to the first that is missing and of at most so many bits, at most `width` bytes of each: end to end to the front of a buffer, with
 // their lengths.
 pub(crate) fn load_bits(
+    rt: &impl Files,
     folder: &[u8],
     ending: &[u8],
     width: u64,
@@ -106,7 +116,7 @@ pub(crate) fn load_bits(
     let mut bits: usize = 0;
     while bits < most {
         let end = part_end(bytes, width, buf.len());
-        let bit = load_bit(folder, bits, ending, buf, bytes, end);
+        let bit = load_bit(rt, folder, bits, ending, buf, bytes, end);
         if !bit.loaded {
             return Loaded {
                 failed: bit.failed,

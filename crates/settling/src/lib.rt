@@ -1,4 +1,6 @@
 // Settling a map: given list plus script in, list to burn out.
+#![tactic(auto)]
+
 pub mod burn;
 pub mod candidates;
 pub mod settle;
@@ -8,14 +10,14 @@ use polarity::Counts;
 use records::Refusal;
 
 // The best polarity and its size, for at most 8 variables.
-#[derive(Drop)]
+#[derive(Clone, Copy)]
 pub enum Fixed {
     Polarity(usize, usize),
     Absent,
 }
 
 // What a settled map's counts are.
-#[derive(Drop)]
+#[derive(Clone, Copy)]
 pub struct Settlement {
     pub given: usize,
     pub peak: usize,
@@ -25,21 +27,21 @@ pub struct Settlement {
 }
 
 // The fixed-polarity candidate, and how many products are burned.
-#[derive(Drop)]
+#[derive(Clone, Copy)]
 pub struct Burning {
     pub fixed: Fixed,
     pub burned: usize,
 }
 
 // What settling answers.
-#[derive(Drop)]
+#[derive(Clone, Copy)]
 pub enum Settled {
     Burned(Settlement),
     Refused(Refusal),
 }
 
 // Where a candidate's list comes from: the script, the caller, the form of a polarity, or the cheapest tree.
-#[derive(Drop)]
+#[derive(Clone, Copy)]
 pub enum Origin {
     Script,
     Given,
@@ -48,21 +50,21 @@ pub enum Origin {
 }
 
 // A candidate: what the choice goes by, and where its list comes from.
-#[derive(Drop)]
+#[derive(Clone, Copy)]
 pub struct Candidate {
     pub rank: usize,
     pub origin: Origin,
 }
 
 // Of a function: the best polarity and its size, and what the tree's list counts.
-#[derive(Drop)]
+#[derive(Clone, Copy)]
 pub struct Forms {
     pub fixed: Fixed,
     pub tree: Counts,
 }
 
 // The best polarity and its size, and for at most 8 variables what the tree's list counts and the truth vector that both are of.
-#[derive(Drop)]
+#[derive(Clone, Copy)]
 pub struct BestForm {
     pub fixed: Fixed,
     pub tree: Counts,

@@ -1,4 +1,6 @@
 // The rows whose calls take shared products, and those that settle a list: the call made, and its answer printed.
+#![tactic(auto)]
+
 mod cubes;
 mod products;
 

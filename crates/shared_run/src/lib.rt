@@ -1,4 +1,6 @@
 // Running and settling scripts on lists of shared products, in lent buffers.
+#![tactic(auto)]
+
 pub mod check;
 pub mod run;
 pub mod settle;
@@ -6,7 +8,7 @@ pub mod settle;
 use records::Refusal;
 
 // What a settled list of shared products counts.
-#[derive(Drop)]
+#[derive(Clone, Copy)]
 pub struct SharedSettlement {
     pub given: usize,
     pub peak: usize,
@@ -15,7 +17,7 @@ pub struct SharedSettlement {
 }
 
 // What settling answers.
-#[derive(Drop)]
+#[derive(Clone, Copy)]
 pub enum SharedSettled {
     Burned(SharedSettlement),
     Refused(Refusal),

@@ -1,7 +1,6 @@
 // What stands on the sheet.
 use crate::sentences;
 use explain::{say, say_number};
-use libc::STDOUT_FILENO;
 use lines::word::same;
 use records::Counted;
 use rewritten::rewrite::put_form;
@@ -9,6 +8,8 @@ use rewritten::settle::refused;
 use script::Finished;
 use settling::{Fixed, Settled, Settlement};
 use shared_run::{SharedSettled, SharedSettlement};
+use std::rt::Files;
+use streams::STDOUT_FILENO;
 use text_files::{LoadedSteps, buffers, eights, load, twelves, within};
 
 const VECTOR_BYTES: usize = 256;
@@ -137,12 +138,12 @@ fn settled_one(n: usize, list: &[u8], script: &[u8], s: Settlement, burned: &[u8
     sentences::signature();
 }
 
-fn sheet_one(n: usize, list: &[u8], script: &[u8], a: &[u8], b: &[u8], err: i32) {
+fn sheet_one(rt: &impl Files, n: usize, list: &[u8], script: &[u8], a: &[u8], b: &[u8], err: i32) {
     let mut work = buffers::cubes();
     let mut out = buffers::cubes();
     match settling::settle::settle(n, list, script, &mut work, &mut out) {
         Settled::Refused(r) => {
-            refused(b, r, err);
+            refused(rt, b, r, err);
         }
         Settled::Burned(s) => {
             heading(a, b, n, 1);
@@ -153,13 +154,13 @@ fn sheet_one(n: usize, list: &[u8], script: &[u8], a: &[u8], b: &[u8], err: i32)
 }
 
 // The sheet of a map of one output.
-pub fn one(n: usize, list: &[u8], a: &[u8], b: &[u8], err: i32) {
+pub fn one(rt: &impl Files, n: usize, list: &[u8], a: &[u8], b: &[u8], err: i32) {
     let mut script = buffers::steps();
-    match load::steps(b, &mut script, err) {
+    match load::steps(rt, b, &mut script, err) {
         LoadedSteps::Nothing => {}
         LoadedSteps::Steps(count) => {
             let end = eights(count, &script);
-            sheet_one(n, list, &script[..end], a, b, err);
+            sheet_one(rt, n, list, &script[..end], a, b, err);
         }
     }
 }
@@ -186,12 +187,21 @@ fn settled_shared(list: &[u8], script: &[u8], s: SharedSettlement, burned: &[u8]
     sentences::signature();
 }
 
-fn sheet_shared(n: usize, m: usize, list: &[u8], script: &[u8], a: &[u8], b: &[u8], err: i32) {
+fn sheet_shared(
+    rt: &impl Files,
+    n: usize,
+    m: usize,
+    list: &[u8],
+    script: &[u8],
+    a: &[u8],
+    b: &[u8],
+    err: i32,
+) {
     let mut work = buffers::shares();
     let mut out = buffers::shares();
     match shared_run::settle::settle(n, list, script, &mut work, &mut out) {
         SharedSettled::Refused(r) => {
-            refused(b, r, err);
+            refused(rt, b, r, err);
         }
         SharedSettled::Burned(s) => {
             heading(a, b, n, m);
@@ -202,13 +212,13 @@ fn sheet_shared(n: usize, m: usize, list: &[u8], script: &[u8], a: &[u8], b: &[u
 }
 
 // The sheet of a map of several outputs.
-pub fn shared(n: usize, m: usize, list: &[u8], a: &[u8], b: &[u8], err: i32) {
+pub fn shared(rt: &impl Files, n: usize, m: usize, list: &[u8], a: &[u8], b: &[u8], err: i32) {
     let mut script = buffers::steps();
-    match load::steps(b, &mut script, err) {
+    match load::steps(rt, b, &mut script, err) {
         LoadedSteps::Nothing => {}
         LoadedSteps::Steps(count) => {
             let end = eights(count, &script);
-            sheet_shared(n, m, list, &script[..end], a, b, err);
+            sheet_shared(rt, n, m, list, &script[..end], a, b, err);
         }
     }
 }

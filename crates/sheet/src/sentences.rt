@@ -1,6 +1,6 @@
 // The sentences of the sheet that are proved, and how its checksums are worked out again.
 use explain::say;
-use libc::STDOUT_FILENO;
+use streams::STDOUT_FILENO;
 
 fn put(t: &[u8]) {
     say(STDOUT_FILENO, t);

@@ -1,4 +1,6 @@
 // The five steps of a script: look, decide, perform; and L by one pass over the records.
+#![tactic(auto)]
+
 pub mod again;
 pub mod decide;
 pub mod perform;
@@ -8,7 +10,7 @@ pub mod step;
 use cube::Cube;
 
 // Why a step is refused: the number; and the number of differing variables, where its two cubes are not as it needs, else 0.
-#[derive(Drop)]
+#[derive(Clone, Copy)]
 pub struct StepRefusal {
     pub number: u8,
     pub differing: u32,
@@ -23,7 +25,7 @@ impl StepRefusal {
 }
 
 // What a step does to the records at its places.
-#[derive(Drop)]
+#[derive(Clone, Copy)]
 pub enum Change {
     Refuse(StepRefusal),
     Drop,
@@ -33,7 +35,7 @@ pub enum Change {
 }
 
 // A step as a script's record has it.
-#[derive(Drop)]
+#[derive(Clone, Copy)]
 pub struct StepRecord {
     pub op: u8,
     pub v: u8,
@@ -44,7 +46,7 @@ pub struct StepRecord {
 }
 
 // What one step answers: the count after it, or why it is refused.
-#[derive(Drop)]
+#[derive(Clone, Copy)]
 pub enum Stepped {
     Count(usize),
     Refused(StepRefusal),

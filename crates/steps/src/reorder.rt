@@ -33,7 +33,7 @@ fn of_word(x: u64) -> Cube
 
 // An order of the codes at one variable, as masks of such numbers. A bit of the variable is changed by the sum, modulo 2, of: itself where
 // `own` is set, the variable's other bit where `other` is, and 1 where `always` is.
-#[derive(Drop)]
+#[derive(Clone, Copy)]
 pub struct Masks {
     own: u64,
     other: u64,

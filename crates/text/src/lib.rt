@@ -1,4 +1,6 @@
 // The text of cubes and steps: printed into a lent buffer from a place on, and read from a slice at a place.
+#![tactic(auto)]
+
 pub mod cubes;
 pub mod number;
 pub mod place;
@@ -8,21 +10,21 @@ use cube::Cube;
 use steps::StepRecord;
 
 // What the reader of a number answers: the number and the place after it, or the place that is wrong.
-#[derive(Drop)]
+#[derive(Clone, Copy)]
 pub enum ReadNumber {
     Read(usize, usize),
     Wrong(usize),
 }
 
 // The same of a cube.
-#[derive(Drop)]
+#[derive(Clone, Copy)]
 pub enum ReadCube {
     Read(Cube, usize),
     Wrong(usize),
 }
 
 // The same of a step.
-#[derive(Drop)]
+#[derive(Clone, Copy)]
 pub enum ReadStep {
     Read(StepRecord, usize),
     Wrong(usize),

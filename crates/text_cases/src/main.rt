@@ -1,9 +1,12 @@
 // The commands of `druthmoy` on the texts in data/, each a row of standard input: the row is printed, and then all that the command prints, its refusals and counts too.
+#![tactic(auto)]
+
 ghost use Rattle.std.specs.Prelude.{◌≤◌, length};
 
-use libc::STDOUT_FILENO;
 use lines::word::past_word;
 use program::line;
+use std::rt::Files;
+use streams::STDOUT_FILENO;
 use text::place::past_blanks;
 
 // Characters of a row, at most.
@@ -13,7 +16,7 @@ const ROW_BYTES: usize = 128;
 const MOST_ROWS: usize = 200;
 
 // Where a word of a row stands: it has no character where there is none.
-#[derive(Drop)]
+#[derive(Clone, Copy)]
 struct Span {
     from: usize,
     end: usize,
@@ -49,7 +52,7 @@ fn count(a: usize, b: usize, c: usize) -> usize {
 }
 
 // A command with its words, as they stand in a row.
-fn perform(row: &[u8], name: Span, a: Span, b: Span, c: Span)
+fn perform(rt: &impl Files, row: &[u8], name: Span, a: Span, b: Span, c: Span)
     requires from_le_end { (name.from ≤ name.end) × (name.end ≤ length row.now) }
     requires from_le_end_2 { (a.from ≤ a.end) × (a.end ≤ length row.now) }
     requires from_le_end_3 { (b.from ≤ b.end) × (b.end ≤ length row.now) }
@@ -65,6 +68,7 @@ fn perform(row: &[u8], name: Span, a: Span, b: Span, c: Span)
     let end_c = c.end;
     let words = count(end_a - from_a, end_b - from_b, end_c - from_c);
     commands::command(
+        rt,
         &row[from..end],
         words,
         &row[from_a..end_a],
@@ -75,7 +79,7 @@ fn perform(row: &[u8], name: Span, a: Span, b: Span, c: Span)
 }
 
 // The command of a row; a row that begins with `#` has none.
-fn with_row(row: &[u8]) {
+fn with_row(rt: &impl Files, row: &[u8]) {
     explain::say(STDOUT_FILENO, b"> ");
     explain::say(STDOUT_FILENO, row);
     explain::say(STDOUT_FILENO, b"\n");
@@ -86,25 +90,25 @@ fn with_row(row: &[u8]) {
     let a = word_from(row, name.end);
     let b = word_from(row, a.end);
     let c = word_from(row, b.end);
-    perform(row, name, a, b, c);
+    perform(rt, row, name, a, b, c);
 }
 
 // The next row; whether there is one.
-fn next_row() -> bool {
+fn next_row(rt: &impl Files) -> bool {
     let mut row = [0u8; ROW_BYTES];
     let size = line::read(&mut row);
     if size == 0 {
         return false;
     }
-    with_row(&row[..size]);
+    with_row(rt, &row[..size]);
     true
 }
 
 // The rows up to the first that has no character.
-fn main() {
+fn main(rt: HostRuntime) {
     let mut k: usize = 0;
     while k < MOST_ROWS {
-        if !next_row() {
+        if !next_row(&rt) {
             return;
         }
         k += 1;

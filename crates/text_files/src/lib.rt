@@ -1,4 +1,6 @@
 // Maps and scripts as text, from files: loaded into lent buffers as records; a refusal is told with its file, its line or step, its number, and in words.
+#![tactic(auto)]
+
 pub mod buffers;
 pub mod cost;
 pub mod load;
@@ -9,14 +11,14 @@ ghost use Rattle.std.specs.Prelude.{◌≡◌, ◌≤◌};
 ghost use Rattle.io.specs.Counts.{IsPrefixLen};
 
 // What was loaded of a map: its inputs, its outputs and how many records; or nothing, and why was told.
-#[derive(Drop)]
+#[derive(Clone, Copy)]
 pub enum LoadedMap {
     Map(usize, usize, usize),
     Nothing,
 }
 
 // What was loaded of a script: how many steps; or nothing, and why was told.
-#[derive(Drop)]
+#[derive(Clone, Copy)]
 pub enum LoadedSteps {
     Steps(usize),
     Nothing,

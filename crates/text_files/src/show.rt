@@ -10,8 +10,8 @@ ghost use Rattle.pla_print.specs.Printing.{pla_text};
 ghost use Rattle.script_lines.specs.Scripts.{script_text};
 
 use crate::{at_most_32, buffers, twelves};
-use libc::{STDERR_FILENO, STDOUT_FILENO};
 use records::Counted;
+use streams::{STDERR_FILENO, STDOUT_FILENO};
 
 // A text to standard output; where not all of it can be written, that is told.
 fn put(text: &[u8]) {

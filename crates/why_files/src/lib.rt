@@ -1,5 +1,7 @@
 // Why a label goes to its slot, from files: the number of variables and the label from two lines, the list from a file; the places of the products that are true
 // there are printed.
+#![tactic(auto)]
+
 ghost use Rattle.std.specs.Prelude.{◌≡◌, [], ◌∷◌, ◌++◌, ◌<◌, length, take};
 ghost use Rattle.io.specs.Counts.{IsPrefixLen};
 ghost use Rattle.text.specs.Numbers.{decimal};
@@ -8,6 +10,7 @@ use program::line::Line;
 use program::{file, label, line, print};
 use reasons::Reasoned;
 use records::{Refusal, numbers};
+use std::rt::Files;
 
 // Bytes of the places of the longest list.
 const PLACES_BYTES: usize = reasons::PLACE_WIDTH * cube::list::MOST_RECORDS;
@@ -61,9 +64,9 @@ fn show(n: usize, list: &[u8], a: u64) {
 }
 
 // The list read, and its reasons at the label.
-fn load_list(n: usize, a: u64, path: &[u8]) {
+fn load_list(rt: &impl Files, n: usize, a: u64, path: &[u8]) {
     let mut list = [0u8; file::LIST_BYTES];
-    let l = file::load(path, &mut list);
+    let l = file::load(rt, path, &mut list);
     if !l.found {
         print::no_file();
         return;
@@ -73,22 +76,22 @@ fn load_list(n: usize, a: u64, path: &[u8]) {
 }
 
 // The label of a line in the map of a line and of a file that is named: the first line, then the list, then the label.
-pub fn why_named(line: &[u8], label: &[u8], list_path: &[u8]) {
+pub fn why_named(rt: &impl Files, line: &[u8], label: &[u8], list_path: &[u8]) {
     match line::variables_in(line) {
         Line::Bad => {
             print::refusal(Refusal::new(1, 0));
         }
         Line::Number(n) => {
-            load_list(n, label::label_in(label), list_path);
+            load_list(rt, n, label::label_in(label), list_path);
         }
     }
 }
 
 // The program: two lines of standard input, and `map.cub`. A first line that is longer than what is read of it is refused, whatever is read as the second.
-pub fn run() {
+pub fn run(rt: &impl Files) {
     let mut first = [0u8; line::VARIABLE_BYTES];
     let count = line::read(&mut first);
     let mut second = [0u8; label::LABEL_BYTES];
     let digits = line::read(&mut second);
-    why_named(&first[..count], &second[..digits], b"map.cub");
+    why_named(rt, &first[..count], &second[..digits], b"map.cub");
 }

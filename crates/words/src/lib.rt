@@ -1,4 +1,6 @@
 // Answers as eight words: the number of a refusal, its place, and six values; of a refusal the first value is its number of differing variables, and of a map the second the list's number.
+#![tactic(auto)]
+
 ghost use Rattle.std.specs.Prelude.{◌≡◌, [], ◌∷◌, get_or};
 ghost use Rattle.records.specs.Answers.{accepted, refused, counted, after_call};
 ghost use Rattle.cube.specs.Calls.{valued};

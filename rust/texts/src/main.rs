@@ -1,7 +1,7 @@
 //! Compares the program `druthmoy` with a reader and printer of maps and scripts as text that share nothing with it.
 //!
 //! `texts [COUNT [SEED [PROGRAM]]]`: so many random texts (5,000 if not said), where their generator starts, and the program, else the one that
-//! `DRUTHMOY_PROGRAM` names, else the one in `target/bin`. Prints what was compared. At the first difference it prints that, leaves the text and
+//! `DRUTHMOY_PROGRAM` names, else the one in `crates/druthmoy_program/out`. Prints what was compared. At the first difference it prints that, leaves the text and
 //! exits with 1.
 
 mod compare_maps;

@@ -20,7 +20,7 @@ pub struct Said {
 impl Program {
     /// The program at a path, or else at the one that the environment names, or else where it is built.
     pub fn find(path: Option<String>) -> Result<Program, String> {
-        let built = Path::new(env!("CARGO_MANIFEST_DIR")).join("../../target/bin/druthmoy_program");
+        let built = Path::new(env!("CARGO_MANIFEST_DIR")).join("../../crates/druthmoy_program/out/druthmoy_program");
         let path = path.or_else(|| env::var("DRUTHMOY_PROGRAM").ok()).map_or(built, PathBuf::from);
         // it is run in another folder
         let path = path.canonicalize().map_err(|error| format!("{}: {error}", path.display()))?;

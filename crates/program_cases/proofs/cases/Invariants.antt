@@ -1,0 +1,11 @@
+-- `cases` is safe and ends: the measure is what is left of the table.
+-- Assumes nothing.
+use Prim.Native.Nat.{◌-◌, ◌≤◌}
+use lib.ListN.{length}
+use Rattle.program_cases.proofs.cases.Given as goal
+
+abbrev pub invariant-loop-p : goal.invariant-loop-p
+invariant-loop-p g l = l.p ≤ length l.table
+
+abbrev pub decreases-loop-p : goal.decreases-loop-p
+decreases-loop-p g l = length l.table - l.p

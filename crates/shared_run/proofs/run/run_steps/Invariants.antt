@@ -1,0 +1,13 @@
+-- `run::run_steps` meets its contract: the loop keeps `RunningBy`.
+-- Assumes nothing.
+use Prim.Native.Nat.{◌-◌, ◌/◌}
+use lib.ListN.{length}
+use Rattle.script.specs.Scripts.{step_width}
+use Rattle.shared_run.proofs.run.Running.{SharedRunning}
+use Rattle.shared_run.proofs.run.run_steps.Given as goal
+
+abbrev pub invariant-loop-k : goal.invariant-loop-k
+invariant-loop-k l = SharedRunning l.n l.cap l.first l.script l.initial.work l.k l.work l.pending l.at
+
+abbrev pub decreases-loop-k : goal.decreases-loop-k
+decreases-loop-k l = length l.script / step_width - l.k

@@ -1,0 +1,12 @@
+-- `node::second_code` meets its contract.
+-- Assumes nothing.
+use Rattle.trees.proofs.node.second_code.Goals as goal
+
+pub returns-in-Shannon : goal.returns-in-Shannon
+returns-in-Shannon c = rw c.in-Shannon.is
+
+pub returns-in-Positive : goal.returns-in-Positive
+returns-in-Positive c = rw c.in-Positive.is
+
+pub returns-in-Negative : goal.returns-in-Negative
+returns-in-Negative c = rw c.in-Negative.is

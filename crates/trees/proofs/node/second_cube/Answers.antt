@@ -1,0 +1,8 @@
+-- `node::second_cube` meets its contract.
+-- Assumes nothing.
+use mathlib.Core.Path.{ap, ◌∙◌}
+use Rattle.cube.specs.Cubes.{with_code}
+use Rattle.trees.proofs.node.second_cube.Goals as goal
+
+pub returns : goal.returns
+returns c = c.with_code.ensures ∙ ap (with_code c.args.c c.args.k) c.second_code.ensures
