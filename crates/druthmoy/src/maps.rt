@@ -1,4 +1,4 @@
-// The calls on a map for C and Rust: the twelve numbers of its lists are lent, and written like the buffers.
+// The calls on a map that crate druthmoy_c exports for C and Rust: the twelve numbers of its lists are lent, and written like the buffers.
 ghost use Rattle.std.specs.Prelude.{◌≡◌, length};
 ghost use Rattle.selector.specs.Calls.{slot_outcome, job};
 ghost use Rattle.druthmoy.specs.Faces.{map_words, SettleFaced, ReasonsFaced};

@@ -1,7 +1,7 @@
 -- The loop that adds the outputs of the true products: what it has added of each output. The invariant is one record.
 -- Assumes nothing.
 use mathlib.Core.Path.{◌≡◌, refl, sym, ap, ◌∙◌, subst}
-use mathlib.Core.Bool.{Bool, true, false, ◌&&◌}
+use mathlib.Core.Bool.{Bool, true, false, cond, ◌&&◌}
 use mathlib.Core.List.{List}
 use Prim.Native.Nat.{ℕ, ◌+◌, ◌/◌, ◌^◌, ◌≤◌, ◌<◌, zero-le}
 use native.Mathlib.Omega.{arith}
@@ -74,6 +74,11 @@ module _ (n : ℕ) (b : List ℕ) (a : ℕ) where
           and_false : (t : Bool) → (t && false) ≡ false
           and_false true = refl
           and_false false = refl
+
+      -- either of them
+      pub wording_step : (t : Bool) → t ≡ holds n r.cube a → r.outputs < 2 ^ output_count → (w' : ℕ) → w' ≡ cond t (bit_xor w r.outputs) w → Wording n b a w' (i + 1)
+      wording_step true e small w' ew = wording_true (sym e) small w' ew
+      wording_step false e small w' ew = wording_false (sym e) w' ew
 
     pub wording_all : length b / shared_width ≤ i → w ≡ value_word n (shares_of b) a
     wording_all h = bit_ext_below output_count w (value_word n (shares_of b) a) W.few (word_lt n (shares_of b) a) (λ k l.

@@ -1,8 +1,7 @@
 -- `find::far_to` meets its contract: the loop keeps `NoneTo`.
 -- Assumes nothing.
 use native.Mathlib.Omega.{arith}
-use mathlib.Core.Path.{sym, ◌∙◌}
-use borrow.Author.Tests.{not-false}
+use borrow.Author.Rules.{rules}
 use Rattle.bits.proofs.First.{none_start}
 use Rattle.cube.specs.Checking.{stride}
 use Rattle.writer.proofs.Searching.{far_more}
@@ -17,9 +16,6 @@ overflow_sub-end c = c.loop-i.invariant.most
 pub stride_far-requires : goal.stride_far-requires
 stride_far-requires c = omega (arith, c.loop-i-test.true, c.loop-i.invariant.most, c.requires.1)
 
-pub returns-then-not-stride_far : goal.returns-then-not-stride_far
-returns-then-not-stride_far c = c.loop-i.invariant
-
 pub overflow_add-i : goal.overflow_add-i
 overflow_add-i c = omega (arith, c.loop-i-test.true, c.loop-i.invariant.most)
 
@@ -28,8 +24,7 @@ loop-i-smaller c = omega (arith, c.loop-i-test.true, c.loop-i.invariant.most)
 
 pub loop-i-preserved : goal.loop-i-preserved
 loop-i-preserved c =
-    far_more _ _ _ _ _ stride c.loop-i.invariant (omega (arith, c.loop-i-test.true, c.loop-i.invariant.most))
-    (sym c.stride_far.ensures ∙ not-false _ c.if-not-stride_far.false-raw)
+    far_more _ _ _ _ _ stride c.loop-i.invariant (omega (arith, c.loop-i-test.true, c.loop-i.invariant.most)) (search rules)
 
 pub returns : goal.returns
 returns c = c.loop-i.invariant
