@@ -3,7 +3,7 @@ ghost use Rattle.io.specs.Counts.{IsPrefixLen};
 
 use std::fs;
 use std::fs::OpenFile;
-use std::io::{Read, Write};
+use std::io::{ErrorKind, Read, Write};
 use std::rt::Files;
 
 // Bytes of the list that are read: one record more than the most.
@@ -101,10 +101,18 @@ pub fn load(rt: &impl Files, path: &[u8], buf: &mut [u8]) -> Loaded
     }
 }
 
+// Whether the system stores an open file when it is asked, or can't be asked: some files, as those of /proc, are never stored.
+fn can_store<F: OpenFile>(file: &F) -> bool {
+    match file.sync_all() {
+        Ok(()) => true,
+        Err(e) => e.kind() == ErrorKind::InvalidInput,
+    }
+}
+
 // Whether what was written to an open file is stored, as far as the system tells: some file systems tell it only at the end.
 fn is_stored<F: OpenFile>(file: &F) -> bool {
     match file.metadata() {
-        Ok(told) => !told.is_file() || file.sync_all().is_ok(),
+        Ok(told) => !told.is_file() || can_store(file),
         Err(_) => true,
     }
 }

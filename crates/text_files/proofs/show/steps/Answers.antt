@@ -6,4 +6,4 @@ use Rattle.script.specs.Scripts.{step_records}
 use Rattle.text_files.proofs.show.steps.Goals as goal
 
 pub spell_script-end-requires : goal.spell_script-end-requires
-spell_script-end-requires c = record { script_len_bound = omega (arith, c.if-script-gt-MOST_STEPS.false, length_list step_records c.args.script.now); in_bounds = omega arith }
+spell_script-end-requires c = record { script_len_bound = omega (arith, length_list step_records c.args.script.now); in_bounds = omega arith }
