@@ -1,11 +1,12 @@
-// 256 bits in four words. Bit t is bit t % 64 of word t / 64.
+//! 256 bits in four words. Bit t is bit t % 64 of word t / 64.
+
 ghost use Rattle.std.specs.Prelude.{◌≡◌};
 ghost use Rattle.bits.specs.Below.{sum_below};
 ghost use Rattle.bits.specs.Packed.{alone, bit_at, both, summed, without_bits, literal_bits, packed, put_bits, lowered, raised};
 
 use crate::{packing, word};
 
-// Four words, the lowest first.
+/// Four words, the lowest first.
 #[derive(Clone, Copy)]
 pub struct Packed {
     pub a: u64,
@@ -14,7 +15,7 @@ pub struct Packed {
     pub d: u64,
 }
 
-// The bits whose index is without variable k.
+/// The bits whose index is without variable k.
 fn without(k: usize) -> Packed
     ensures { result ≡ without_bits k }
 {
@@ -44,7 +45,7 @@ fn without(k: usize) -> Packed
 }
 
 impl Packed {
-    // No bit, and every bit.
+    /// No bit, and every bit.
     pub const NONE: Packed = Packed {
         a: 0,
         b: 0,
@@ -59,7 +60,7 @@ impl Packed {
         d: word::ALL,
     };
 
-    // The first word alone.
+    /// The first word alone.
     pub fn alone(x: u64) -> Packed
         ensures { result ≡ alone x }
     {
@@ -71,46 +72,65 @@ impl Packed {
         }
     }
 
-    // The bits at whose index the literal with code x at variable k is true. It takes no branch on x.
+    /// The bits at whose index the literal with code x at variable k is true. It takes no branch on x.
     pub fn literal(k: usize, x: u8) -> Packed
         ensures { result ≡ literal_bits x k }
     {
         let m = without(k);
         let low = word::full(x != 1);
         let high = word::full(x != 0);
+        m.each(|x| word::mix(x, low, high))
+    }
+
+    /// Each word by itself.
+    #[inline(always)]
+    fn each<F: Fn(u64) -> u64>(self, change: F) -> Packed
+        requires { F.IsAlwaysCallable change }
+        ensures { F.post change self.a result.a
+            × F.post change self.b result.b
+            × F.post change self.c result.c
+            × F.post change self.d result.d }
+    {
         Packed {
-            a: word::mix(m.a, low, high),
-            b: word::mix(m.b, low, high),
-            c: word::mix(m.c, low, high),
-            d: word::mix(m.d, low, high),
+            a: change(self.a),
+            b: change(self.b),
+            c: change(self.c),
+            d: change(self.d),
         }
     }
 
-    // The bits that are set in both.
+    /// Each word with the other's.
+    #[inline(always)]
+    fn zip<F: Fn(u64, u64) -> u64>(self, other: Packed, join: F) -> Packed
+        requires { F.IsAlwaysCallable join }
+        ensures { F.post join self.a other.a result.a
+            × F.post join self.b other.b result.b
+            × F.post join self.c other.c result.c
+            × F.post join self.d other.d result.d }
+    {
+        Packed {
+            a: join(self.a, other.a),
+            b: join(self.b, other.b),
+            c: join(self.c, other.c),
+            d: join(self.d, other.d),
+        }
+    }
+
+    /// The bits that are set in both.
     pub fn both(self, other: Packed) -> Packed
         ensures { result ≡ both self other }
     {
-        Packed {
-            a: self.a & other.a,
-            b: self.b & other.b,
-            c: self.c & other.c,
-            d: self.d & other.d,
-        }
+        self.zip(other, |x, y| x & y)
     }
 
-    // The sums of the bits, modulo 2.
+    /// The sums of the bits, modulo 2.
     pub fn sum(self, other: Packed) -> Packed
         ensures { result ≡ summed self other }
     {
-        Packed {
-            a: self.a ^ other.a,
-            b: self.b ^ other.b,
-            c: self.c ^ other.c,
-            d: self.d ^ other.d,
-        }
+        self.zip(other, |x, y| x ^ y)
     }
 
-    // The lowest bit of each of the first 256 bytes: of bytes that are 0 or 1, the bytes themselves.
+    /// The lowest bit of each of the first 256 bytes: of bytes that are 0 or 1, the bytes themselves.
     pub fn of(bytes: &[u8]) -> Packed
         ensures { result ≡ packed bytes.now }
     {
@@ -122,7 +142,7 @@ impl Packed {
         }
     }
 
-    // The bits to the front of a buffer, a byte each, as many as there are places.
+    /// The bits to the front of a buffer, a byte each, as many as there are places.
     pub fn put(self, out: &mut [u8])
         ensures { out.new ≡ put_bits self out.old }
     {
@@ -132,17 +152,12 @@ impl Packed {
         packing::put_word(self.d, out, 192);
     }
 
-    // To each bit without variable k, the bit with it is added.
+    /// To each bit without variable k, the bit with it is added.
     pub fn lowered(self, k: usize) -> Packed
         ensures { result ≡ lowered k self }
     {
         if k < 6 {
-            return Packed {
-                a: word::lower_word(self.a, k),
-                b: word::lower_word(self.b, k),
-                c: word::lower_word(self.c, k),
-                d: word::lower_word(self.d, k),
-            };
+            return self.each(|x| word::lower_word(x, k));
         }
         if k == 6 {
             return Packed {
@@ -160,17 +175,12 @@ impl Packed {
         }
     }
 
-    // To each bit with variable k, the bit without it is added.
+    /// To each bit with variable k, the bit without it is added.
     pub fn raised(self, k: usize) -> Packed
         ensures { result ≡ raised k self }
     {
         if k < 6 {
-            return Packed {
-                a: word::raise_word(self.a, k),
-                b: word::raise_word(self.b, k),
-                c: word::raise_word(self.c, k),
-                d: word::raise_word(self.d, k),
-            };
+            return self.each(|x| word::raise_word(x, k));
         }
         if k == 6 {
             return Packed {
@@ -188,7 +198,7 @@ impl Packed {
         }
     }
 
-    // How many bits are set.
+    /// How many bits are set.
     pub fn ones(self) -> u32
         ensures { result ≡ sum_below 256 (bit_at self) }
     {

@@ -1,19 +1,20 @@
-// The checksum of POSIX's `cksum`.
+//! The checksum of POSIX's `cksum`.
+
 #![tactic(auto)]
 
 ghost use Rattle.std.specs.Prelude.{◌≡◌};
 ghost use Rattle.cksum.specs.Cksum.{crc_turn, crc_byte, crc_bytes, length_bytes, checksum};
 
-// The polynomial x^32 + x^26 + .. + 1 without its highest bit.
+/// The polynomial x^32 + x^26 + .. + 1 without its highest bit.
 const POLYNOMIAL: u32 = 0x04c11db7;
 
-// The highest bit of a remainder.
+/// The highest bit of a remainder.
 const HIGHEST: u32 = 0x80000000;
 
-// Bits of a byte.
+/// Bits of a byte.
 const BYTE_BITS: u32 = 8;
 
-// The remainder one bit on.
+/// The remainder one bit on.
 fn turn(c: u32) -> u32
     ensures { result ≡ crc_turn c }
 {
@@ -23,33 +24,29 @@ fn turn(c: u32) -> u32
     c * 2
 }
 
-// The remainder after one more byte.
+/// The remainder after one more byte.
 fn with_byte(crc: u32, b: u8) -> u32
     ensures { result ≡ crc_byte crc b }
 {
-    let mut c = crc ^ (b as u32 * 0x1000000);
-    let mut k: u32 = 0;
-    while k < BYTE_BITS {
+    let mut c = crc ^ (u32::from(b) * 0x1000000);
+    for _turned in 0..BYTE_BITS {
         c = turn(c);
-        k += 1;
     }
     c
 }
 
-// The remainder after a slice's bytes.
+/// The remainder after a slice's bytes.
 fn with_bytes(crc: u32, bytes: &[u8]) -> u32
     ensures { result ≡ crc_bytes crc bytes.now }
 {
     let mut c = crc;
-    let mut i: usize = 0;
-    while i < bytes.len() {
-        c = with_byte(c, bytes[i]);
-        i += 1;
+    for byte in bytes {
+        c = with_byte(c, *byte);
     }
     c
 }
 
-// The remainder after a length, its low byte first.
+/// The remainder after a length, its low byte first.
 fn with_length(crc: u32, size: usize) -> u32
     ensures { result ≡ crc_bytes crc (length_bytes size) }
 {
@@ -62,7 +59,7 @@ fn with_length(crc: u32, size: usize) -> u32
     c
 }
 
-// The checksum of a file with these bytes: the number that POSIX's `cksum` prints first.
+/// The checksum of a file with these bytes: the number that POSIX's `cksum` prints first.
 pub fn checksum(bytes: &[u8]) -> u32
     ensures { result ≡ checksum bytes.now }
 {

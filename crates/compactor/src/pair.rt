@@ -1,31 +1,25 @@
-// Two steps in a row that undo each other, and the count along.
-ghost use Rattle.std.specs.Prelude.{◌≡◌, ◌-◌, ◌≤◌};
-ghost use Rattle.compactor.specs.StepBytes.{operation_of, equal_halves, join_of, half_pair};
+//! Two steps in a row that undo each other, and the count along.
+
+ghost use Rattle.std.specs.Prelude.{◌≡◌, ◌≤◌};
+ghost use Rattle.compactor.specs.StepBytes.{operation_of, join_of, half_pair};
 ghost use Rattle.compactor.specs.Keeping.{most_count, count_by};
 
 use crate::Halves;
 
-// How many numbers one byte and two bytes hold.
+/// How many numbers one byte and two bytes hold.
 const BYTE: u32 = 256;
 
 const TWO_BYTES: u32 = 65536;
 
-// The operation of a step.
+/// The operation of a step.
+// Stays: a number, 1 drop, 2 join, 3 split; steps are compared and copied as two numbers of four bytes, and a step's enum would be read field by field.
 fn operation(x: Halves) -> u32
     ensures { result ≡ operation_of x }
 {
     x.low % BYTE
 }
 
-// Whether two steps are equal in every field.
-fn equal(x: Halves, y: Halves) -> bool
-    ensures { result ≡ equal_halves x y }
-{
-    let low = x.low == y.low;
-    low & (x.high == y.high)
-}
-
-// The join of the place of a split with the place that it appends, before which there are so many records.
+/// The join of the place of a split with the place that it appends, before which there are so many records.
 fn join_of(count: usize, x: Halves) -> Halves
     requires { count ≤ most_count }
     ensures { result ≡ join_of count x }
@@ -38,42 +32,27 @@ fn join_of(count: usize, x: Halves) -> Halves
     }
 }
 
-// Whether y undoes x, before which there are so many records.
+/// Whether y undoes x, before which there are so many records.
 pub(crate) fn is_pair(count: usize, x: Halves, y: Halves) -> bool
     requires { count ≤ most_count }
     ensures { result ≡ half_pair count x y }
 {
     let op = operation(x);
     if op == 3 {
-        return equal(join_of(count, x), y);
+        return join_of(count, x) == y;
     }
-    (3 < op) & equal(x, y)
+    (3 < op) & (x == y)
 }
 
-// The count less some, and never below zero.
-pub(crate) fn less(count: usize, taken: usize) -> usize
-    ensures { result ≡ count - taken }
-{
-    if count < taken {
-        return 0;
-    }
-    count - taken
-}
-
-// The count after a step.
+/// The count after a step.
 pub(crate) fn count_after(count: usize, x: Halves) -> usize
     requires { count ≤ most_count }
     ensures { result ≡ count_by count (operation_of x) }
 {
-    let op = operation(x);
-    if op < 2 {
-        return less(count, 2);
+    match operation(x) {
+        0 | 1 => count.saturating_sub(2),
+        2 => count.saturating_sub(1),
+        3 => count + 1,
+        _ => count,
     }
-    if op == 2 {
-        return less(count, 1);
-    }
-    if op == 3 {
-        return count + 1;
-    }
-    count
 }

@@ -1,13 +1,13 @@
 -- The call `write_kronecker`: what it answers and leaves. Document 02, Ten: "Refusals: those of Six, with 1 at n above 6."
 -- Assumes nothing.
-use Rattle.std.specs.Prelude.{List, [], ◌∷◌, ℕ, leb, length}
-use Rattle.records.specs.Answers.{Outcome, accepted, refused, unless, and_then, after_call}
+use Rattle.std.specs.Prelude.{List, [], ◌∷◌, ℕ, leb, length, Result}
+use Rattle.kronecker.specs.declared.WrittenKronecker.{WrittenKronecker}
+use Rattle.records.specs.declared.Refusal.{Refusal}
+use Rattle.records.specs.Answers.{Outcome, accepted, unless, and_then, after_call, outcome_of}
 use Rattle.records.specs.Records.{written}
 use Rattle.cube.specs.Lists.{cubes, cube_capacity}
 use Rattle.polarity.specs.Cost.{cost}
 use Rattle.polarity.specs.Vectors.{byte_at, check_vector}
-use Rattle.kronecker.specs.declared.KroneckerList.{KroneckerList}
-use Rattle.kronecker.specs.declared.KroneckerList.TheVariants as list_is
 use Rattle.kronecker.specs.Choices.{best_choice, kronecker_list}
 
 -- "for at most 6 variables"
@@ -27,6 +27,5 @@ unfoldable pub kronecker_after : ℕ → List ℕ → List ℕ → List ℕ
 kronecker_after n l out = after_call (kronecker_outcome n l (length out)) (written cubes 0 (kronecker_list n (byte_at l)) out) out
 
 -- document 02's values for each case of the answer
-abbrev pub kronecker_listed : KroneckerList → Outcome
-kronecker_listed (list_is.Written cost choice products) = accepted (cost ∷ choice ∷ products ∷ [])
-kronecker_listed (list_is.Refused r) = refused r
+abbrev pub kronecker_listed : Result WrittenKronecker Refusal → Outcome
+kronecker_listed = outcome_of (λ a. a.cost ∷ a.choice ∷ a.products ∷ [])

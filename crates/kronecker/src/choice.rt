@@ -1,62 +1,34 @@
-// The list of the cheapest choice of one expansion for each variable, by recursion on the number of variables that are left, over the halves of its vector.
+//! The list of the cheapest choice of one expansion for each variable, by recursion on the number of variables that are left, over the halves of its vector.
+
 ghost use Rattle.std.specs.Prelude.{◌≡◌, ◌+◌, ◌^◌, ◌≤◌, ◌<◌, length};
 ghost use Rattle.bits.specs.Packed.{alone};
-ghost use Rattle.trees.specs.Words.{first_half, second_half, PutIs};
+ghost use Rattle.trees.specs.Words.{PutIs};
 ghost use Rattle.kronecker.specs.Choices.{expansion_of};
 ghost use Rattle.kronecker.specs.Calls.{kronecker_outcome, kronecker_after, kronecker_listed};
 ghost use Rattle.kronecker.specs.Words.{each};
 
-use crate::{KroneckerList, search};
-use bits::{packing, word};
+use crate::{WrittenKronecker, search};
+use bits::packing;
 use cube::{Cube, list};
 use polarity::vector;
-use records::{Counted, Refusal};
+use records::{Reason, Refusal};
 use trees::{Expansion, node, tree};
 
-// How many variables a vector has, at most.
+/// How many variables a vector has, at most.
 const MOST_VARIABLES: usize = 6;
 
-// The expansion of a digit: 0 Shannon, 1 positive Davio, 2 negative Davio.
+/// The expansion of a digit: 0 Shannon, 1 positive Davio, 2 negative Davio.
 fn expansion_of(digit: usize) -> Expansion
     ensures { result ≡ expansion_of digit }
 {
-    if digit == 0 {
-        return Expansion::Shannon;
-    }
-    if digit == 1 {
-        return Expansion::Positive;
-    }
-    Expansion::Negative
-}
-
-// The vector of the first branch, in one word.
-fn first_half(by: Expansion, k: usize, w: u64) -> u64
-    requires { k < 6 }
-    ensures { alone result ≡ first_half by k (alone w) }
-{
-    let upper = w ^ word::lower_word(w, k);
-    match by {
-        Expansion::Shannon => w,
-        Expansion::Positive => w,
-        Expansion::Negative => upper,
+    match digit {
+        0 => Expansion::Shannon,
+        1 => Expansion::Positive,
+        _ => Expansion::Negative,
     }
 }
 
-// The vector of the second branch.
-fn second_half(by: Expansion, k: usize, w: u64) -> u64
-    requires { k < 6 }
-    ensures { alone result ≡ second_half by k (alone w) }
-{
-    let change = word::lower_word(w, k);
-    let upper = w ^ change;
-    match by {
-        Expansion::Shannon => upper,
-        Expansion::Positive => change,
-        Expansion::Negative => change,
-    }
-}
-
-// Writes the products of the choice's tree to which the product c leads, from place `at` on, depth first, and answers the next place.
+/// Writes the products of the choice's tree to which the product c leads, from place `at` on, depth first, and answers the next place.
 fn put_choice(
     k: usize,
     left: usize,
@@ -76,8 +48,8 @@ fn put_choice(
     let j = k + 1;
     let by = expansion_of(choice % 3);
     let rest = choice / 3;
-    let u = first_half(by, k, w);
-    let v = second_half(by, k, w);
+    let u = node::first_half(by, k, w);
+    let v = node::second_half(by, k, w);
     let x = node::first_cube(by, k, c);
     let y = node::second_cube(by, k, c);
     if m == 0 {
@@ -88,24 +60,24 @@ fn put_choice(
     put_choice(j, m, rest, v, y, out, next)
 }
 
-// The Kronecker list of a truth vector: refusals 1, 14 and 5, or its cost, its choice and its products.
-pub fn write_kronecker(n: usize, vector: &[u8], out: &mut [u8]) -> KroneckerList
+/// The Kronecker list of a truth vector: refusals 1, 14 and 5, or its cost, its choice and its products.
+pub fn write_kronecker(n: usize, vector: &[u8], out: &mut [u8]) -> Result<WrittenKronecker, Refusal>
     ensures result_value { kronecker_listed result ≡ kronecker_outcome n vector.now (length out.old) }
     ensures out_after { out.new ≡ kronecker_after n vector.now out.old }
 {
     if MOST_VARIABLES < n {
-        return KroneckerList::Refused(Refusal::new(1, 0));
+        return Err(Reason::TooManyVariables.at(0));
     }
-    match vector::check_vector(n, vector) {
-        Counted::Refused(r) => KroneckerList::Refused(r),
-        Counted::Count(_) => {
-            let w = packing::pack_word(vector, 0);
-            let found = search::find(n, w);
-            if list::capacity(out.len()) < found.products {
-                return KroneckerList::Refused(Refusal::new(5, 0));
-            }
-            put_choice(0, n, found.choice, w, Cube::ONE, out, 0);
-            KroneckerList::Written(found.cost, found.choice, found.products)
-        }
+    vector::check_vector(n, vector)?;
+    let w = packing::pack_word(vector, 0);
+    let found = search::find(n, w);
+    if list::capacity(out.len()) < found.products {
+        return Err(Reason::NoRoom.at(0));
     }
+    put_choice(0, n, found.choice, w, Cube::ONE, out, 0);
+    Ok(WrittenKronecker {
+        cost: found.cost,
+        choice: found.choice,
+        products: found.products,
+    })
 }

@@ -1,29 +1,28 @@
-// The cheapest choice, from the table of all products. The product without literals is free, and only choices of Davio expansions alone have it: one
-// for each polarity, where the vector's bit there is 1.
+//! The cheapest choice, from the table of all products. The product without literals is free, and only choices of Davio expansions alone have it: one
+//! for each polarity, where the vector's bit there is 1.
+
 ghost use Rattle.std.specs.Prelude.{◌≡◌, ◌%◌, ◌^◌, ◌≤◌, ◌<◌, length};
 ghost use Rattle.bits.specs.Bits.{bit};
 ghost use Rattle.kronecker.specs.Words.{lowest_of, lesser_from, Covers, LeastEntry, FoundIn, FoundIs};
 
 use crate::{Found, table};
 
-// How many choices 6 variables have.
+/// How many choices 6 variables have.
 const MOST_CHOICES: usize = 729;
 
-// The least entry, and of several such the first: a choice that has no free product costs what it has of products.
+/// The least entry, and of several such the first: a choice that has no free product costs what it has of products.
 fn least_entry(table: &[u8]) -> Found
     requires { 0 < length table.now }
     ensures { LeastEntry table.now result }
 {
     let mut least = table[0];
     let mut choice: usize = 0;
-    let mut i: usize = 1;
-    while i < table.len() {
+    for i in 1..table.len() {
         let entry = table[i];
         if entry < least {
             least = entry;
             choice = i;
         }
-        i += 1;
     }
     let products = least as usize;
     Found {
@@ -33,22 +32,21 @@ fn least_entry(table: &[u8]) -> Found
     }
 }
 
-// Of two that are each the cheapest of a range, where the second's choices count from `from` on: the second where it costs less, else the first.
+/// Of two that are each the cheapest of a range, where the second's choices count from `from` on: the second where it costs less, else the first.
 fn lesser_from(x: Found, y: Found, from: usize) -> Found
     requires { (from ≤ 729) × (y.choice ≤ 729) }
     ensures { result ≡ lesser_from x y from }
 {
     if y.cost < x.cost {
         return Found {
-            cost: y.cost,
             choice: from + y.choice,
-            products: y.products,
+            ..y
         };
     }
     x
 }
 
-// With no variable left: the one entry, of which the product is free where the function, the lowest bit of w, is 1.
+/// With no variable left: the one entry, of which the product is free where the function, the lowest bit of w, is 1.
 fn lowest(entry: u8, w: u64) -> Found
     requires { w % 2 ≤ entry }
     ensures { result ≡ lowest_of entry (w % 2) }
@@ -61,7 +59,7 @@ fn lowest(entry: u8, w: u64) -> Found
     }
 }
 
-// With one variable left: three entries. Below Shannon no product is free.
+/// With one variable left: three entries. Below Shannon no product is free.
 fn least_of_one(w: u64, table: &[u8]) -> Found
     requires { Covers 1 (bit w) table.now }
     ensures { FoundIn 1 (bit w) table.now result }
@@ -72,7 +70,7 @@ fn least_of_one(w: u64, table: &[u8]) -> Found
     lesser_from(lesser_from(shannon, positive, 1), negative, 2)
 }
 
-// The cheapest of the choices whose entries these are. By the highest variable: below Shannon no product is free, below a Davio expansion those of its first branch.
+/// The cheapest of the choices whose entries these are. By the highest variable: below Shannon no product is free, below a Davio expansion those of its first branch.
 fn least_of(left: usize, w: u64, table: &[u8]) -> Found
     requires { (left ≤ 6) × Covers left (bit w) table.now }
     ensures { FoundIn left (bit w) table.now result }
@@ -93,21 +91,15 @@ fn least_of(left: usize, w: u64, table: &[u8]) -> Found
     lesser_from(lesser_from(shannon, positive, part), negative, end)
 }
 
-// How many choices there are.
+/// How many choices there are.
 fn choices(n: usize) -> usize
     requires { n ≤ 6 }
     ensures { result ≡ 3 ^ n }
 {
-    let mut m: usize = 1;
-    let mut i: usize = 0;
-    while i < n {
-        m *= 3;
-        i += 1;
-    }
-    m
+    3_usize.pow(n as u32)
 }
 
-// The cheapest choice of the function of the lowest 2^n bits, and of several such the smallest.
+/// The cheapest choice of the function of the lowest 2^n bits, and of several such the smallest.
 pub(crate) fn find(n: usize, w: u64) -> Found
     requires { n ≤ 6 }
     ensures { FoundIs n (bit w) result }

@@ -1,10 +1,11 @@
-// How many products the list of each choice has: a table of 3^n bytes, in which variable 0 is the lowest digit of a place. Choices that differ in the highest
-// variable's digit alone share what is below it: the tables of the function's lower half, of its upper half and of their change.
+//! How many products the list of each choice has: a table of 3^n bytes, in which variable 0 is the lowest digit of a place. Choices that differ in the highest
+//! variable's digit alone share what is below it: the tables of the function's lower half, of its upper half and of their change.
+
 ghost use Rattle.std.specs.Prelude.{◌≡◌, ℕ, ◌*◌, ◌^◌, ◌≤◌, length, get_or};
 ghost use Rattle.bits.specs.Bits.{bit};
 ghost use Rattle.kronecker.specs.Words.{products_of_all, joined_parts};
 
-// With one variable, from the two lowest bits.
+/// With one variable, from the two lowest bits.
 fn put_one(w: u64, table: &mut [u8])
     requires { length table.old ≡ 3 }
     ensures { table.new ≡ products_of_all 1 (bit w) }
@@ -17,13 +18,13 @@ fn put_one(w: u64, table: &mut [u8])
     table[2] = upper + change;
 }
 
-// In place: where the entries of lower half, upper half and change stand, those of the three digits come. Each digit's branches are two of the three.
+/// In place: where the entries of lower half, upper half and change stand, those of the three digits come. Each digit's branches are two of the three.
 fn join_parts(part: usize, table: &mut [u8])
     requires { (length table.old ≡ 3 * part) × ((i : ℕ) → get_or table.old i 0 ≤ 127) }
     ensures { table.new ≡ joined_parts part table.old }
 {
-    let mut i: usize = 0;
-    while i < part {
+    // Stays: by places, since a loop over parts that are written says nothing of their bytes.
+    for i in 0..part {
         let j = part + i;
         let k = j + part;
         let lower = table[i];
@@ -32,11 +33,10 @@ fn join_parts(part: usize, table: &mut [u8])
         table[i] = lower + upper;
         table[j] = lower + change;
         table[k] = upper + change;
-        i += 1;
     }
 }
 
-// The table of the function of the lowest 2^left bits.
+/// The table of the function of the lowest 2^left bits.
 pub(crate) fn fill(left: usize, w: u64, table: &mut [u8])
     requires { (left ≤ 6) × (length table.old ≡ 3 ^ left) }
     ensures { table.new ≡ products_of_all left (bit w) }

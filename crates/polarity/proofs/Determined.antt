@@ -4,12 +4,13 @@ use mathlib.Core.Path.{◌≡◌, refl, ap}
 use mathlib.Core.List.{List}
 use Prim.Native.Nat.{ℕ}
 use lib.ListN.{get_or}
+use Rattle.std.specs.Prelude.{Result}
 use Rattle.bits.specs.Outcomes.{Determined}
 use Rattle.bits.proofs.Determined.{same, same_told}
-use Rattle.records.specs.Answers.{Outcome, accepted, refused, counted}
-use Rattle.records.proofs.Answers.{counted_back, counted_known}
-use Rattle.polarity.specs.declared.Best.{Best}
-use Rattle.polarity.specs.declared.Best.TheVariants as best_is
+use Rattle.records.specs.declared.Refusal.{Refusal}
+use Rattle.records.specs.Answers.{Outcome, counted}
+use Rattle.records.proofs.Answers.{counted_back, counted_known, answer_back, answer_known}
+use Rattle.polarity.specs.declared.BestPolarity.{BestPolarity}
 use Rattle.polarity.specs.Calls.{found}
 use Rattle.polarity.proofs.vector.check_vector.Kinds as check_vector_kinds
 use Rattle.polarity.proofs.vector.check_vector.Reads as check_vector_reads
@@ -25,14 +26,15 @@ use Rattle.polarity.proofs.choose.best_polarity.Kinds as best_polarity_kinds
 use Rattle.polarity.proofs.choose.best_polarity.Reads as best_polarity_reads
 
 -- the best polarity's answer, read back
-pub found_back : Outcome → Best
-found_back (accepted v) = best_is.Found (get_or v 0 0) (get_or v 1 0)
-found_back (refused r) = best_is.Refused r
+pub found_value : List ℕ → BestPolarity
+found_value v = record { polarity = get_or v 0 0; products = get_or v 1 0 }
 
-pub found_known : (a : Best) → found_back (found a) ≡ a
-unfolding found_back
-found_known (best_is.Found p products) = refl
-found_known (best_is.Refused r) = refl
+pub found_back : Outcome → Result BestPolarity Refusal
+found_back = answer_back found_value
+
+pub found_known : (r : Result BestPolarity Refusal) → found_back (found r) ≡ r
+unfolding found_value found_back
+found_known = answer_known _ found_value (λ a. refl)
 
 pub check_vector_determined : Determined 1 check_vector_kinds.ps check_vector_kinds.r check_vector_reads.Learnt
 check_vector_determined κs a z z' ws ws' p q = (same_told counted counted_back counted_known p q, refl)

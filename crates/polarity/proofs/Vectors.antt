@@ -37,3 +37,6 @@ check_long n l m e = ap (λ (v : List ℕ). get_or v 0 0) (check_says n l (m ∷
 
 pub vector_most : (n : ℕ) (l : List ℕ) → Vector n l → 2 ^ n ≤ 256
 vector_most n l v = pow_mono v.few
+
+pub vector_fits : (n m : ℕ) (l : List ℕ) → Vector n l → n ≤ m → length l ≤ 2 ^ m
+vector_fits n m l v h = omega (arith, v.long, pow_mono {j = m} h)

@@ -1,11 +1,11 @@
 -- The calls on vectors: what they answer and leave. Document 01, "Refusal numbers and places": the chains below read like its paragraph "Order".
 -- Assumes nothing.
-use Rattle.std.specs.Prelude.{List, [], ◌∷◌, ◌++◌, ℕ, ◌^◌, leb, ltb, length, drop}
-use Rattle.records.specs.Answers.{Outcome, accepted, refused, unless, and_then, after_call}
+use Rattle.std.specs.Prelude.{List, [], ◌∷◌, ◌++◌, ℕ, ◌^◌, leb, ltb, length, drop, Result}
+use Rattle.records.specs.declared.Refusal.{Refusal}
+use Rattle.records.specs.Answers.{Outcome, accepted, unless, and_then, after_call, outcome_of}
 use Rattle.records.specs.Records.{written}
 use Rattle.cube.specs.Lists.{cubes, cube_capacity}
-use Rattle.polarity.specs.declared.Best.{Best}
-use Rattle.polarity.specs.declared.Best.TheVariants as best_is
+use Rattle.polarity.specs.declared.BestPolarity.{BestPolarity}
 use Rattle.polarity.specs.Forms.{form_from, size, best_polarity}
 use Rattle.polarity.specs.Vectors.{byte_at, check_vector, coefficient_vector, vector_back}
 
@@ -37,6 +37,5 @@ best_outcome n l =
     and_then (check_vector n l) (accepted (best_polarity n (byte_at l) ∷ size n (best_polarity n (byte_at l)) (byte_at l) ∷ []))
 
 -- document 01's number and values for each case of the best polarity's answer
-abbrev pub found : Best → Outcome
-found (best_is.Found p products) = accepted (p ∷ products ∷ [])
-found (best_is.Refused r) = refused r
+abbrev pub found : Result BestPolarity Refusal → Outcome
+found = outcome_of (λ a. a.polarity ∷ a.products ∷ [])

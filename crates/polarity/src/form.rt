@@ -1,7 +1,7 @@
-// The list of a form from its coefficients, its counts, and the rank that choices go by.
+//! The list of a form from its coefficients, its counts, and the rank that choices go by.
+
 ghost use Rattle.std.specs.Prelude.{◌≡◌, length};
-ghost use Rattle.bits.specs.Below.{sum_below};
-ghost use Rattle.bits.specs.Sums.{one_if};
+ghost use Rattle.std.specs.List.{count_by};
 ghost use Rattle.records.specs.Answers.{counted};
 ghost use Rattle.records.specs.Records.{written};
 ghost use Rattle.cube.specs.Lists.{cubes};
@@ -14,17 +14,17 @@ ghost use Rattle.polarity.specs.Words.{nonzero, counts_in};
 use crate::{Counts, vector};
 use bits::packed::Packed;
 use cube::{Cube, list};
-use records::{Counted, Refusal};
+use records::{Reason, Refusal};
 
-// What every choice goes by, here of polarities and in `settling` of candidates: of two lists, the one with the lesser rank costs less, or costs as much
-// and has fewer products.
+/// What every choice goes by, here of polarities and in `settling` of candidates: of two lists, the one with the lesser rank costs less, or costs as much
+/// and has fewer products.
 pub fn rank(counts: Counts) -> usize
     ensures { result ≡ rank_of counts }
 {
     2 * (counts.products as usize) + !counts.constant as usize
 }
 
-// The products of the form with these coefficients, and whether the one without literals is among them.
+/// The products of the form with these coefficients, and whether the one without literals is among them.
 pub(crate) fn counts_of(w: Packed) -> Counts
     ensures { result ≡ counts_in w }
 {
@@ -34,20 +34,18 @@ pub(crate) fn counts_of(w: Packed) -> Counts
     }
 }
 
-// How many of the coefficients have a product. Bytes that are only counted are not worth packing.
+/// How many of the coefficients have a product. Bytes that are only counted are not worth packing.
 fn count_products(coefficients: &[u8]) -> usize
-    ensures { result ≡ sum_below (length coefficients.now) (λ s. one_if (nonzero (byte_at coefficients.now s))) }
+    ensures { result ≡ count_by nonzero coefficients.now }
 {
     let mut products: usize = 0;
-    let mut i: usize = 0;
-    while i < coefficients.len() {
-        products += (coefficients[i] != 0) as usize;
-        i += 1;
+    for coefficient in coefficients {
+        products += usize::from(*coefficient != 0);
     }
     products
 }
 
-// The product of the variable set s under p: each variable of s, complemented where p has it.
+/// The product of the variable set s under p: each variable of s, complemented where p has it.
 fn product_of(p: u32, s: u32) -> Cube
     ensures { result ≡ product p s }
 {
@@ -57,39 +55,33 @@ fn product_of(p: u32, s: u32) -> Cube
     }
 }
 
-// The products of a form end to end, s ascending.
+/// The products of a form end to end, s ascending.
 fn put_form(n: usize, coefficients: &[u8], p: u32, out: &mut [u8])
     requires { Vector n coefficients.now }
     ensures { out.new ≡ written cubes 0 (form_from n p (byte_at coefficients.now)) out.old }
 {
     let mut place: usize = 0;
-    let mut s: usize = 0;
-    while s < coefficients.len() {
+    for s in 0..coefficients.len() {
         if coefficients[s] != 0 {
             list::put_cube(out, place, product_of(p, s as u32));
             place += 1;
         }
-        s += 1;
     }
 }
 
-// The list of a form from its coefficients: refusals 1, 14, 15 and 5, or its count.
-pub fn write_form(n: usize, coefficients: &[u8], p: u64, out: &mut [u8]) -> Counted
+/// The list of a form from its coefficients: refusals 1, 14, 15 and 5, or its count.
+pub fn write_form(n: usize, coefficients: &[u8], p: u64, out: &mut [u8]) -> Result<usize, Refusal>
     ensures result_value { counted result ≡ form_outcome n coefficients.now p (length out.old) }
     ensures out_after { out.new ≡ form_after n coefficients.now p out.old }
 {
-    match vector::check_vector(n, coefficients) {
-        Counted::Refused(r) => Counted::Refused(r),
-        Counted::Count(m) => {
-            if m as u64 <= p {
-                return Counted::Refused(Refusal::new(15, 0));
-            }
-            let count = count_products(coefficients);
-            if list::capacity(out.len()) < count {
-                return Counted::Refused(Refusal::new(5, 0));
-            }
-            put_form(n, coefficients, p as u32, out);
-            Counted::Count(count)
-        }
+    let m = vector::check_vector(n, coefficients)?;
+    if m as u64 <= p {
+        return Err(Reason::PolarityOutside.at(0));
     }
+    let count = count_products(coefficients);
+    if list::capacity(out.len()) < count {
+        return Err(Reason::NoRoom.at(0));
+    }
+    put_form(n, coefficients, p as u32, out);
+    Ok(count)
 }

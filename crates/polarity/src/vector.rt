@@ -1,4 +1,5 @@
-// The check of a vector's bytes.
+//! The check of a vector's bytes.
+
 ghost use Rattle.std.specs.Prelude.{◌≡◌, ◌≤◌, ◌<◌, length};
 ghost use Rattle.bits.specs.Sums.{first_bad};
 ghost use Rattle.records.specs.Answers.{counted};
@@ -6,12 +7,12 @@ ghost use Rattle.records.specs.Strides.{pass_from, stride_from};
 ghost use Rattle.polarity.specs.Vectors.{is_bit, check_vector};
 
 use bits::packing;
-use records::{Counted, Refusal};
+use records::{Reason, Refusal};
 
-// Bytes that are looked at together.
+/// Bytes that are looked at together.
 const STRIDE: usize = 8;
 
-// Whether a stride is left from place i on, and every byte of it is 0 or 1.
+/// Whether a stride is left from place i on, and every byte of it is 0 or 1.
 fn stride_good(bytes: &[u8], i: usize) -> bool
     requires { i ≤ length bytes.now }
     ensures { result ≡ pass_from is_bit 0 8 bytes.now i }
@@ -23,7 +24,7 @@ fn stride_good(bytes: &[u8], i: usize) -> bool
     packing::eight_bits(&bytes[i..end])
 }
 
-// How many good bytes are passed at once from place i on: a stride, or one, or none.
+/// How many good bytes are passed at once from place i on: a stride, or one, or none.
 fn good_from(bytes: &[u8], i: usize) -> usize
     requires { i < length bytes.now }
     ensures { result ≡ stride_from is_bit 0 8 bytes.now i }
@@ -34,10 +35,11 @@ fn good_from(bytes: &[u8], i: usize) -> usize
     (bytes[i] <= 1) as usize
 }
 
-// The lowest byte above 1, or the length.
+/// The lowest byte above 1, or the length.
 fn first_bad(bytes: &[u8]) -> usize
     ensures { result ≡ first_bad is_bit bytes.now }
 {
+    // Stays: a loop by break, in strides; the documents name it.
     let mut i: usize = 0;
     let found = loop {
         if bytes.len() <= i {
@@ -52,20 +54,20 @@ fn first_bad(bytes: &[u8]) -> usize
     found
 }
 
-// Checking a vector: refusals 1 and 14, or its length.
-pub fn check_vector(n: usize, bytes: &[u8]) -> Counted
+/// Checking a vector: refusals 1 and 14, or its length.
+pub fn check_vector(n: usize, bytes: &[u8]) -> Result<usize, Refusal>
     ensures { counted result ≡ check_vector n bytes.now }
 {
     if cube::value::VECTOR_VARIABLES < n {
-        return Counted::Refused(Refusal::new(1, 0));
+        return Err(Reason::TooManyVariables.at(0));
     }
     let m: usize = 1 << n;
     if bytes.len() != m {
-        return Counted::Refused(Refusal::new(14, m));
+        return Err(Reason::BadVector.at(m));
     }
     let bad = first_bad(bytes);
     if bad != m {
-        return Counted::Refused(Refusal::new(14, bad));
+        return Err(Reason::BadVector.at(bad));
     }
-    Counted::Count(m)
+    Ok(m)
 }

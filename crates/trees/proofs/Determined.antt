@@ -4,11 +4,13 @@ use mathlib.Core.Path.{◌≡◌, refl, ap}
 use mathlib.Core.List.{List}
 use Prim.Native.Nat.{ℕ}
 use lib.ListN.{get_or}
+use Rattle.std.specs.Prelude.{Result}
 use Rattle.bits.specs.Outcomes.{Determined}
 use Rattle.bits.proofs.Determined.{same, same_told}
-use Rattle.records.specs.Answers.{Outcome, accepted, refused}
-use Rattle.trees.specs.declared.TreeList.{TreeList}
-use Rattle.trees.specs.declared.TreeList.TheVariants as list_is
+use Rattle.trees.specs.declared.WrittenTree.{WrittenTree}
+use Rattle.records.specs.declared.Refusal.{Refusal}
+use Rattle.records.proofs.Answers.{answer_back, answer_known}
+use Rattle.records.specs.Answers.{Outcome}
 use Rattle.trees.specs.Calls.{listed}
 use Rattle.trees.proofs.node.first_cube.Kinds as first_cube_kinds
 use Rattle.trees.proofs.node.first_cube.Reads as first_cube_reads
@@ -24,14 +26,15 @@ use Rattle.trees.proofs.tree.write_tree.Kinds as write_tree_kinds
 use Rattle.trees.proofs.tree.write_tree.Reads as write_tree_reads
 
 -- the answer, read back
-pub listed_back : Outcome → TreeList
-listed_back (accepted v) = list_is.Written (get_or v 0 0) (get_or v 1 0)
-listed_back (refused r) = list_is.Refused r
+pub listed_value : List ℕ → WrittenTree
+listed_value v = record { products = get_or v 0 0; cost = get_or v 1 0 }
 
-pub listed_known : (a : TreeList) → listed_back (listed a) ≡ a
-unfolding listed_back
-listed_known (list_is.Written products cost) = refl
-listed_known (list_is.Refused r) = refl
+pub listed_back : Outcome → Result WrittenTree Refusal
+listed_back = answer_back listed_value
+
+pub listed_known : (r : Result WrittenTree Refusal) → listed_back (listed r) ≡ r
+unfolding listed_value listed_back
+listed_known = answer_known _ listed_value (λ a. refl)
 
 pub first_cube_determined : Determined 0 first_cube_kinds.ps first_cube_kinds.r first_cube_reads.Learnt
 first_cube_determined κs a z z' ws ws' p q = (same p q, refl)

@@ -1,20 +1,21 @@
-// The least cost of a function's trees, by recursion on the number of variables that are left, over the halves of its vector. The bits of a vector
-// stand in four words; its half without the next variable stays where it is.
-ghost use Rattle.std.specs.Prelude.{◌≡◌, true, false, suc, ◌+◌, ◌%◌, ◌≤◌};
+//! The least cost of a function's trees, by recursion on the number of variables that are left, over the halves of its vector. The bits of a vector
+//! stand in four words; its half without the next variable stays where it is.
+
+ghost use Rattle.std.specs.Prelude.{◌≡◌, suc, ◌+◌, ◌%◌, ◌≤◌};
 ghost use Rattle.trees.specs.Words.{words, least_sum, Few, leaf_costs, node_costs, PaidIs, CostsAre, ChoiceIs};
 
 use crate::{Costs, Expansion, node};
 use bits::packed::Packed;
 
-// The least cost of a node to which a literal leads: any two of the three functions are its branches.
+/// The least cost of a node to which a literal leads: any two of the three functions are its branches.
 fn joined(lower: usize, upper: usize, change: usize) -> usize
     requires { (lower ≤ 256) × (upper ≤ 256) × (change ≤ 256) }
     ensures { result ≡ least_sum lower upper change }
 {
-    node::lesser(lower + node::lesser(upper, change), upper + change)
+    (lower + upper.min(change)).min(upper + change)
 }
 
-// The same by the number of variables that are left: none, one, two, at most two, or any. The compiler takes the first four as one piece.
+/// The same by the number of variables that are left: none, one, two, at most two, or any. The compiler takes the first four as one piece.
 fn paid_of_none(w: Packed) -> usize
     ensures { result ≡ w.a % 2 }
 {
@@ -57,7 +58,7 @@ fn paid_of_few(k: usize, left: usize, w: Packed) -> usize
     paid_of_two(k, w)
 }
 
-// Word by word, since a struct of four words goes through memory at each call.
+/// Word by word, since a struct of four words goes through memory at each call.
 fn least_paid(k: usize, left: usize, a: u64, b: u64, c: u64, d: u64) -> usize
     requires { k + left ≤ 8 }
     ensures { PaidIs k left (words a b c d) result }
@@ -77,7 +78,7 @@ fn least_paid(k: usize, left: usize, a: u64, b: u64, c: u64, d: u64) -> usize
     )
 }
 
-// With no variable left: the product without literals is free where no literal leads to it.
+/// With no variable left: the product without literals is free where no literal leads to it.
 fn costs_of_none(w: Packed) -> Costs
     ensures { result ≡ leaf_costs (w.a % 2) }
 {
@@ -89,7 +90,7 @@ fn costs_of_none(w: Packed) -> Costs
     }
 }
 
-// A node, from the costs of its three functions.
+/// A node, from the costs of its three functions.
 fn node_costs(lower: Costs, upper: Costs, change: usize) -> Costs
     requires { Few 256 lower × Few 256 upper × (change ≤ 256) }
     ensures { result ≡ node_costs lower upper change }
@@ -117,7 +118,8 @@ fn node_costs(lower: Costs, upper: Costs, change: usize) -> Costs
     }
 }
 
-// Both least costs of the function of the variables from k on, and the products of the tree to which no literal leads.
+// Stays: beside `least_paid`, which goes the same way; that one has one number to answer, and these three.
+/// Both least costs of the function of the variables from k on, and the products of the tree to which no literal leads.
 fn costs_from(k: usize, left: usize, a: u64, b: u64, c: u64, d: u64) -> Costs
     requires { k + left ≤ 8 }
     ensures { CostsAre k left (words a b c d) result }
@@ -137,7 +139,7 @@ fn costs_from(k: usize, left: usize, a: u64, b: u64, c: u64, d: u64) -> Costs
     )
 }
 
-// The same of all n variables.
+/// The same of all n variables.
 pub(crate) fn least_costs(n: usize, w: Packed) -> Costs
     requires { n ≤ 8 }
     ensures { CostsAre 0 n w result }
@@ -145,41 +147,21 @@ pub(crate) fn least_costs(n: usize, w: Packed) -> Costs
     costs_from(0, n, w.a, w.b, w.c, w.d)
 }
 
-// The expansion at a node by variable k to which a literal leads, with m variables left below it.
-fn choose_paid(k: usize, m: usize, w: Packed) -> Expansion
-    requires { k + suc m ≤ 8 }
-    ensures { ChoiceIs k m false w result }
-{
-    let change = w.lowered(k);
-    let upper = w.sum(change);
-    let j = k + 1;
-    let l = least_paid(j, m, w.a, w.b, w.c, w.d);
-    let h = least_paid(j, m, upper.a, upper.b, upper.c, upper.d);
-    let d = least_paid(j, m, change.a, change.b, change.c, change.d);
-    node::first_least(l + h, l + d, h + d)
-}
-
-// The same where no literal leads to the node.
-fn choose_free(k: usize, m: usize, w: Packed) -> Expansion
-    requires { k + suc m ≤ 8 }
-    ensures { ChoiceIs k m true w result }
-{
-    let change = w.lowered(k);
-    let upper = w.sum(change);
-    let j = k + 1;
-    let l = costs_from(j, m, w.a, w.b, w.c, w.d);
-    let h = costs_from(j, m, upper.a, upper.b, upper.c, upper.d);
-    let d = least_paid(j, m, change.a, change.b, change.c, change.d);
-    node::first_least(l.paid + h.paid, l.cost + d, h.cost + d)
-}
-
-// Either.
+/// The expansion at a node by variable k, with m variables left below it; `free` says that no literal leads to the node.
 pub(crate) fn choose(k: usize, m: usize, free: bool, w: Packed) -> Expansion
     requires { k + suc m ≤ 8 }
     ensures { ChoiceIs k m free w result }
 {
+    let change = w.lowered(k);
+    let upper = w.sum(change);
+    let j = k + 1;
+    let d = least_paid(j, m, change.a, change.b, change.c, change.d);
     if free {
-        return choose_free(k, m, w);
+        let l = costs_from(j, m, w.a, w.b, w.c, w.d);
+        let h = costs_from(j, m, upper.a, upper.b, upper.c, upper.d);
+        return node::first_least(l.paid + h.paid, l.cost + d, h.cost + d);
     }
-    choose_paid(k, m, w)
+    let l = least_paid(j, m, w.a, w.b, w.c, w.d);
+    let h = least_paid(j, m, upper.a, upper.b, upper.c, upper.d);
+    node::first_least(l + h, l + d, h + d)
 }

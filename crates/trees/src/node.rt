@@ -1,17 +1,20 @@
-// One node: the halves of a vector by a variable, the literals that lead to the branches, and the choice among the three expansions.
-ghost use Rattle.std.specs.Prelude.{◌≡◌, ◌&&◌, min, ◌<◌};
+//! One node: the halves of a vector by a variable, the literals that lead to the branches, and the choice among the three expansions.
+
+ghost use Rattle.std.specs.Prelude.{◌≡◌, ◌&&◌, ◌<◌};
 ghost use Rattle.cube.specs.Cubes.{with_code};
 ghost use Rattle.trees.specs.Trees.{first_code, second_code, unmarked};
 ghost use Rattle.trees.specs.Least.{first_of_three};
 ghost use Rattle.trees.specs.Words.{first_half, second_half};
 
 use crate::Expansion;
-use bits::packed::Packed;
+use bits::passes::Bits;
 use cube::Cube;
 
-// The vector of the first branch.
-pub(crate) fn first_half(by: Expansion, k: usize, w: Packed) -> Packed
-    ensures { result ≡ first_half by k w }
+/// The vector of the first branch, in one word or in four.
+#[inline(always)]
+pub fn first_half<B: Bits>(by: Expansion, k: usize, w: B) -> B
+    requires { k < B.VARIABLES }
+    ensures { B.shown result ≡ first_half by k (B.shown w) }
 {
     let upper = w.sum(w.lowered(k));
     match by {
@@ -21,9 +24,11 @@ pub(crate) fn first_half(by: Expansion, k: usize, w: Packed) -> Packed
     }
 }
 
-// The vector of the second branch.
-pub(crate) fn second_half(by: Expansion, k: usize, w: Packed) -> Packed
-    ensures { result ≡ second_half by k w }
+/// The vector of the second branch.
+#[inline(always)]
+pub fn second_half<B: Bits>(by: Expansion, k: usize, w: B) -> B
+    requires { k < B.VARIABLES }
+    ensures { B.shown result ≡ second_half by k (B.shown w) }
 {
     let change = w.lowered(k);
     let upper = w.sum(change);
@@ -34,7 +39,7 @@ pub(crate) fn second_half(by: Expansion, k: usize, w: Packed) -> Packed
     }
 }
 
-// The code of the literal that leads to the first branch.
+/// The code of the literal that leads to the first branch.
 fn first_code(by: Expansion) -> u8
     ensures { result ≡ first_code by }
 {
@@ -45,7 +50,7 @@ fn first_code(by: Expansion) -> u8
     }
 }
 
-// The code of the literal that leads to the second branch.
+/// The code of the literal that leads to the second branch.
 fn second_code(by: Expansion) -> u8
     ensures { result ≡ second_code by }
 {
@@ -56,7 +61,7 @@ fn second_code(by: Expansion) -> u8
     }
 }
 
-// The product that leads to the first branch of a node by variable k, where c leads to the node.
+/// The product that leads to the first branch of a node by variable k, where c leads to the node.
 pub fn first_cube(by: Expansion, k: usize, c: Cube) -> Cube
     requires { k < 8 }
     ensures { result ≡ with_code c k (first_code by) }
@@ -64,7 +69,7 @@ pub fn first_cube(by: Expansion, k: usize, c: Cube) -> Cube
     c.with_code(k as u32, first_code(by))
 }
 
-// The product that leads to its second branch.
+/// The product that leads to its second branch.
 pub fn second_cube(by: Expansion, k: usize, c: Cube) -> Cube
     requires { k < 8 }
     ensures { result ≡ with_code c k (second_code by) }
@@ -72,28 +77,18 @@ pub fn second_cube(by: Expansion, k: usize, c: Cube) -> Cube
     c.with_code(k as u32, second_code(by))
 }
 
-// Whether still no literal leads to the first branch.
+/// Whether still no literal leads to the first branch.
 pub(crate) fn stays_free(free: bool, by: Expansion) -> bool
     ensures { result ≡ (free && unmarked by) }
 {
     free && first_code(by) == 2
 }
 
-// The lesser of two numbers.
-pub(crate) fn lesser(x: usize, y: usize) -> usize
-    ensures { result ≡ min x y }
-{
-    if y < x {
-        return y;
-    }
-    x
-}
-
-// The expansion of least cost, and of several such the first.
+/// The expansion of least cost, and of several such the first.
 pub(crate) fn first_least(shannon: usize, positive: usize, negative: usize) -> Expansion
     ensures { result ≡ first_of_three shannon positive negative }
 {
-    if shannon <= lesser(positive, negative) {
+    if shannon <= positive.min(negative) {
         return Expansion::Shannon;
     }
     if positive <= negative {

@@ -1,4 +1,5 @@
-// The list of a function's cheapest tree, by recursion on the number of variables that are left, over the halves of its vector.
+//! The list of a function's cheapest tree, by recursion on the number of variables that are left, over the halves of its vector.
+
 ghost use Rattle.std.specs.Prelude.{◌≡◌, ◌+◌, ◌%◌, ◌^◌, ◌≤◌, ◌<◌, length};
 ghost use Rattle.bits.specs.Packed.{packed};
 ghost use Rattle.records.specs.Records.{written};
@@ -10,14 +11,14 @@ ghost use Rattle.trees.specs.Least.{tree_list};
 ghost use Rattle.trees.specs.Calls.{tree_outcome, tree_after, listed};
 ghost use Rattle.trees.specs.Words.{cheapest, PutIs};
 
-use crate::{TreeList, least, node};
+use crate::{WrittenTree, least, node};
 use bits::packed::Packed;
 use bits::{packing, word};
 use cube::{Cube, list};
 use polarity::{Counts, vector};
-use records::{Counted, Refusal};
+use records::{Reason, Refusal};
 
-// With no variable left: the product c where the function, the lowest bit of w, is 1. It answers the next place.
+/// With no variable left: the product c where the function, the lowest bit of w, is 1. It answers the next place.
 pub fn put_leaf(w: u64, c: Cube, out: &mut [u8], at: usize) -> usize
     requires { at < 256 }
     ensures value { result ≡ at + length (leaf_list (w % 2) c) }
@@ -30,7 +31,7 @@ pub fn put_leaf(w: u64, c: Cube, out: &mut [u8], at: usize) -> usize
     at + 1
 }
 
-// Writes the products of the tree to which the product c leads, from place `at` on, depth first, and answers the next place.
+/// Writes the products of the tree to which the product c leads, from place `at` on, depth first, and answers the next place.
 fn put_tree(
     k: usize,
     left: usize,
@@ -61,7 +62,7 @@ fn put_tree(
     put_tree(j, m, false, v, y, out, next)
 }
 
-// The bits of a vector; of at most six variables they stand in one word.
+/// The bits of a vector; of at most six variables they stand in one word.
 fn bits_of(n: usize, vector: &[u8]) -> Packed
     requires { Vector n vector.now }
     ensures { result ≡ packed vector.now }
@@ -72,7 +73,7 @@ fn bits_of(n: usize, vector: &[u8]) -> Packed
     Packed::of(vector)
 }
 
-// Writes the tree's list of a vector to the front of a buffer, and answers how many products it has.
+/// Writes the tree's list of a vector to the front of a buffer, and answers how many products it has.
 pub fn put_list(n: usize, vector: &[u8], out: &mut [u8]) -> usize
     requires { Vector n vector.now }
     ensures value { result ≡ length (tree_list n (byte_at vector.now)) }
@@ -81,7 +82,7 @@ pub fn put_list(n: usize, vector: &[u8], out: &mut [u8]) -> usize
     put_tree(0, n, true, bits_of(n, vector), Cube::ONE, out, 0)
 }
 
-// How many products the tree's list of a vector has, and whether one of them has no literal: it is free.
+/// How many products the tree's list of a vector has, and whether one of them has no literal: it is free.
 pub fn count_tree(n: usize, vector: &[u8]) -> Counts
     requires { Vector n vector.now }
     ensures { result ≡ counts_of (tree_list n (byte_at vector.now)) }
@@ -93,21 +94,20 @@ pub fn count_tree(n: usize, vector: &[u8]) -> Counts
     }
 }
 
-// The tree's list of a truth vector: refusals 1, 14 and 5, or its products and its cost.
-pub fn write_tree(n: usize, vector: &[u8], out: &mut [u8]) -> TreeList
+/// The tree's list of a truth vector: refusals 1, 14 and 5, or its products and its cost.
+pub fn write_tree(n: usize, vector: &[u8], out: &mut [u8]) -> Result<WrittenTree, Refusal>
     ensures result_value { listed result ≡ tree_outcome n vector.now (length out.old) }
     ensures out_after { out.new ≡ tree_after n vector.now out.old }
 {
-    match vector::check_vector(n, vector) {
-        Counted::Refused(r) => TreeList::Refused(r),
-        Counted::Count(_) => {
-            let w = bits_of(n, vector);
-            let costs = least::least_costs(n, w);
-            if list::capacity(out.len()) < costs.products {
-                return TreeList::Refused(Refusal::new(5, 0));
-            }
-            put_tree(0, n, true, w, Cube::ONE, out, 0);
-            TreeList::Written(costs.products, costs.cost)
-        }
+    vector::check_vector(n, vector)?;
+    let w = bits_of(n, vector);
+    let costs = least::least_costs(n, w);
+    if list::capacity(out.len()) < costs.products {
+        return Err(Reason::NoRoom.at(0));
     }
+    put_tree(0, n, true, w, Cube::ONE, out, 0);
+    Ok(WrittenTree {
+        products: costs.products,
+        cost: costs.cost,
+    })
 }

@@ -18,6 +18,10 @@ use Rattle.bits.proofs.Bits.{bit_lt, bit_zero, bit_suc, half_lt, bit_and_lem, bi
 use Rattle.bits.proofs.Below.{sum_cong, sum_parts, sum_none}
 use Rattle.bits.proofs.word.Masks.{full_bit}
 
+-- two that agree in each word
+pub each_agrees : (w v : Packed) → w.a ≡ v.a → w.b ≡ v.b → w.c ≡ v.c → w.d ≡ v.d → w ≡ v
+each_agrees w v ea eb ec ed = λ i. record { a = ea i; b = eb i; c = ec i; d = ed i }
+
 pub bit_at_lt : (w : Packed) (t : ℕ) → bit_at w t < 2
 unfolding bit_at
 bit_at_lt w t = bit_lt (word_at w (t / 64)) (t % 64)

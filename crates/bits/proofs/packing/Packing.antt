@@ -1,10 +1,9 @@
 -- Bytes packed into the bits of a word: one by one, and eight at a time.
 -- Assumes nothing.
 use mathlib.Core.Path.{◌≡◌, refl, sym, ap, ap₂, ◌∙◌, subst}
-use mathlib.Core.Logic.{⊎_elim}
 use mathlib.Core.List.{List}
-use Prim.Native.Nat.{ℕ, zero, suc, ◌+◌, ◌-◌, ◌*◌, ◌%◌, ◌^◌, ◌≤◌, ◌<◌, min, zero-le}
-use native.Mathlib.Nat.{mod-lt, zero-lt-suc, zero-add, one-mul, zero-mul, mul_assoc, le_refl}
+use Prim.Native.Nat.{ℕ, ◌+◌, ◌-◌, ◌*◌, ◌%◌, ◌^◌, ◌≤◌, ◌<◌, min, zero-le}
+use native.Mathlib.Nat.{mod-lt, zero-lt-suc, zero-add, zero-mul, mul_assoc}
 use native.Mathlib.Numerals.{add-one}
 use native.Mathlib.Omega.{arith}
 use lib.Bits.{bit_and, bit_or, and_mask}
@@ -15,7 +14,6 @@ use lib.Seq.{get_or-take, get_or-drop}
 use Rattle.bits.specs.Bits.{bit}
 use Rattle.bits.specs.Below.{sum_below}
 use Rattle.bits.specs.Packed.{number_of, spread_bits, word_from}
-use Rattle.bits.proofs.Bools.{below_or}
 use Rattle.bits.proofs.Below.{sum_cong, sum_parts, sum_times, sum_none}
 use Rattle.bits.proofs.Weights.{weighted_lt, weighted_bit}
 use Rattle.bits.proofs.packing.Spreading.{or_above, and_bytes}
@@ -80,9 +78,9 @@ module _ (l : List ℕ) (from size : ℕ) where
         ap (λ (x : ℕ). x % 2 * 2 ^ (size + t)) (get_or-eq_default l 0 {n = from + (size + t)} (omega arith)) ∙ zero-mul (2 ^ (size + t))) in
         P.is ∙ ap (digits l from) e ∙ sym (ap (digits l from) (sym parts) ∙ sum_parts size (64 - size) g ∙ omega (arith, rest))
 
-    pub packing_eight : j + 8 ≤ size → from ≤ 192 → (at end : ℕ) → at ≡ from + j → end ≡ at + 8 → (x : ℕ) → x ≡ sum_below 8 (λ i. get_or (take (end - at) (drop at l)) i 0 % 2 * 2 ^ i)
-        → PackingWord l from size (bit_or w ((x * 2 ^ j) % 2 ^ 64)) (j + 8)
-    packing_eight h hf at end ea ee x ex =
+    pub packing_eight : (next : ℕ) → next ≡ j + 8 → next ≤ size → from ≤ 192 → (at end : ℕ) → at ≡ from + j → end ≡ at + 8 → (x : ℕ) → x ≡ sum_below 8 (λ i. get_or (take (end - at) (drop at l)) i 0 % 2 * 2 ^ i)
+        → PackingWord l from size (bit_or w ((x * 2 ^ j) % 2 ^ 64)) next
+    packing_eight next en h hf at end ea ee x ex =
         let g : ℕ → ℕ = λ i. lowest l from i * 2 ^ i in
         let eight : x ≡ digits l at 8 =
         ex ∙ sum_cong 8 (λ i. get_or (take (end - at) (drop at l)) i 0 % 2 * 2 ^ i) (λ i. lowest l at i * 2 ^ i)
@@ -96,7 +94,8 @@ module _ (l : List ℕ) (from size : ℕ) where
         ∙ ap₂ (λ (i y : ℕ). get_or l i 0 % 2 * y) (omega arith) (sym (pow-add 2 t j) ∙ ap (λ (k : ℕ). 2 ^ k) (omega arith))) in
         record {
           upto = h;
-          is = or_above j 8 w x lw lx (omega arith) ∙ ap₂ (λ (y z : ℕ). y + z) P.is (ap (λ (y : ℕ). y * 2 ^ j) eight ∙ moved) ∙ sym (sum_parts j 8 g);
+          is = or_above j 8 w x lw lx (omega arith) ∙ ap₂ (λ (y z : ℕ). y + z) P.is (ap (λ (y : ℕ). y * 2 ^ j) eight ∙ moved) ∙ sym (sum_parts j 8 g)
+              ∙ ap (digits l from) (sym en);
         }
 
 -- the lowest bits of eight bytes, masked, are their number spread

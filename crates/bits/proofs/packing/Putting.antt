@@ -1,6 +1,6 @@
 -- The bits of a word put to bytes: one by one, and four at a time; and to the bytes of a longer buffer.
 -- Assumes nothing.
-use mathlib.Core.Path.{◌≡◌, sym, ap, ap₂, ◌∙◌}
+use mathlib.Core.Path.{◌≡◌, sym, ap, ap₂, ◌∙◌, subst}
 use mathlib.Core.Logic.{⊎_elim}
 use mathlib.Core.List.{List, ◌++◌, append-nil}
 use Prim.Native.Nat.{ℕ, ◌+◌, ◌-◌, ◌/◌, ◌%◌, ◌^◌, ◌≤◌, ◌<◌, min}
@@ -17,15 +17,16 @@ use Rattle.bits.proofs.Front.{Front, front_part}
 use Rattle.bits.proofs.packing.Spreading.{spread_byte, four_bits}
 
 module _ (w : ℕ) (l₀ l : List ℕ) (j : ℕ) (r : Front (bit w) l₀ l j) where
-  pub front_four : (end : ℕ) → end ≡ j + 4 → end ≤ length l → (x s : ℕ) → x ≡ w / 2 ^ j % 16 → s ≡ spread_bits 4 x
-      → (part : List ℕ) → part ≡ list_below (length (take (end - j) (drop j l))) (byte_of s) → Front (bit w) l₀ (put_mid j (end - j) l part) (j + 4)
-  front_four end ee h x s ex es part ep =
+  pub front_four : (next : ℕ) → next ≡ j + 4 → (end : ℕ) → end ≡ j + 4 → end ≤ length l → (x s : ℕ) → x ≡ w / 2 ^ j % 16 → s ≡ spread_bits 4 x
+      → (part : List ℕ) → part ≡ list_below (length (take (end - j) (drop j l))) (byte_of s) → Front (bit w) l₀ (put_mid j (end - j) l part) next
+  front_four next en end ee h x s ex es part ep =
       let long : length (take (end - j) (drop j l)) ≡ 4 = simp (length-take, length-drop) (omega arith) in
       let lt : x < 16 = omega (arith, ex) in
-      front_part (bit w) l₀ l j r 4 end ee h part
+      subst (Front (bit w) l₀ (put_mid j (end - j) l part)) (sym en)
+      (front_part (bit w) l₀ l j r 4 end ee h part
       (ep ∙ ap (λ (k : ℕ). list_below k (byte_of s)) long
       ∙ list_below_cong 4 (byte_of s) (λ i. bit w (j + i)) (λ i b.
-      ap (λ (y : ℕ). byte_of y i) es ∙ spread_byte x i lt b ∙ ap (λ (y : ℕ). bit y i) ex ∙ four_bits w j i b))
+      ap (λ (y : ℕ). byte_of y i) es ∙ spread_byte x i lt b ∙ ap (λ (y : ℕ). bit y i) ex ∙ four_bits w j i b)))
 
 -- ---- word by word
 

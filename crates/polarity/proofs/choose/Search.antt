@@ -3,12 +3,12 @@
 use mathlib.Core.Path.{◌≡◌, refl, sym, ap, ap₂, ◌∙◌, subst}
 use mathlib.Core.Bool.{Bool, true, false, cond}
 use mathlib.Core.List.{List, [], ◌∷◌}
-use Prim.Native.Nat.{ℕ, zero, suc, ◌+◌, ◌-◌, ◌*◌, ◌/◌, ◌%◌, ◌^◌, ◌<◌, ◌≤◌, zero-le}
+use Prim.Native.Nat.{ℕ, zero, suc, ◌+◌, ◌-◌, ◌*◌, ◌/◌, ◌%◌, ◌^◌, ◌<◌, ◌≤◌, min, zero-le}
 use native.Mathlib.Nat.{le_refl, zero-add}
 use native.Mathlib.Omega.{arith}
 use lib.Bits.{bit_xor}
 use lib.Dec.{ltb, lit<}
-use borrow.Author.Tests.{ltb-true, ltb-false}
+use borrow.Author.Tests.{ltb-true, ltb-false, lt-ltb, le-ltb}
 use Rattle.bits.specs.Bits.{bit}
 use Rattle.bits.specs.Packed.{packed, lowered, raised}
 use Rattle.bits.specs.declared.packed.Packed.{Packed}
@@ -114,14 +114,18 @@ best_all n l v w w' c ew ew' ec =
 -- ---- as the code goes
 
 -- chosen field by field
-pub lesser_fields : (x y : Chosen) (p r : ℕ) → p ≡ cond (ltb y.rank x.rank) y.polarity x.polarity
-    → r ≡ cond (ltb y.rank x.rank) y.rank x.rank → record { polarity = p; rank = r } ≡ lesser_of x y
-unfolding lesser_of
-lesser_fields x y p r ep er = (λ i. record { polarity = ep i; rank = er i }) ∙ whole (ltb y.rank x.rank)
-  where
-    whole : (t : Bool) → record { polarity = cond t y.polarity x.polarity; rank = cond t y.rank x.rank } ≡ cond t y x
-    whole true = refl
-    whole false = refl
+module _ (x y : Chosen) (p r : ℕ) (er : r ≡ min y.rank x.rank) where
+  pub lesser_upper : y.rank < x.rank → p ≡ y.polarity → record { polarity = p; rank = r } ≡ lesser_of x y
+  unfolding lesser_of
+  lesser_upper h ep =
+      let least : r ≡ y.rank = omega (arith, er) in
+      (λ i. record { polarity = ep i; rank = least i }) ∙ sym (ap (λ (t : Bool). cond t y x) (lt-ltb y.rank x.rank h))
+
+  pub lesser_lower : x.rank ≤ y.rank → p ≡ x.polarity → record { polarity = p; rank = r } ≡ lesser_of x y
+  unfolding lesser_of
+  lesser_lower h ep =
+      let least : r ≡ x.rank = omega (arith, er) in
+      (λ i. record { polarity = ep i; rank = least i }) ∙ sym (ap (λ (t : Bool). cond t y x) (le-ltb y.rank x.rank h))
 
 pub one_is : (w : Packed) (p : ℕ) (c : Counts) (r : ℕ) → c ≡ counts_in w → r ≡ rank_of c → record { polarity = p; rank = r } ≡ best_from 0 w p
 unfolding best_from best_of_one
@@ -135,14 +139,8 @@ halves_are j h p eh w w' ew x y r ex ey er = er ∙ ap₂ lesser_of ex (ey ∙ a
 
 -- a function for one number of variables, j, in place of the one for any, k
 module _ (j k p : ℕ) (e : k ≡ j) where
-  pub room_at : p + 2 ^ k ≤ 256 → p + 2 ^ j ≤ 256
-  room_at = subst (λ (x : ℕ). p + 2 ^ x ≤ 256) e
-
   pub best_at : (w : Packed) (r : Chosen) → r ≡ best_from j w p → r ≡ best_from k w p
   best_at w r = subst (λ (i : ℕ). r ≡ best_from i w p) (sym e)
-
-  pub best_alike : (w v : Packed) → w ≡ v → (r : Chosen) → r ≡ best_from j w p → r ≡ best_from k v p
-  best_alike w v same r is = best_at v r (is ∙ ap (λ (x : Packed). best_from j x p) same)
 
 -- the halves of 2 ^ k polarities
 module _ (k : ℕ) (hk : k ≤ 8) (d : k ≡ 0 → ⊥) where
@@ -151,9 +149,6 @@ module _ (k : ℕ) (hk : k ≤ 8) (d : k ≡ 0 → ⊥) where
 
   pub half_next : k ≡ suc (k - 1)
   half_next = omega arith
-
-  pub half_fits : (p : ℕ) → p + 2 ^ k ≤ 256 → p + (1 * 2 ^ (k - 1)) % 2 ^ 64 + 2 ^ (k - 1) ≤ 256
-  half_fits p room = omega (arith, ap (λ (x : ℕ). 2 ^ x) half_next, pow_double (k - 1), half_is)
 
 -- ---- the call, by its tests
 

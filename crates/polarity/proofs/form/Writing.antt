@@ -1,15 +1,19 @@
 -- The loops over coefficients: counting the products of a form, and writing them; and the call by its tests.
 -- Assumes nothing.
 use mathlib.Core.Path.{◌≡◌, refl, sym, ap, ◌∙◌, subst}
+use mathlib.Core.Bool.{Bool, true, false, cond}
 use mathlib.Core.List.{List, [], ◌∷◌, map}
-use Prim.Native.Nat.{ℕ, ◌+◌, ◌^◌, ◌<◌, ◌≤◌, zero-le}
-use native.Mathlib.Numerals.{add-one}
+use native.Mathlib.Nat.{zero-add}
+use Rattle.std.specs.List.{count_by}
+use Rattle.std.proofs.lemmas.List.Recursion.{is_count_by}
+use Rattle.bits.specs.Sums.{tally}
+use Rattle.bits.proofs.Below.{sum_cong, those_tally, those_count}
+use Prim.Native.Nat.{ℕ, ◌+◌, ◌^◌, ◌<◌, ◌≤◌}
 use native.Mathlib.Omega.{arith}
 use lib.ListN.{length}
 use borrow.Author.Tests.{le-leb, lt-leb, lt-ltb, le-ltb}
 use Rattle.bits.specs.Below.{sum_below, those}
 use Rattle.bits.specs.Sums.{one_if}
-use Rattle.bits.proofs.Bools.{one_lt}
 use Rattle.records.specs.declared.Refusal.{Refusal}
 use Rattle.records.specs.Answers.{accepted, refused, refusal}
 use Rattle.records.specs.Records.{written}
@@ -25,28 +29,16 @@ use Rattle.polarity.proofs.Forms.{form_length}
 
 -- ---- counting
 
--- the products of the first s coefficients
-pub record Tallied (l : List ℕ) (products s : ℕ) : Type 0 where
-  pub within : s ≤ length l
-  pub few : products ≤ s
-  pub is : products ≡ sum_below s (λ t. one_if (nonzero (byte_at l t)))
-
-module _ (l : List ℕ) where
-  pub tallied_none : Tallied l 0 0
-  unfolding sum_below
-  tallied_none = record { within = zero-le; few = zero-le; is = refl }
-
-  module _ (products s : ℕ) (T : Tallied l products s) where
-    pub tallied_more : s < length l → Tallied l (products + one_if (nonzero (byte_at l s))) (s + 1)
-    unfolding sum_below
-    tallied_more h = record {
-      within = omega arith;
-      few = omega (arith, T.few, one_lt (nonzero (byte_at l s)));
-      is = ap (λ (x : ℕ). x + one_if (nonzero (byte_at l s))) T.is ∙ ap (λ (m : ℕ). sum_below m (λ t. one_if (nonzero (byte_at l t)))) (sym (add-one s));
-    }
-
-    pub tallied_all : length l ≤ s → products ≡ sum_below (length l) (λ t. one_if (nonzero (byte_at l t)))
-    tallied_all h = let e : s ≡ length l = omega (arith, T.within) in T.is ∙ ap (λ (m : ℕ). sum_below m (λ t. one_if (nonzero (byte_at l t)))) e
+pub counted_sum : (l : List ℕ) → count_by nonzero l ≡ sum_below (length l) (λ s. one_if (nonzero (byte_at l s)))
+unfolding tally
+counted_sum l =
+    sym (is_count_by (tally nonzero) nonzero refl (λ x xs. step (nonzero x) (tally nonzero xs)) l)
+    ∙ sym (those_tally nonzero 0 l) ∙ those_count (λ s. nonzero (byte_at l s)) (length l) 0
+    ∙ sum_cong (length l) _ _ (λ t b. ap (λ (s : ℕ). one_if (nonzero (byte_at l s))) (zero-add t))
+  where
+    step : (b : Bool) (m : ℕ) → one_if b + m ≡ cond b (1 + m) m
+    step true m = refl
+    step false m = zero-add m
 
 -- ---- writing
 
@@ -72,13 +64,13 @@ module _ (n : ℕ) (l : List ℕ) (p room : ℕ) where
     unfolding form_outcome
     form_15 r er h = and_then_lem _ _ _ e ∙ simp (le-ltb p (2 ^ n) (subst (λ (x : ℕ). x ≤ p) (check_long n l m e) h)) (ap refused (sym er))
 
-    module _ (low : p < m) (count : ℕ) (ec : count ≡ sum_below (length l) (λ s. one_if (nonzero (byte_at l s)))) where
+    module _ (low : p < m) (count : ℕ) (ec : count ≡ count_by nonzero l) where
       below : p < 2 ^ n
       below = subst (λ (x : ℕ). p < x) (check_long n l m e) low
 
       count_is : count ≡ length (form_from n p (byte_at l))
       count_is =
-          ec ∙ ap (λ (k : ℕ). sum_below k (λ s. one_if (nonzero (byte_at l s)))) (check_accepts n l (m ∷ []) e).long ∙ sym (form_length n p (byte_at l))
+          ec ∙ counted_sum l ∙ ap (λ (k : ℕ). sum_below k (λ s. one_if (nonzero (byte_at l s)))) (check_accepts n l (m ∷ []) e).long ∙ sym (form_length n p (byte_at l))
 
       pub form_5 : (r : Refusal) (capacity : ℕ) → r ≡ refusal 5 0 → capacity ≡ cube_capacity room → capacity < count → form_outcome n l p room ≡ refused r
       unfolding form_outcome

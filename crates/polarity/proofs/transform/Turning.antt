@@ -1,31 +1,29 @@
 -- Coefficients and back on four words: after the passes down of p's variables the words show the coefficients with those turned, and either transform from it.
 -- Assumes nothing.
-use mathlib.Core.Path.{◌≡◌, refl, sym, ap, ap₂, ◌∙◌, subst, subst₂}
+use mathlib.Core.Path.{◌≡◌, refl, sym, ap, ◌∙◌, subst, subst₂}
 use mathlib.Core.Bool.{Bool, true, false, cond}
-use mathlib.Core.List.{List, ◌++◌, append-nil}
-use Prim.Native.Nat.{ℕ, zero, suc, ◌+◌, ◌*◌, ◌%◌, ◌^◌, ◌<◌, ◌≤◌, min, zero-le}
+use mathlib.Core.List.{List}
+use Prim.Native.Nat.{ℕ, zero, suc, ◌+◌, ◌*◌, ◌%◌, ◌^◌, ◌<◌, ◌≤◌}
 use native.Mathlib.Nat.{le_refl, mod-lt, mod-one, mod-eq_of_lt, zero-mul, one-mul}
 use native.Mathlib.Numerals.{add-one, one-add}
 use native.Mathlib.Omega.{arith}
 use lib.Bits.{bit_xor, xor_self, xor_zero_r}
 use lib.Dec.{eqb}
-use lib.ListN.{length, drop_of_length-le}
-use lib.Pow.{pow_pos, pow_mono, mod-pow-add}
+use lib.Pow.{pow_pos, mod-pow-add}
 use borrow.Author.Tests.{eq-eqb, ne_eqb}
 use Rattle.bits.specs.Bits.{bit}
 use Rattle.bits.specs.Below.{list_below}
-use Rattle.bits.specs.Packed.{alone, bit_at, packed, put_bits, lowered, raised}
+use Rattle.bits.specs.Packed.{bit_at, packed, lowered, raised}
 use Rattle.bits.specs.declared.packed.Packed.{Packed}
 use Rattle.bits.proofs.Bits.{bit_lt, bit_high}
 use Rattle.bits.proofs.Below.{list_below_cong}
-use Rattle.bits.proofs.packed.Alone.{alone_bit}
 use Rattle.polarity.specs.Forms.{parity_within, coefficient, value_back}
 use Rattle.polarity.specs.Vectors.{byte_at, Vector}
 use Rattle.polarity.specs.Words.{Shows, passed, turned_at, transformed}
 use Rattle.polarity.proofs.Subsets.{mask_assoc}
 use Rattle.polarity.proofs.Parities.{parity_lt, parity_twice}
 use Rattle.polarity.proofs.Passes.{xor_with}
-use Rattle.polarity.proofs.Shown.{most, shows_vector, shows_cong, shows_turn, shows_parities, shows_positive}
+use Rattle.polarity.proofs.Shown.{shows_vector, shows_cong, shows_turn, shows_parities, shows_positive}
 use Rattle.polarity.proofs.Theorems.{coefficients_back, positive_coefficient}
 
 -- ---- all passes down
@@ -90,21 +88,11 @@ module _ (n p : ℕ) (l : List ℕ) (v : Vector n l) (h : p < 2 ^ n) (w : Packed
     transformed_back eb e₁ e₂ =
         subst₂ (λ (t : Bool) (x : Packed). Shows n (transformed t n p (byte_at l)) x) (sym eb) (sym (e₂ ∙ ap (passed raised n) e₁)) shows_back
 
--- the bits, unpacked into a buffer of 2^n bytes
-pub shows_put : (n : ℕ) → n ≤ 8 → (f : ℕ → ℕ) (w : Packed) → Shows n f w → (b : List ℕ) → length b ≡ 2 ^ n → put_bits w b ≡ list_below (2 ^ n) f
-unfolding put_bits
-shows_put n few f w S b e =
-    let places : min 256 (length b) ≡ 2 ^ n = omega (arith, e, most n few) in
-    ap₂ (λ (x y : List ℕ). x ++ y) (ap (λ (m : ℕ). list_below m (bit_at w)) places ∙ list_below_cong (2 ^ n) (bit_at w) f S.low) (drop_of_length-le b {i = 256} (omega (arith, e, most n few)))
-    ∙ append-nil (list_below (2 ^ n) f)
+-- the bits, a byte each
+pub shows_list : (n : ℕ) (f : ℕ → ℕ) (w : Packed) → Shows n f w → (m : ℕ) → m ≡ 2 ^ n → list_below m (bit_at w) ≡ list_below (2 ^ n) f
+shows_list n f w S m e = ap (λ (k : ℕ). list_below k (bit_at w)) e ∙ list_below_cong (2 ^ n) (bit_at w) f S.low
 
--- with at most six variables, of the first word
-pub shows_word : (n : ℕ) → n ≤ 6 → (f : ℕ → ℕ) (x : ℕ) → Shows n f (alone x) → (m : ℕ) → m ≡ 2 ^ n → list_below m (bit x) ≡ list_below (2 ^ n) f
-shows_word n few f x S m e =
-    ap (λ (k : ℕ). list_below k (bit x)) e
-    ∙ list_below_cong (2 ^ n) (bit x) f (λ t h. sym (alone_bit x t (omega (arith, pow_mono {j = 6} few))) ∙ S.low t h)
-
--- ---- one pass as the code goes, and the loop of the passes
+-- ---- one pass as the code goes
 
 module _ (p k : ℕ) (w : Packed) where
   pub turned_not : bit p k ≡ 0 → w ≡ turned_at p k w
@@ -115,23 +103,7 @@ module _ (p k : ℕ) (w : Packed) where
   unfolding turned_at
   turned_is d v e = e ∙ sym (ap (λ (b : Bool). cond b w (lowered k w)) (ne_eqb (bit p k) 0 d))
 
--- the passes of the variables below k are done
-pub record Passing (pass : ℕ → Packed → Packed) (n : ℕ) (w₀ w : Packed) (k : ℕ) : Type 0 where
-  pub upto : k ≤ n
-  pub is : w ≡ passed pass k w₀
-
-module _ (pass : ℕ → Packed → Packed) (n : ℕ) (w₀ : Packed) where
-  pub passing_none : Passing pass n w₀ w₀ 0
-  unfolding passed
-  passing_none = record { upto = zero-le; is = refl }
-
-  module _ (w : Packed) (k : ℕ) (P : Passing pass n w₀ w k) where
-    pub passing_more : k < n → (w' : Packed) → w' ≡ pass k w → Passing pass n w₀ w' (k + 1)
-    unfolding passed
-    passing_more h w' e = record {
-      upto = omega arith;
-      is = e ∙ ap (pass k) P.is ∙ ap (λ (j : ℕ). passed pass j w₀) (sym (add-one k));
-    }
-
-    pub passing_all : n ≤ k → w ≡ passed pass n w₀
-    passing_all h = let e : k ≡ n = omega (arith, P.upto) in P.is ∙ ap (λ (j : ℕ). passed pass j w₀) e
+-- a pass more
+pub passed_more : (pass : ℕ → Packed → Packed) (w₀ w w' : Packed) (k : ℕ) → w ≡ passed pass k w₀ → w' ≡ pass k w → w' ≡ passed pass (k + 1) w₀
+unfolding passed
+passed_more pass w₀ w w' k e is = is ∙ ap (pass k) e ∙ ap (λ (j : ℕ). passed pass j w₀) (sym (add-one k))

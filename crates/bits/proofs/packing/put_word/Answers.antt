@@ -2,7 +2,6 @@
 -- Assumes nothing.
 use mathlib.Core.Path.{refl}
 use native.Mathlib.Omega.{arith}
-use lib.ListN.{length-take, length-drop}
 use Rattle.bits.proofs.packing.Putting.{put_past, put_part}
 use Rattle.bits.proofs.packing.put_word.Goals as goal
 
@@ -10,15 +9,6 @@ pub returns-then-size-eq0 : goal.returns-then-size-eq0
 returns-then-size-eq0 c =
     let s = c.args in
     put_past s.w s.from s.out.now (omega (arith, c.bytes_from-size.ensures))
-
-pub overflow_add-end : goal.overflow_add-end
-overflow_add-end c = omega (arith, c.bytes_from-size.ensures)
-
-pub slice_bounds-put_bits-end : goal.slice_bounds-put_bits-end
-slice_bounds-put_bits-end c = omega (arith, c.bytes_from-size.ensures)
-
-pub put_bits-requires : goal.put_bits-requires
-put_bits-requires c = simp (length-take, length-drop) (omega (arith, c.bytes_from-size.ensures))
 
 pub returns : goal.returns
 returns c =

@@ -10,26 +10,26 @@ use Rattle.bits.proofs.word.mask.Goals as goal
 mask_at : (k j m : ℕ) → k ≡ j → m ≡ mask_of j → m ≡ mask_of k
 mask_at k j m e is = is ∙ ap mask_of (sym e)
 
-pub returns-then-k-eq0 : goal.returns-then-k-eq0
+pub returns-in-0 : goal.returns-in-0
 unfolding mask_of
-returns-then-k-eq0 c = mask_at _ 0 _ c.if-k-eq0.true refl
+returns-in-0 c = mask_at _ 0 _ c.in-0.is refl
 
-pub returns-then-k-eq1 : goal.returns-then-k-eq1
+pub returns-in-1 : goal.returns-in-1
 unfolding mask_of
-returns-then-k-eq1 c = mask_at _ 1 _ c.if-k-eq1.true refl
+returns-in-1 c = mask_at _ 1 _ c.in-1.is refl
 
-pub returns-then-k-eq2 : goal.returns-then-k-eq2
+pub returns-in-2 : goal.returns-in-2
 unfolding mask_of
-returns-then-k-eq2 c = mask_at _ 2 _ c.if-k-eq2.true refl
+returns-in-2 c = mask_at _ 2 _ c.in-2.is refl
 
-pub returns-then-k-eq3 : goal.returns-then-k-eq3
+pub returns-in-3 : goal.returns-in-3
 unfolding mask_of
-returns-then-k-eq3 c = mask_at _ 3 _ c.if-k-eq3.true refl
+returns-in-3 c = mask_at _ 3 _ c.in-3.is refl
 
-pub returns-then-k-eq4 : goal.returns-then-k-eq4
+pub returns-in-4 : goal.returns-in-4
 unfolding mask_of
-returns-then-k-eq4 c = mask_at _ 4 _ c.if-k-eq4.true refl
+returns-in-4 c = mask_at _ 4 _ c.in-4.is refl
 
-pub returns : goal.returns
+pub returns-in_default : goal.returns-in_default
 unfolding mask_of
-returns c = mask_at _ 5 _ (omega arith) refl
+returns-in_default c = mask_at _ 5 _ (omega arith) refl

@@ -7,12 +7,9 @@ use Rattle.compactor.proofs.compact.put_kept.Goals as goal
 pub loop-t-init : goal.loop-t-init
 loop-t-init c = search putting_none
 
-pub overflow_cast-k : goal.overflow_cast-k
-overflow_cast-k c = record { fits = omega (arith, c.type_inv.kept c.loop-t.t) }
-
 pub halves_at-requires : goal.halves_at-requires
 halves_at-requires c =
-    putting_inside _ _ _ _ _ _ c.loop-t.invariant c.requires.top_in_bounds c.requires.all c.loop-t-test.true
+    rw c.from-k.ensures (putting_inside _ _ _ _ _ _ c.loop-t.invariant c.requires.top_in_bounds c.requires.all c.loop-t-test.true)
 
 pub put_halves-requires : goal.put_halves-requires
 put_halves-requires c =
@@ -20,7 +17,7 @@ put_halves-requires c =
 
 pub loop-t-preserved : goal.loop-t-preserved
 loop-t-preserved c =
-    putting_more _ _ _ _ _ _ c.loop-t.invariant c.requires.top_in_bounds c.requires.all c.loop-t-test.true (λ i. omega (arith, c.type_inv.script i)) _ c.halves_at.ensures _
+    putting_more _ _ _ _ _ _ c.loop-t.invariant c.requires.top_in_bounds c.requires.all c.loop-t-test.true (λ i. omega (arith, c.type_inv.script i)) _ (rw c.from-k.ensures at c.halves_at.ensures) _
     c.put_halves.ensures
 
 pub returns : goal.returns

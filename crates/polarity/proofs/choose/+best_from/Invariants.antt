@@ -3,4 +3,4 @@
 use Rattle.polarity.proofs.choose.+best_from.Given as goal
 
 abbrev pub decreases-best_from : goal.decreases-best_from
-decreases-best_from l = l.k
+decreases-best_from g l = l.k

@@ -1,12 +1,9 @@
--- `form::count_products` meets its contract: the loop keeps `Tallied`.
+-- `form::count_products` meets its contract: those that have been looked at are counted.
 -- Assumes nothing.
-use Prim.Native.Nat.{◌-◌}
-use lib.ListN.{length}
-use Rattle.polarity.proofs.form.Writing.{Tallied}
+use Rattle.std.proofs.Common.{◌≡◌, ◌≤◌, take}
+use Rattle.std.specs.List.{count_by}
+use Rattle.polarity.specs.Words.{nonzero}
 use Rattle.polarity.proofs.form.count_products.Given as goal
 
-abbrev pub invariant-loop-i : goal.invariant-loop-i
-invariant-loop-i l = Tallied l.coefficients l.products l.i
-
-abbrev pub decreases-loop-i : goal.decreases-loop-i
-decreases-loop-i l = length l.coefficients - l.i
+abbrev pub invariant-loop-coefficient : goal.invariant-loop-coefficient
+invariant-loop-coefficient l = (l.products ≡ count_by nonzero (take l.coefficient-index l.coefficients)) × (l.products ≤ l.coefficient-index)

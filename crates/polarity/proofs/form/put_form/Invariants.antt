@@ -1,12 +1,7 @@
 -- `form::put_form` meets its contract: the loop keeps `Writing`.
 -- Assumes nothing.
-use Prim.Native.Nat.{◌-◌}
-use lib.ListN.{length}
 use Rattle.polarity.proofs.form.Writing.{Writing}
 use Rattle.polarity.proofs.form.put_form.Given as goal
 
 abbrev pub invariant-loop-s : goal.invariant-loop-s
 invariant-loop-s l = Writing l.p l.coefficients l.initial.out l.out l.place l.s
-
-abbrev pub decreases-loop-s : goal.decreases-loop-s
-decreases-loop-s l = length l.coefficients - l.s

@@ -8,7 +8,7 @@ pub returns-then-n-gt-VECTOR_VARIABLES : goal.returns-then-n-gt-VECTOR_VARIABLES
 returns-then-n-gt-VECTOR_VARIABLES c = search vector_1
 
 pub returns-then-bytes-m : goal.returns-then-bytes-m
-returns-then-bytes-m c = vector_14 _ _ _ c.if-n-gt-VECTOR_VARIABLES.false refl _ c.new-then-bytes-m.ensures c.if-bytes-m.true
+returns-then-bytes-m c = vector_14 _ _ _ c.if-n-gt-VECTOR_VARIABLES.false refl _ c.at-then-bytes-m.ensures c.if-bytes-m.true
 
 pub returns-then-bad-m : goal.returns-then-bad-m
 returns-then-bad-m c = search vector_byte

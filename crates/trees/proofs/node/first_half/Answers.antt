@@ -5,10 +5,10 @@ use Rattle.bits.specs.Packed.{summed}
 use Rattle.trees.proofs.node.first_half.Goals as goal
 
 pub returns-in-Shannon : goal.returns-in-Shannon
-returns-in-Shannon c = rw c.in-Shannon.is
+returns-in-Shannon g c = rw c.in-Shannon.is
 
 pub returns-in-Positive : goal.returns-in-Positive
-returns-in-Positive c = rw c.in-Positive.is
+returns-in-Positive g c = rw c.in-Positive.is
 
 pub returns-in-Negative : goal.returns-in-Negative
-returns-in-Negative c = rw c.in-Negative.is (c.sum-upper.ensures ∙ ap (summed c.args.w) c.lowered.ensures)
+returns-in-Negative g c = rw c.in-Negative.is (c.sum-upper.ensures ∙ ap (summed (g.B.Bits.shown c.args.w)) c.lowered.ensures)

@@ -5,10 +5,10 @@ use Rattle.bits.specs.Packed.{summed}
 use Rattle.trees.proofs.node.second_half.Goals as goal
 
 pub returns-in-Shannon : goal.returns-in-Shannon
-returns-in-Shannon c = rw c.in-Shannon.is (c.sum-upper.ensures ∙ ap (summed c.args.w) c.lowered-change.ensures)
+returns-in-Shannon g c = rw c.in-Shannon.is (c.sum-upper.ensures ∙ ap (summed (g.B.Bits.shown c.args.w)) c.lowered-change.ensures)
 
 pub returns-in-Positive : goal.returns-in-Positive
-returns-in-Positive c = rw c.in-Positive.is c.lowered-change.ensures
+returns-in-Positive g c = rw c.in-Positive.is c.lowered-change.ensures
 
 pub returns-in-Negative : goal.returns-in-Negative
-returns-in-Negative c = rw c.in-Negative.is c.lowered-change.ensures
+returns-in-Negative g c = rw c.in-Negative.is c.lowered-change.ensures

@@ -5,7 +5,7 @@ use Rattle.bits.proofs.packed.Passes.{lowered_each, lowered_six, lowered_above}
 use Rattle.bits.proofs.packed.Packed.lowered.Goals as goal
 
 pub returns-then-k-lt6 : goal.returns-then-k-lt6
-returns-then-k-lt6 c = lowered_each _ _ (search rules) _ _ _ _ c.lower_word.ensures c.lower_word-then-k-lt6.ensures c.lower_word-then-k-lt6-2.ensures c.lower_word-then-k-lt6-3.ensures
+returns-then-k-lt6 c = lowered_each _ _ c.if-k-lt6.true _ _ _ _ (search rules) (search rules) (search rules) (search rules)
 
 pub returns-then-k-eq6 : goal.returns-then-k-eq6
 returns-then-k-eq6 c = lowered_six _ _ (search rules)

@@ -5,7 +5,7 @@ use Rattle.bits.proofs.packed.Passes.{raised_each, raised_six, raised_above}
 use Rattle.bits.proofs.packed.Packed.raised.Goals as goal
 
 pub returns-then-k-lt6 : goal.returns-then-k-lt6
-returns-then-k-lt6 c = raised_each _ _ (search rules) _ _ _ _ c.raise_word.ensures c.raise_word-then-k-lt6.ensures c.raise_word-then-k-lt6-2.ensures c.raise_word-then-k-lt6-3.ensures
+returns-then-k-lt6 c = raised_each _ _ c.if-k-lt6.true _ _ _ _ (search rules) (search rules) (search rules) (search rules)
 
 pub returns-then-k-eq6 : goal.returns-then-k-eq6
 returns-then-k-eq6 c = raised_six _ _ (search rules)
