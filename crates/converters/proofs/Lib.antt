@@ -1,5 +1,3 @@
-pub mod NarrowRecord
-pub mod Converting
 pub mod Calls
 pub mod Determined
 pub mod Converted

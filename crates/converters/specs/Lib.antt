@@ -1,3 +1,4 @@
 pub mod NarrowRecord
 pub mod Calls
 pub mod Undone
+pub mod Kinds

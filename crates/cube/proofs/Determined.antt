@@ -4,12 +4,13 @@ use mathlib.Core.Path.{◌≡◌, refl, ap}
 use mathlib.Core.List.{List}
 use Prim.Native.Nat.{ℕ}
 use lib.ListN.{get_or}
+use Rattle.std.specs.Prelude.{Result}
 use Rattle.bits.specs.Outcomes.{Determined}
 use Rattle.bits.proofs.Determined.{same, same_told}
-use Rattle.records.specs.Answers.{Outcome, accepted, refused, counted}
-use Rattle.records.proofs.Answers.{counted_back, counted_known}
-use Rattle.cube.specs.declared.Valued.{Valued}
-use Rattle.cube.specs.declared.Valued.TheVariants as valued_is
+use Rattle.records.specs.declared.Refusal.{Refusal}
+use Rattle.records.specs.Answers.{Outcome, counted}
+use Rattle.records.proofs.Answers.{counted_back, counted_known, answer_back, answer_known}
+use Rattle.cube.specs.declared.ValueAt.{ValueAt}
 use Rattle.cube.specs.Calls.{valued}
 use Rattle.cube.proofs.Cube.literal.Kinds as literal_kinds
 use Rattle.cube.proofs.Cube.literal.Reads as literal_reads
@@ -57,14 +58,15 @@ use Rattle.cube.proofs.value.truth_vector.Kinds as truth_vector_kinds
 use Rattle.cube.proofs.value.truth_vector.Reads as truth_vector_reads
 
 -- the value call's answer, read back
-pub valued_back : Outcome → Valued
-valued_back (accepted v) = valued_is.Bit (get_or v 0 0) (get_or v 1 0)
-valued_back (refused r) = valued_is.Refused r
+pub valued_value : List ℕ → ValueAt
+valued_value v = record { bit = get_or v 0 0; trues = get_or v 1 0 }
 
-pub valued_known : (a : Valued) → valued_back (valued a) ≡ a
-unfolding valued_back
-valued_known (valued_is.Bit b t) = refl
-valued_known (valued_is.Refused r) = refl
+pub valued_back : Outcome → Result ValueAt Refusal
+valued_back = answer_back valued_value
+
+pub valued_known : (r : Result ValueAt Refusal) → valued_back (valued r) ≡ r
+unfolding valued_value valued_back
+valued_known = answer_known _ valued_value (λ a. refl)
 
 pub literal_determined : Determined 0 literal_kinds.ps literal_kinds.r literal_reads.Learnt
 literal_determined κs a z z' ws ws' p q = (same p q, refl)

@@ -1,11 +1,11 @@
 -- The calls on lists: what they answer. Document 01, "Refusal numbers and places": the chains below read like its paragraph "Order".
 -- Assumes nothing.
-use Rattle.std.specs.Prelude.{List, [], ◌∷◌, ◌++◌, ℕ, ◌/◌, ◌%◌, ◌^◌, leb, ltb, eqb, length, drop}
-use Rattle.records.specs.Answers.{Outcome, accepted, refused, unless, unless_at, and_then, after_call}
+use Rattle.std.specs.Prelude.{List, [], ◌∷◌, ◌++◌, ℕ, ◌/◌, ◌%◌, ◌^◌, leb, ltb, eqb, length, drop, Result}
+use Rattle.records.specs.declared.Refusal.{Refusal}
+use Rattle.records.specs.Answers.{Outcome, accepted, unless, unless_at, and_then, after_call, outcome_of}
 use Rattle.records.specs.Records.{Codec, list_of}
 use Rattle.cube.specs.declared.Cube.{Cube}
-use Rattle.cube.specs.declared.Valued.{Valued}
-use Rattle.cube.specs.declared.Valued.TheVariants as valued_is
+use Rattle.cube.specs.declared.ValueAt.{ValueAt}
 use Rattle.cube.specs.Cubes.{good}
 use Rattle.cube.specs.Lists.{most_variables, vector_variables, most_records, cubes, cubes_of, trues, list_value, truth_vector}
 
@@ -42,6 +42,5 @@ unfoldable pub vector_after : ℕ → List ℕ → List ℕ → List ℕ
 vector_after n b out = after_call (vector_outcome n b (length out)) (truth_vector n (cubes_of b) ++ drop (2 ^ n) out) out
 
 -- document 01's number and values for each case of the value call's answer
-abbrev pub valued : Valued → Outcome
-valued (valued_is.Bit b t) = accepted (b ∷ t ∷ [])
-valued (valued_is.Refused r) = refused r
+abbrev pub valued : Result ValueAt Refusal → Outcome
+valued = outcome_of (λ a. a.bit ∷ a.trues ∷ [])

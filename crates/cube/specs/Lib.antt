@@ -3,3 +3,4 @@ pub mod CubeRecord
 pub mod Lists
 pub mod Calls
 pub mod Checking
+pub mod Kinds

@@ -1,4 +1,4 @@
-// The value of a list at an assignment, and its truth vector.
+//! The value of a list at an assignment, and its truth vector.
 ghost use Rattle.std.specs.Prelude.{◌≡◌, ℕ, ◌/◌, ◌<◌, ◌≤◌, ◌^◌, ◌++◌, length, drop, get_or};
 ghost use Rattle.bits.specs.Sums.{All, one_if};
 ghost use Rattle.bits.specs.Packed.{bit_at, both, literal_bits};
@@ -8,14 +8,14 @@ ghost use Rattle.cube.specs.Lists.{record_width, most_records, cubes_of, trues, 
 ghost use Rattle.cube.specs.Calls.{check_at, valued, value_outcome, vector_outcome, vector_after};
 
 use crate::record::{MASK_WIDTH, mask_at};
-use crate::{Cube, Valued, list};
+use crate::{Cube, ValueAt, list};
 use bits::packed::Packed;
-use records::{Counted, Refusal};
+use records::{Reason, Refusal};
 
-// Variables of a truth vector, at most.
+/// Variables of a truth vector, at most.
 pub const VECTOR_VARIABLES: usize = 8;
 
-// Whether the product at a place that the list has is true at a.
+/// Whether the product at a place that the list has is true at a.
 fn true_at(list: &[u8], i: usize, a: u32) -> bool
     requires { i < length list.now / record_width }
     ensures { HoldsAt (get_or (cubes_of list.now) i one) a result }
@@ -26,7 +26,7 @@ fn true_at(list: &[u8], i: usize, a: u32) -> bool
     Cube { seen, value }.holds_at(a)
 }
 
-// How many products of a list of good cubes are true at a. The count has as many bits as a mask, so that the compiler counts as many at once as it compares.
+/// How many products of a list of good cubes are true at a. The count has as many bits as a mask, so that the compiler counts as many at once as it compares.
 fn trues_at(n: usize, list: &[u8], a: u32) -> usize
     requires all { All (Good n) (cubes_of list.now) }
     requires record_width_len_bound { length list.now / record_width ≤ most_records }
@@ -35,50 +35,43 @@ fn trues_at(n: usize, list: &[u8], a: u32) -> usize
 {
     let count = list.len() / list::RECORD_WIDTH;
     let mut t: u32 = 0;
-    let mut i: usize = 0;
-    while i < count {
+    for i in 0..count {
         t += true_at(list, i, a) as u32;
-        i += 1;
     }
     t as usize
 }
 
-// Checking a list and an assignment of its variables: refusals 1 to 4 and 6, or the count of its records.
-pub fn check_at(n: usize, list: &[u8], a: u64) -> Counted
+/// Checking a list and an assignment of its variables: refusals 1 to 4 and 6, or the count of its records.
+pub fn check_at(n: usize, list: &[u8], a: u64) -> Result<usize, Refusal>
     ensures { counted result ≡ check_at n list.now a }
 {
-    match list::check(n, list) {
-        Counted::Refused(r) => Counted::Refused(r),
-        Counted::Count(count) => {
-            if a >> n != 0 {
-                return Counted::Refused(Refusal::new(6, 0));
-            }
-            Counted::Count(count)
-        }
+    let count = list::check(n, list)?;
+    if a >> n != 0 {
+        return Err(Reason::LabelOutside.at(0));
     }
+    Ok(count)
 }
 
-// The value of a list at the assignment a: refusals 1 to 4 and 6, or the bit and the number of true products.
-pub fn value(n: usize, list: &[u8], a: u64) -> Valued
+/// The value of a list at the assignment a: refusals 1 to 4 and 6, or the bit and the number of true products.
+pub fn value(n: usize, list: &[u8], a: u64) -> Result<ValueAt, Refusal>
     ensures { valued result ≡ value_outcome n list.now a }
 {
-    match check_at(n, list, a) {
-        Counted::Refused(r) => Valued::Refused(r),
-        Counted::Count(_) => {
-            let trues = trues_at(n, list, a as u32);
-            Valued::Bit((trues % 2) as u8, trues)
-        }
-    }
+    check_at(n, list, a)?;
+    let trues = trues_at(n, list, a as u32);
+    Ok(ValueAt {
+        bit: (trues % 2) as u8,
+        trues,
+    })
 }
 
-// The bits of w at whose index the literal of variable k is true.
+/// The bits of w at whose index the literal of variable k is true.
 fn with_literal(w: Packed, c: Cube, k: u32) -> Packed
     ensures { result ≡ both w (literal_bits (code c k) k) }
 {
     w.both(Packed::literal(k as usize, c.code_at(k)))
 }
 
-// The assignments of eight variables at which a product is true, a bit each.
+/// The assignments of eight variables at which a product is true, a bit each.
 fn product_bits(c: Cube) -> Packed
     ensures { (a : ℕ) → a < 256 → bit_at result a ≡ one_if (holds 8 c a) }
 {
@@ -92,25 +85,22 @@ fn product_bits(c: Cube) -> Packed
     with_literal(w6, c, 7)
 }
 
-// The value of a list at each assignment of eight variables, a bit each.
+/// The value of a list at each assignment of eight variables, a bit each.
 fn value_bits(list: &[u8]) -> Packed
     ensures { (a : ℕ) → a < 256 → bit_at result a ≡ list_value 8 (cubes_of list.now) a }
 {
     let count = list.len() / list::RECORD_WIDTH;
     let mut w = Packed::NONE;
-    let mut i: usize = 0;
-    while i < count {
+    for i in 0..count {
         let at = list::RECORD_WIDTH * i;
         let seen = mask_at(list, at);
         let value = mask_at(list, at + MASK_WIDTH);
-        let next = w.sum(product_bits(Cube { seen, value }));
-        w = next;
-        i += 1;
+        w = w.sum(product_bits(Cube { seen, value }));
     }
     w
 }
 
-// The value at each of so many assignments, to the front of a buffer, one by one.
+/// The value at each of so many assignments, to the front of a buffer, one by one.
 fn fill_each(n: usize, assignments: usize, list: &[u8], out: &mut [u8])
     requires all { All (Good n) (cubes_of list.now) }
     requires record_width_len_bound { length list.now / record_width ≤ most_records }
@@ -118,14 +108,12 @@ fn fill_each(n: usize, assignments: usize, list: &[u8], out: &mut [u8])
     requires assignments_in_bounds { assignments ≤ length out.old }
     ensures { out.new ≡ truth_vector n (cubes_of list.now) ++ drop (2 ^ n) out.old }
 {
-    let mut a: usize = 0;
-    while a < assignments {
+    for a in 0..assignments {
         out[a] = (trues_at(n, list, a as u32) % 2) as u8;
-        a += 1;
     }
 }
 
-// The value at each of so many assignments, to the front of a buffer. A product at four assignments costs less than its bits at 256.
+/// The value at each of so many assignments, to the front of a buffer. A product at four assignments costs less than its bits at 256.
 fn fill_vector(n: usize, assignments: usize, list: &[u8], out: &mut [u8])
     requires all { All (Good n) (cubes_of list.now) }
     requires record_width_len_bound { length list.now / record_width ≤ most_records }
@@ -140,20 +128,16 @@ fn fill_vector(n: usize, assignments: usize, list: &[u8], out: &mut [u8])
     value_bits(list).put(&mut out[..assignments]);
 }
 
-// The truth vector of a list: refusals 1 to 4 and 5, or its length, written to the front of the buffer.
-pub fn truth_vector(n: usize, list: &[u8], out: &mut [u8]) -> Counted
+/// The truth vector of a list: refusals 1 to 4 and 5, or its length, written to the front of the buffer.
+pub fn truth_vector(n: usize, list: &[u8], out: &mut [u8]) -> Result<usize, Refusal>
     ensures result_value { counted result ≡ vector_outcome n list.now (length out.old) }
     ensures out_after { out.new ≡ vector_after n list.now out.old }
 {
-    match list::check_within(VECTOR_VARIABLES, n, list) {
-        Counted::Refused(r) => Counted::Refused(r),
-        Counted::Count(_) => {
-            let assignments: usize = 1 << n;
-            if out.len() < assignments {
-                return Counted::Refused(Refusal::new(5, 0));
-            }
-            fill_vector(n, assignments, list, out);
-            Counted::Count(assignments)
-        }
+    list::check_within(VECTOR_VARIABLES, n, list)?;
+    let assignments: usize = 1 << n;
+    if out.len() < assignments {
+        return Err(Reason::NoRoom.at(0));
     }
+    fill_vector(n, assignments, list, out);
+    Ok(assignments)
 }

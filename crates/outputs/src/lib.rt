@@ -1,4 +1,4 @@
-// The list of one output of shared products, and a list as shared products of one output.
+//! The list of one output of shared products, and a list as shared products of one output.
 #![tactic(auto)]
 
 ghost use Rattle.std.specs.Prelude.{◌≡◌, map, ◌*◌, ◌/◌, ◌≤◌, ◌<◌, length};
@@ -11,13 +11,13 @@ ghost use Rattle.outputs.specs.Calls.{list_outcome, list_after, shares_outcome, 
 ghost use Rattle.outputs.specs.Steps.{place_after, buffer_after};
 
 use cube::list;
-use records::{Counted, Refusal};
+use records::{Reason, Refusal};
 use shared::Shared;
 
-// Outputs of a shared product, at most.
+/// Outputs of a shared product, at most.
 const OUTPUTS: u32 = 32;
 
-// The cube of a product that carries bit k stored at a place that the list has. Answers the next place: the same one where it doesn't carry the bit.
+/// The cube of a product that carries bit k stored at a place that the list has. Answers the next place: the same one where it doesn't carry the bit.
 fn put_carried(k: u32, s: Shared, out: &mut [u8], at: usize) -> usize
     requires { at < length out.old / record_width }
     ensures value { result ≡ place_after k s at }
@@ -30,7 +30,7 @@ fn put_carried(k: u32, s: Shared, out: &mut [u8], at: usize) -> usize
     at
 }
 
-// The cubes of the products that carry bit k, in their order, to the front of a buffer that has room for all products. Answers how many they are.
+/// The cubes of the products that carry bit k, in their order, to the front of a buffer that has room for all products. Answers how many they are.
 fn put_carrying(k: u32, list: &[u8], out: &mut [u8]) -> usize
     requires { record_width * (length list.now / shared_width) ≤ length out.old }
     ensures value { result ≡ length (carrying k (shares_of list.now)) }
@@ -38,53 +38,49 @@ fn put_carrying(k: u32, list: &[u8], out: &mut [u8]) -> usize
 {
     let count = list.len() / shared::list::SHARED_WIDTH;
     let mut met: usize = 0;
-    let mut i: usize = 0;
-    while i < count {
+    for i in 0..count {
         met = put_carried(k, shared::list::record_at(list, i), out, met);
-        i += 1;
     }
     met
 }
 
-// The list of output k: the cubes of the shared products that carry bit k, in their order at the front of `out`, and every other byte as it was. The records of
-// the list are not checked. Refusal 5 where `out` is too short for as many cubes as there are products, or the number of the cubes.
-pub fn list_of(k: u32, list: &[u8], out: &mut [u8]) -> Counted
+/// The list of output k: the cubes of the shared products that carry bit k, in their order at the front of `out`, and every other byte as it was. The records of
+/// the list are not checked. Refusal 5 where `out` is too short for as many cubes as there are products, or the number of the cubes.
+pub fn list_of(k: u32, list: &[u8], out: &mut [u8]) -> Result<usize, Refusal>
     ensures result_value { counted result ≡ list_outcome k list.now (length out.old) }
     ensures out_after { out.new ≡ list_after k list.now out.old }
 {
     if out.len() / list::RECORD_WIDTH < list.len() / shared::list::SHARED_WIDTH {
-        return Counted::Refused(Refusal::new(5, 0));
+        return Err(Reason::NoRoom.at(0));
     }
-    Counted::Count(put_carrying(k, list, out))
+    Ok(put_carrying(k, list, out))
 }
 
-// Every cube of a list stored at its place, as a product of these outputs.
+/// Every cube of a list stored at its place, as a product of these outputs.
 fn put_shares(outputs: u32, list: &[u8], out: &mut [u8])
     requires { shared_width * (length list.now / record_width) ≤ length out.old }
     ensures { out.new ≡ written shares 0 (map (sharing outputs) (cubes_of list.now)) out.old }
 {
     let count = list.len() / list::RECORD_WIDTH;
-    let mut i: usize = 0;
-    while i < count {
+    for i in 0..count {
         let cube = list::record_at(list, i);
         shared::list::put_record(out, i, Shared { cube, outputs });
-        i += 1;
     }
 }
 
-// A list as shared products of output k alone, each at its cube's place of `out`, and every other byte as it was. The records of the list are not checked.
-// Refusal 21 where there is no output k, 5 where `out` is too short, or the count.
-pub fn shares_of(k: u32, list: &[u8], out: &mut [u8]) -> Counted
+/// A list as shared products of output k alone, each at its cube's place of `out`, and every other byte as it was. The records of the list are not checked.
+/// Refusal 21 where there is no output k, 5 where `out` is too short, or the count.
+pub fn shares_of(k: u32, list: &[u8], out: &mut [u8]) -> Result<usize, Refusal>
     ensures result_value { counted result ≡ shares_outcome k list.now (length out.old) }
     ensures out_after { out.new ≡ shares_after k list.now out.old }
 {
     if OUTPUTS <= k {
-        return Counted::Refused(Refusal::new(21, 0));
+        return Err(Reason::NoSuchOutput.at(0));
     }
     let count = list.len() / list::RECORD_WIDTH;
     if out.len() / shared::list::SHARED_WIDTH < count {
-        return Counted::Refused(Refusal::new(5, 0));
+        return Err(Reason::NoRoom.at(0));
     }
     put_shares(1 << k, list, out);
-    Counted::Count(count)
+    Ok(count)
 }

@@ -1,4 +1,4 @@
-// Why a label goes to its slot: the places of the products of a list that are true at an assignment.
+//! Why a label goes to its slot: the places of the products of a list that are true at an assignment.
 #![tactic(auto)]
 
 ghost use Rattle.std.specs.Prelude.{◌≡◌, ◌*◌, ◌/◌, ◌^◌, ◌≤◌, ◌<◌, length};
@@ -12,16 +12,16 @@ ghost use Rattle.reasons.specs.Calls.{true_places, reasoned, reasons_outcome, re
 use cube::{list, value};
 pub use records::place::PLACE_WIDTH;
 use records::place::put_place;
-use records::{Counted, Refusal};
+use records::{Reason, Refusal};
 
-// What the call answers: the number of true products and the bit, or a refusal.
-#[derive(Clone, Copy)]
-pub enum Reasoned {
-    Shown(usize, u8),
-    Refused(Refusal),
+/// How many products are true, and the value.
+#[derive(Clone, Copy, Debug, PartialEq, Eq)]
+pub struct TrueProducts {
+    pub count: usize,
+    pub bit: u8,
 }
 
-// The places of the true products of a list of good cubes, to the front of a buffer that has room for every place. Answers how many they are.
+/// The places of the true products of a list of good cubes, to the front of a buffer that has room for every place. Answers how many they are.
 fn put_trues(n: usize, list: &[u8], a: u32, out: &mut [u8]) -> usize
     requires all { All (Good n) (cubes_of list.now) }
     requires a_bound { a < 2 ^ n }
@@ -32,31 +32,28 @@ fn put_trues(n: usize, list: &[u8], a: u32, out: &mut [u8]) -> usize
 {
     let count = list.len() / list::RECORD_WIDTH;
     let mut k: usize = 0;
-    let mut i: usize = 0;
-    while i < count {
+    for i in 0..count {
         if list::record_at(list, i).holds_at(a) {
             put_place(out, k, i as u16);
             k += 1;
         }
-        i += 1;
     }
     k
 }
 
-// The reasons for the value of a list at the assignment a: refusals 1 to 4, 6 and 5; or how many products are true there and the bit, with their places
-// written to the front of the buffer.
-pub fn reasons(n: usize, list: &[u8], a: u64, out: &mut [u8]) -> Reasoned
+/// The reasons for the value of a list at the assignment a: refusals 1 to 4, 6 and 5; or how many products are true there and the bit, with their places
+/// written to the front of the buffer.
+pub fn reasons(n: usize, list: &[u8], a: u64, out: &mut [u8]) -> Result<TrueProducts, Refusal>
     ensures result_value { reasoned result ≡ reasons_outcome n list.now a (length out.old) }
     ensures out_after { out.new ≡ reasons_after n list.now a out.old }
 {
-    match value::check_at(n, list, a) {
-        Counted::Refused(r) => Reasoned::Refused(r),
-        Counted::Count(count) => {
-            if out.len() < PLACE_WIDTH * count {
-                return Reasoned::Refused(Refusal::new(5, 0));
-            }
-            let number = put_trues(n, list, a as u32, out);
-            Reasoned::Shown(number, (number % 2) as u8)
-        }
+    let count = value::check_at(n, list, a)?;
+    if out.len() < PLACE_WIDTH * count {
+        return Err(Reason::NoRoom.at(0));
     }
+    let number = put_trues(n, list, a as u32, out);
+    Ok(TrueProducts {
+        count: number,
+        bit: (number % 2) as u8,
+    })
 }

@@ -2,7 +2,7 @@
 -- Assumes nothing.
 use mathlib.Core.Path.{◌≡◌, refl, sym, ap, ◌∙◌}
 use mathlib.Core.Bool.{Bool, true, false}
-use mathlib.Core.List.{List}
+use mathlib.Core.List.{List, [], ◌∷◌}
 use Prim.Native.Nat.{ℕ}
 use native.Mathlib.Omega.{arith}
 use lib.Dec.{eqb}
@@ -11,9 +11,8 @@ use borrow.Author.Tests.{eqb-true, eq-eqb, ne_eqb}
 use Rattle.bits.specs.Sums.{All, first_bad}
 use Rattle.bits.proofs.Sums.{first_none, none_first}
 use Rattle.records.specs.declared.Refusal.{Refusal}
-use Rattle.records.specs.declared.Counted.{Counted}
-use Rattle.records.specs.declared.Counted.TheVariants as counted_is
-use Rattle.records.specs.Answers.{Outcome, accepted, refused, refusal, unless, unless_at, and_then, after_call, counted}
+use Rattle.std.specs.Prelude.{Result, Ok, Err, IsErr, IsErrAnd}
+use Rattle.records.specs.Answers.{Outcome, accepted, refused, refusal, unless, unless_at, and_then, after_call, outcome_of, counted}
 
 -- what is accepted is not refused
 pub not_both : {v : List ℕ} {r : Refusal} → accepted v ≡ refused r → ⊥
@@ -90,13 +89,27 @@ call_refused o new out r e = (sym e, sym (after_refused o new out r e))
 pub call_accepted : (o : Outcome) (new out v out' : List ℕ) → o ≡ accepted v → out' ≡ new → (accepted v ≡ o) × (out' ≡ after_call o new out)
 call_accepted o new out v out' e f = (sym e, f ∙ sym (after_accepted o new out v e))
 
+-- ---- a refusal that `?` hands on
+
+pub handed_on : {A : Type 0} (values : A → List ℕ) (r : Result A Refusal) (e : Refusal) (o : Outcome)
+    → IsErr r × IsErrAnd r (λ (f : Refusal). f ≡ e) → refused e ≡ o → outcome_of values r ≡ o
+handed_on values (Ok a) e o p q = absurd p.1
+handed_on values (Err f) e o p q = ap refused p.1 ∙ q
+
 -- ---- the answer read back
 
-pub counted_back : Outcome → Counted
-counted_back (accepted v) = counted_is.Count (get_or v 0 0)
-counted_back (refused r) = counted_is.Refused r
+abbrev pub answer_back : {A : Type 0} → (List ℕ → A) → Outcome → Result A Refusal
+answer_back value (accepted v) = Ok (value v)
+answer_back value (refused r) = Err r
 
-pub counted_known : (a : Counted) → counted_back (counted a) ≡ a
-unfolding counted_back
-counted_known (counted_is.Count n) = refl
-counted_known (counted_is.Refused r) = refl
+-- what is told can be read back where its values can
+pub answer_known : {A : Type 0} (values : A → List ℕ) (value : List ℕ → A) → ((a : A) → value (values a) ≡ a)
+    → (r : Result A Refusal) → answer_back value (outcome_of values r) ≡ r
+answer_known values value known (Ok a) = ap Ok (known a)
+answer_known values value known (Err r) = refl
+
+abbrev pub counted_back : Outcome → Result ℕ Refusal
+counted_back = answer_back (λ (v : List ℕ). get_or v 0 0)
+
+pub counted_known : (a : Result ℕ Refusal) → counted_back (counted a) ≡ a
+counted_known = answer_known (λ n. n ∷ []) (λ (v : List ℕ). get_or v 0 0) (λ n. refl)

@@ -10,7 +10,8 @@ use borrow.Author.Tests.{le-leb, lt-leb, eq-eqb, ne_eqb, leb-true, eqb-true}
 use Rattle.bits.specs.Sums.{All, first_bad}
 use Rattle.records.specs.declared.Refusal.{Refusal}
 use Rattle.records.specs.Records.{Codec, list_of}
-use Rattle.records.specs.Answers.{Outcome, accepted, refused, refusal, unless, unless_at}
+use Rattle.records.specs.Answers.{Outcome, accepted, refused, refusal, unless_at}
+pub use Rattle.records.specs.Kinds.{checked}
 use Rattle.records.proofs.Records.{length_list}
 use Rattle.records.proofs.Answers.{unless_passes, unless_at_passes, unless_accepted, unless_at_accepted, unless_at_refused, unless_at_passed}
 
@@ -22,15 +23,8 @@ pub record AcceptedRecords {A : Type 0} (C : Codec A) (test : A → Bool) (most 
 
 -- the chain of tests, refused by three numbers
 module _ {A : Type 0} (C : Codec A) (test : A → Bool) (cut many bad most : ℕ) (b : List ℕ) where
-  abbrev pub checked : Outcome
-  checked =
-      unless (eqb (length b % C.width) 0) cut 0
-      (unless (leb (length b / C.width) most) many 0
-      (unless_at test bad (list_of C b)
-      (accepted (length (list_of C b) ∷ []))))
-
   -- an outcome that is this chain's
-  module _ (o : Outcome) (chain : checked ≡ o) where
+  module _ (o : Outcome) (chain : checked C test cut many bad most b ≡ o) where
     pub records_cut : (r : Refusal) → r ≡ refusal cut 0 → (length b % C.width ≡ 0 → ⊥) → refused r ≡ o
     records_cut r e h = ap refused e ∙ sym (simp (ne_eqb _ _ h)) ∙ chain
 
@@ -52,7 +46,7 @@ module _ {A : Type 0} (C : Codec A) (test : A → Bool) (cut many bad most : ℕ
             ap (λ (k : ℕ). accepted (k ∷ [])) (sym (length_list C b))
             ∙ unless_at_passed test bad (list_of C b) (accepted (length (list_of C b) ∷ [])) place is (h ∙ sym (length_list C b)) ∙ to_records
 
-  pub records_accepted : (v : List ℕ) → checked ≡ accepted v → AcceptedRecords C test most b
+  pub records_accepted : (v : List ℕ) → checked C test cut many bad most b ≡ accepted v → AcceptedRecords C test most b
   records_accepted v e =
       let p = unless_accepted (eqb (length b % C.width) 0) cut 0 _ v e in
       let q = unless_accepted (leb (length b / C.width) most) many 0 _ v p.1 in
@@ -63,7 +57,7 @@ module _ {A : Type 0} (C : Codec A) (test : A → Bool) (cut many bad most : ℕ
       }
 
   -- and what passes is accepted
-  pub accepted_records : AcceptedRecords C test most b → checked ≡ accepted (length b / C.width ∷ [])
+  pub accepted_records : AcceptedRecords C test most b → checked C test cut many bad most b ≡ accepted (length b / C.width ∷ [])
   accepted_records a =
       unless_passes _ cut 0 _ (eq-eqb _ _ a.whole)
       ∙ unless_passes _ many 0 _ (le-leb _ _ a.short)

@@ -9,6 +9,8 @@ use Rattle.records.proofs.Refusal.new.Kinds as new_kinds
 use Rattle.records.proofs.Refusal.new.Reads as new_reads
 use Rattle.records.proofs.Refusal.with_differing.Kinds as with_differing_kinds
 use Rattle.records.proofs.Refusal.with_differing.Reads as with_differing_reads
+use Rattle.records.proofs.reason.Reason.at.Kinds as at_kinds
+use Rattle.records.proofs.reason.Reason.at.Reads as at_reads
 use Rattle.records.proofs.clear.Kinds as clear_kinds
 use Rattle.records.proofs.clear.Reads as clear_reads
 use Rattle.records.proofs.fill.Kinds as fill_kinds
@@ -31,6 +33,9 @@ new_determined κs a z z' ws ws' p q = (same p q, refl)
 
 pub with_differing_determined : Determined 0 with_differing_kinds.ps with_differing_kinds.r with_differing_reads.Learnt
 with_differing_determined κs a z z' ws ws' p q = (same p q, refl)
+
+pub at_determined : Determined 0 at_kinds.ps at_kinds.r at_reads.Learnt
+at_determined κs a z z' ws ws' p q = (same p q, refl)
 
 pub clear_determined : Determined 1 clear_kinds.ps clear_kinds.r clear_reads.Learnt
 clear_determined κs a z z' ws ws' p q = (refl, ap (λ (b : List ℕ). (b, tt)) (same p q))

@@ -15,6 +15,7 @@ use Rattle.bits.proofs.Bools.{both_true, below_or}
 use mathlib.Core.Logic.{⊎_elim}
 use Rattle.records.specs.Numbers.{bytes_of, number_at}
 use Rattle.records.specs.Records.{flat, filled, image, records, list_of, zeros}
+use Rattle.records.specs.Kinds.{Laws}
 use Rattle.records.specs.Fields.{total, field_bytes, numbers_at, by_fields}
 use Rattle.records.proofs.Widths.{length_bytes_lem, bytes_zero, number_past, number_front, bytes_back, number_part, sets_append}
 use Rattle.records.proofs.Images.{flat_append, length_flat, flat_list_below}
@@ -173,6 +174,15 @@ module _ {A : Type 0} (ws : List ℕ) (fields : A → List ℕ) (of : List ℕ �
       let p : ℕ = total ws * i in
       ap of (numbers_part b p (p + total ws - p) ws 0 0 (omega arith) ∙ ap (λ (q : ℕ). numbers_at ws b q 0) (add-zero p))
       ∙ sym (list_at (by_fields ws fields of) b i d h)
+
+  -- what a kind of record has to keep
+  pub fields_laws : Laws (by_fields ws fields of)
+  fields_laws = record {
+    lawful = fields_lawful;
+    part = λ b i h.
+        ap (λ (q : ℕ). of (numbers_at ws (take (total ws * i + total ws - total ws * i) (drop (total ws * i) b)) q 0)) (mul-zero (total ws))
+        ∙ fields_in b i (of (zeros (length ws))) h ∙ list_at (by_fields ws fields of) b i (of (zeros (length ws))) h;
+  }
 
   -- a record within a front of bytes is read the same whatever comes after
   pub fields_front : (s t : List ℕ) (i : ℕ) → i < length s / total ws → (by_fields ws fields of).read (s ++ t) i ≡ (by_fields ws fields of).read s i

@@ -1,17 +1,15 @@
--- A list with zeros after it, and the loops that clear a buffer and fill it with a list, one store a turn.
+-- A list with zeros after it, and a buffer that is filled with a list.
 -- Assumes nothing.
-use mathlib.Core.Path.{◌≡◌, refl, sym, ap, ◌∙◌, subst}
+use mathlib.Core.Path.{◌≡◌, refl, sym, ap, ◌∙◌}
 use mathlib.Core.Bool.{Bool, true, false, cond}
 use Prim.Native.Nat.{ℕ, zero, suc, ◌+◌, ◌-◌, ◌≤◌, ◌<◌}
 use native.Mathlib.Nat.{sub-zero, zero-sub, suc-sub-suc}
 use native.Mathlib.Omega.{arith}
 use mathlib.Core.List.{List, ◌++◌}
 use lib.Dec.{leb}
-use lib.ListN.{length, drop, get_or, set, replicate, length-append, length-replicate, get_or-append}
+use lib.ListN.{length, drop, get_or, replicate, length-append, length-replicate, get_or-append}
 use lib.Seq.{get_or-append-add}
 use borrow.Author.Tests.{le-leb, lt-leb, leb-true}
-use Rattle.bits.proofs.Below.{is_list_below}
-use Rattle.bits.proofs.Front.{Front, front_more, front_all, front_again, front_list}
 use Rattle.records.specs.Records.{filled, filled_by, zeros}
 
 -- ---- zeros, and a list and zeros after it
@@ -62,33 +60,9 @@ module _ (d s : List ℕ) where
       go true e = length_filled (length d) s (leb-true _ _ e)
       go false e = refl
 
-  -- what the two loops of a filling write
-  abbrev pub filling : ℕ → ℕ
-  filling i = get_or (filled (length d) s) i 0
-
-  -- one turn: a byte of the list, and then a zero
-  pub filling_list : (b : List ℕ) (k : ℕ) → Front filling d b k → k < length s → length s ≤ length d → Front filling d (set b k (get_or s k 0)) (k + 1)
-  filling_list b k r h l = front_more filling d b k r (get_or s k 0) (omega (arith, r.long)) (filled_front (length d) s k h)
-
-  pub filling_zero : (b : List ℕ) (k : ℕ) → Front filling d b k → length s ≤ k → k < length b → Front filling d (set b k 0) (k + 1)
-  filling_zero b k r l h = front_more filling d b k r 0 h (filled_after (length d) s k l)
-
-  pub filling_done : (b : List ℕ) (k : ℕ) → Front filling d b k → length b ≤ k → length s ≤ length d → b ≡ filled_by d s
-  filling_done b k r h l = front_list 0 (filled (length d) s) d (length_filled (length d) s l) b k r h ∙ sym (filled_by_lem l)
-
--- the second loop of a filling starts anew where the first one ended
-pub filling_rest : (d s b : List ℕ) (k : ℕ) → Front (filling d s) d b k → Front (filling b s) b b k
-filling_rest d s b k r = subst (λ (n : ℕ). Front (λ i. get_or (filled n s) i 0) b b k) (sym r.long) (front_again (filling d s) d b k r)
-
-pub filling_end : (d s b₁ b : List ℕ) (k : ℕ) → length b₁ ≡ length d → Front (filling b₁ s) b₁ b k → length b ≤ k → length s ≤ length d → b ≡ filled_by d s
-filling_end d s b₁ b k e r h l =
-    filling_done b₁ s b k r h (omega (arith, e)) ∙ filled_by_lem b₁ s (omega (arith, e)) ∙ ap (λ (n : ℕ). filled n s) e ∙ sym (filled_by_lem d s l)
-
--- clearing
-pub clearing_more : (d b : List ℕ) (k : ℕ) → Front (λ _. 0) d b k → k < length b → Front (λ _. 0) d (set b k 0) (k + 1)
-clearing_more d b k r h = front_more (λ _. 0) d b k r 0 h refl
-
-pub clearing_done : (d b : List ℕ) (k : ℕ) → Front (λ _. 0) d b k → length b ≤ k → b ≡ zeros (length d)
-clearing_done d b k r h =
-    front_all (λ _. 0) d b k r h
-    ∙ sym (is_list_below 0 (zeros (length d)) (length d) (λ _. 0) (length_zeros (length d)) (λ i l. sym (zeros_at (length d) i)))
+  -- the list at the front, and zeros in the bytes that are left
+  pub filled_parts : (k : ℕ) → k + length s ≡ length d → s ++ replicate k 0 ≡ filled_by d s
+  unfolding filled
+  filled_parts k e =
+      let left : k ≡ length d - length s = omega arith in
+      ap (λ (n : ℕ). s ++ replicate n 0) left ∙ sym (filled_by_lem (omega arith))

@@ -6,6 +6,8 @@ pub mod Fields
 pub mod Places
 pub mod Looking
 pub mod Striding
+pub mod Items
+pub mod Converting
 pub mod Counting
 pub mod Picking
 pub mod Scattering

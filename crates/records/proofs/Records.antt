@@ -14,16 +14,10 @@ use borrow.Rule.Slice.PartMut.{put_mid}
 use Rattle.bits.proofs.Below.{length_list_below, get_or_list_below, is_list_below}
 use Rattle.records.specs.Places.{remove_at}
 use Rattle.records.specs.Records.{flat, filled, Codec, stored, records, list_of, written, image, Holds, Held, capacity_of}
+pub use Rattle.records.specs.Kinds.{Lawful}
 use Rattle.records.proofs.Filling.{length_filled}
 use Rattle.records.proofs.Widths.{sets_part}
 use Rattle.records.proofs.Images.{length_flat, length_image, image_put, image_push, image_remove, sets_past}
-
--- What has to be shown of a codec, once for each kind of record
-pub record Lawful {A : Type 0} (C : Codec A) : Type 0 where
-  pub wide : 0 < C.width
-  pub len : (a : A) → length (C.enc a) ≡ C.width
-  pub zero_record : C.enc C.none ≡ replicate C.width 0
-  pub reads : (n : ℕ) (l : List A) (i : ℕ) → i < length l → C.read (image C n l) i ≡ get_or l i C.none
 
 -- ---- places of a buffer
 

@@ -1,11 +1,9 @@
 -- What a call answers: document 01's values, or a refusal with its number, its place and its third answer. Document 01, "Refusal numbers and places";
 -- document 02, Four: "give the number of differing variables as a third answer".
 -- Assumes nothing.
-use Rattle.std.specs.Prelude.{ℕ, ◌≡◌, Bool, true, false, List, [], ◌∷◌, eqb, length}
+use Rattle.std.specs.Prelude.{ℕ, ◌≡◌, Bool, true, false, List, [], ◌∷◌, eqb, length, Result, Ok, Err}
 use Rattle.bits.specs.Sums.{first_bad}
 use Rattle.records.specs.declared.Refusal.{Refusal}
-use Rattle.records.specs.declared.Counted.{Counted}
-use Rattle.records.specs.declared.Counted.TheVariants as counted_is
 
 -- the one way to make a refusal with the number of differing variables
 abbrev pub refusal_with : ℕ → ℕ → ℕ → Refusal
@@ -44,7 +42,11 @@ abbrev pub after_call : Outcome → List ℕ → List ℕ → List ℕ
 after_call (accepted values) new old = new
 after_call (refused r) new old = old
 
--- document 01's number and values for each case of a count or a refusal
-abbrev pub counted : Counted → Outcome
-counted (counted_is.Count n) = accepted (n ∷ [])
-counted (counted_is.Refused r) = refused r
+-- document 01's number and values for each case of a call's answer
+abbrev pub outcome_of : {A : Type 0} → (A → List ℕ) → Result A Refusal → Outcome
+outcome_of values (Ok a) = accepted (values a)
+outcome_of values (Err r) = refused r
+
+-- of a count or a refusal
+abbrev pub counted : Result ℕ Refusal → Outcome
+counted = outcome_of (λ n. n ∷ [])

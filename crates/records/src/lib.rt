@@ -1,31 +1,32 @@
-// Records of fixed width end to end in a lent buffer: their numbers, places, clearing and filling; and the refusal that every call answers with.
+//! Records of fixed width end to end in a lent buffer: their numbers, places, clearing and filling; and the refusal that every call answers with.
 #![tactic(auto)]
 
+pub mod kind;
+pub mod list;
 pub mod numbers;
 pub mod place;
+pub mod reason;
 
-ghost use Rattle.std.specs.Prelude.{◌≡◌, length};
+ghost use Rattle.std.specs.Prelude.{◌≡◌, ◌++◌, Some, codes, length};
+ghost use Rattle.std.specs.Fmt.{decimal};
 ghost use Rattle.records.specs.Records.{zeros, filled_by};
 ghost use Rattle.records.specs.Answers.{refusal, refusal_with};
 
-// Why a call is refused: the number, the place, and a third answer: the number of differing variables, where the two cubes of a step are not
-// as it needs; else 0.
-#[derive(Clone, Copy)]
+pub use reason::{Reason, UnknownReason};
+use std::fmt;
+
+/// Why a call is refused: the number, the place, and a third answer: the number of differing variables, where the two cubes of a step are not
+/// as it needs; else 0.
+#[derive(Clone, Copy, Debug, PartialEq, Eq)]
 pub struct Refusal {
+    // Stays: a number and no `Reason`; `Refusal::new` takes any, and C reads it.
     pub number: u8,
     pub place: usize,
     pub differing: u32,
 }
 
-// What most calls answer: a count, or a refusal.
-#[derive(Clone, Copy)]
-pub enum Counted {
-    Count(usize),
-    Refused(Refusal),
-}
-
 impl Refusal {
-    // The one way to make a plain refusal, whose third answer is 0.
+    /// The one way to make a plain refusal, whose third answer is 0.
     pub fn new(number: u8, place: usize) -> Refusal
         ensures { result ≡ refusal number place }
     {
@@ -36,7 +37,7 @@ impl Refusal {
         }
     }
 
-    // The one way to make a refusal with a number of differing variables.
+    /// The one way to make a refusal with a number of differing variables.
     pub fn with_differing(number: u8, place: usize, differing: u32) -> Refusal
         ensures { result ≡ refusal_with number place differing }
     {
@@ -48,32 +49,29 @@ impl Refusal {
     }
 }
 
-// Clears all of buf.
-pub fn clear(buf: &mut [u8])
-    ensures { buf.new ≡ zeros (length buf.old) }
-{
-    let mut k = 0;
-    while k < buf.len() {
-        buf[k] = 0;
-        k += 1;
+impl fmt::Display for Refusal {
+    ghost output = { λ r. Some (codes "refused " ++ (decimal r.number ++ (codes " at " ++ decimal r.place))) };
+
+    fn fmt<W: fmt::Write>(&self, f: &mut fmt::Formatter<W>) -> fmt::Result {
+        write!(f, "refused {} at {}", self.number, self.place)
     }
 }
 
-// The bytes of list at the front of buf, and zeros after them; nothing where they don't fit.
+/// Clears all of buf.
+pub fn clear(buf: &mut [u8])
+    ensures { buf.new ≡ zeros (length buf.old) }
+{
+    buf.fill(0);
+}
+
+/// The bytes of list at the front of buf, and zeros after them; nothing where they don't fit.
 pub fn fill(buf: &mut [u8], list: &[u8])
     ensures { buf.new ≡ filled_by buf.old list.now }
 {
-    let end = list.len();
-    if buf.len() < end {
+    if buf.len() < list.len() {
         return;
     }
-    let mut k = 0;
-    while k < end {
-        buf[k] = list[k];
-        k += 1;
-    }
-    while k < buf.len() {
-        buf[k] = 0;
-        k += 1;
-    }
+    let (front, rest) = buf.split_at_mut(list.len());
+    front.copy_from_slice(list);
+    rest.fill(0);
 }

@@ -4,12 +4,12 @@ use mathlib.Core.Path.{◌≡◌, refl, ap}
 use mathlib.Core.List.{List}
 use Prim.Native.Nat.{ℕ}
 use lib.ListN.{get_or}
+use Rattle.std.specs.Prelude.{Result}
 use Rattle.bits.specs.Outcomes.{Determined}
 use Rattle.bits.proofs.Determined.{same, same_told}
-use Rattle.records.specs.Answers.{Outcome, accepted, refused, counted}
-use Rattle.records.proofs.Answers.{counted_back, counted_known}
-use Rattle.shared.specs.declared.Worded.{Worded}
-use Rattle.shared.specs.declared.Worded.TheVariants as worded_is
+use Rattle.records.specs.declared.Refusal.{Refusal}
+use Rattle.records.specs.Answers.{Outcome, counted}
+use Rattle.records.proofs.Answers.{counted_back, counted_known, answer_back, answer_known}
 use Rattle.shared.specs.Calls.{worded}
 use Rattle.shared.proofs.record.record_at.Kinds as record_at_kinds
 use Rattle.shared.proofs.record.record_at.Reads as record_at_reads
@@ -23,14 +23,15 @@ use Rattle.shared.proofs.value.value.Kinds as value_kinds
 use Rattle.shared.proofs.value.value.Reads as value_reads
 
 -- the value call's answer, read back
-pub worded_back : Outcome → Worded
-worded_back (accepted v) = worded_is.Word (get_or v 0 0)
-worded_back (refused r) = worded_is.Refused r
+pub worded_value : List ℕ → ℕ
+worded_value v = (get_or v 0 0)
 
-pub worded_known : (a : Worded) → worded_back (worded a) ≡ a
-unfolding worded_back
-worded_known (worded_is.Word w) = refl
-worded_known (worded_is.Refused r) = refl
+pub worded_back : Outcome → Result ℕ Refusal
+worded_back = answer_back worded_value
+
+pub worded_known : (r : Result ℕ Refusal) → worded_back (worded r) ≡ r
+unfolding worded_value worded_back
+worded_known = answer_known _ worded_value (λ a. refl)
 
 pub record_at_determined : Determined 1 record_at_kinds.ps record_at_kinds.r record_at_reads.Learnt
 record_at_determined κs a z z' ws ws' p q = (same p q, refl)

@@ -3,18 +3,17 @@
 use mathlib.Core.Path.{◌≡◌, refl, sym, ap, ◌∙◌}
 use mathlib.Core.Bool.{true, not}
 use mathlib.Core.List.{List, [], ◌∷◌}
-use Prim.Native.Nat.{ℕ, ◌-◌, ◌+◌, ◌*◌, ◌/◌, ◌<◌}
+use Prim.Native.Nat.{ℕ, ◌*◌, ◌<◌}
 use native.Mathlib.Nat.{zero-add}
 use borrow.Author.Tests.{eqb-false, ne_eqb, not-true}
-use borrow.Rule.Slice.PartMut.{put_mid}
 use lib.Dec.{lit<}
-use lib.ListN.{length, get_or, take, drop}
+use lib.ListN.{length, get_or}
 use lib.Seq.{sets}
 use Rattle.bits.proofs.Bools.{both_true, true_both}
 use Rattle.records.specs.Numbers.{bytes_of, number_at}
-use Rattle.records.specs.Records.{flat, records, stored}
-use Rattle.records.proofs.Fields.{Fields, fields_last, fields_lawful, fields_bytes, fields_in}
-use Rattle.records.proofs.Records.{Lawful, list_flat, stored_part}
+use Rattle.records.specs.Records.{flat, records}
+use Rattle.records.proofs.Fields.{Fields, fields_last, fields_lawful, fields_bytes}
+use Rattle.records.proofs.Records.{Lawful, list_flat}
 use Rattle.records.proofs.Widths.{sets_append}
 use Rattle.cube.specs.declared.Cube.{Cube}
 use Rattle.cube.specs.Cubes.{good}
@@ -22,7 +21,7 @@ use Rattle.cube.specs.CubeRecord.{record_width, mask_width, cubes, cube_of, cube
 use Rattle.cube.proofs.Codes.{good_parts, parts_good}
 use Rattle.cube.proofs.CubeRecord.{lawful}
 use Rattle.shared.specs.declared.Shared.{Shared}
-use Rattle.shared.specs.SharedRecord.{sharing, no_shared, shared_width, outputs_width, shares, shares_of, fine, Fine}
+use Rattle.shared.specs.SharedRecord.{sharing, shared_width, outputs_width, shares, shares_of, fine, Fine}
 
 -- ---- there and back
 
@@ -67,18 +66,6 @@ outputs_stored r b b₁ b₂ e₁ e₂ =
     ∙ ap (λ (k : ℕ). sets (sets b 0 s) k o) (sym (zero-add (length s) ∙ lawful.len r.cube))
     ∙ sets_append b 0 s o
     ∙ ap (sets b 0) (fields_last (mask_width ∷ mask_width ∷ []) (cube_fields r.cube) refl outputs_width r.outputs)
-
--- ---- its part of a list
-
-module _ (b : List ℕ) (i : ℕ) where
-  pub shared_in : i < length b / shared_width
-      → (r : Shared) → r ≡ shares.read (take (shared_width * i + shared_width - shared_width * i) (drop (shared_width * i) b)) 0 → r ≡ get_or (shares_of b) i no_shared
-  shared_in h r e = e ∙ fields_in widths fields shared_of numbers b i no_shared h
-
-  pub shared_stored : (r : Shared) → i < length b / shared_width
-      → (part : List ℕ) → part ≡ sets (take (shared_width * i + shared_width - shared_width * i) (drop (shared_width * i) b)) 0 (shares.enc r)
-      → put_mid (shared_width * i) (shared_width * i + shared_width - shared_width * i) b part ≡ stored shares b i r
-  shared_stored r h part e = stored_part shares shared_lawful b i r h part e
 
 -- ---- what is accepted of it
 

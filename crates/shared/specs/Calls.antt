@@ -1,10 +1,9 @@
 -- The calls on a list of shared products: what they answer. Document 02, Nine; document 01, "Refusal numbers and places".
 -- Assumes nothing.
-use Rattle.std.specs.Prelude.{List, [], ◌∷◌, ℕ, ◌/◌, ◌%◌, ◌^◌, leb, ltb, eqb, length}
-use Rattle.records.specs.Answers.{Outcome, accepted, refused, unless, unless_at, and_then}
+use Rattle.std.specs.Prelude.{List, [], ◌∷◌, ℕ, ◌/◌, ◌%◌, ◌^◌, leb, ltb, eqb, length, Result}
+use Rattle.records.specs.declared.Refusal.{Refusal}
+use Rattle.records.specs.Answers.{Outcome, accepted, unless, unless_at, and_then, outcome_of}
 use Rattle.cube.specs.Lists.{most_variables, most_records}
-use Rattle.shared.specs.declared.Worded.{Worded}
-use Rattle.shared.specs.declared.Worded.TheVariants as worded_is
 use Rattle.shared.specs.SharedRecord.{shared_width, shares_of, fine}
 use Rattle.shared.specs.Outputs.{value_word}
 
@@ -26,6 +25,5 @@ unfoldable pub word_outcome : ℕ → List ℕ → ℕ → Outcome
 word_outcome n b a = and_then (check_shared_at n b a) (accepted (value_word n (shares_of b) a ∷ []))
 
 -- document 01's number and values for each case of the value call's answer
-abbrev pub worded : Worded → Outcome
-worded (worded_is.Word w) = accepted (w ∷ [])
-worded (worded_is.Refused r) = refused r
+abbrev pub worded : Result ℕ Refusal → Outcome
+worded = outcome_of (λ w. w ∷ [])

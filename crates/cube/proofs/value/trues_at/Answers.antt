@@ -1,16 +1,11 @@
 -- `value::trues_at` meets its contract: the loop keeps `Counting`.
 -- Assumes nothing.
 use mathlib.Core.Path.{refl}
-use native.Mathlib.Omega.{arith}
-use Rattle.bits.proofs.Bools.{one_lt}
-use Rattle.records.proofs.Counting.{counting_none, counting_next, counted_all}
+use Rattle.records.proofs.Counting.{counting_next, counted_all}
 use Rattle.cube.specs.Cubes.{holds}
 use Rattle.cube.specs.Lists.{cubes, cubes_of, trues}
 use Rattle.cube.proofs.Lists.{mask_at}
 use Rattle.cube.proofs.value.trues_at.Goals as goal
-
-pub loop-i-init : goal.loop-i-init
-loop-i-init c = search counting_none
 
 pub loop-i-preserved : goal.loop-i-preserved
 loop-i-preserved c =
@@ -18,12 +13,6 @@ loop-i-preserved c =
     _ refl c.true_at.result c.true_at.ensures.fixed in
     counting_next cubes (λ y. holds c.args.n y c.args.a) _ _ _ c.loop-i.invariant c.loop-i-test.true
     _ refl c.true_at.result true_there
-
-pub overflow_add-t : goal.overflow_add-t
-overflow_add-t c = omega (arith, one_lt c.true_at.result, c.loop-i.invariant.few, c.requires.record_width_len_bound)
-
-pub overflow_cast-result : goal.overflow_cast-result
-overflow_cast-result c = omega (arith, c.loop-i.invariant.few, c.loop-i.invariant.within, c.requires.record_width_len_bound)
 
 pub returns : goal.returns
 unfolding trues

@@ -1,11 +1,8 @@
 -- `value::word_at` meets its contract: the loop keeps `Wording`.
 -- Assumes nothing.
 use borrow.Author.Rules.{rules}
-use Rattle.shared.proofs.value.Wording.{wording_none, wording_step, wording_all, holds_here}
+use Rattle.shared.proofs.value.Wording.{wording_step, wording_all, holds_here}
 use Rattle.shared.proofs.value.word_at.Goals as goal
-
-pub loop-i-init : goal.loop-i-init
-loop-i-init c = wording_none _ _ _
 
 pub loop-i-preserved : goal.loop-i-preserved
 loop-i-preserved c =

@@ -1,13 +1,7 @@
 -- `value::word_at` meets its contract: the loop keeps `Wording`.
 -- Assumes nothing.
-use Prim.Native.Nat.{◌-◌, ◌/◌}
-use lib.ListN.{length}
-use Rattle.shared.specs.SharedRecord.{shared_width}
 use Rattle.shared.proofs.value.Wording.{Wording}
 use Rattle.shared.proofs.value.word_at.Given as goal
 
 abbrev pub invariant-loop-i : goal.invariant-loop-i
 invariant-loop-i l = Wording l.n l.list l.a l.w l.i
-
-abbrev pub decreases-loop-i : goal.decreases-loop-i
-decreases-loop-i l = length l.list / shared_width - l.i

@@ -1,7 +1,0 @@
--- `record::put_record` meets its contract: what is stored over a record's part of the list is the record stored.
--- Assumes nothing.
-use Rattle.shared.proofs.SharedRecord.{shared_stored}
-use Rattle.shared.proofs.record.put_record.Goals as goal
-
-pub returns : goal.returns
-returns c = search shared_stored
