@@ -1,19 +1,19 @@
-// Literal codes by themselves: the third of two codes, by arithmetic, and the six orders of the codes 0, 1, 2, each rule of theirs a small constant table.
+//! Literal codes by themselves: the third of two codes, by arithmetic, and the six orders of the codes 0, 1, 2, each rule of theirs a small constant table.
 #![tactic(auto)]
 
 ghost use Rattle.std.specs.Prelude.{◌≡◌};
 ghost use Rattle.orders.specs.Codes.{third_of};
 ghost use Rattle.orders.specs.Orders.{code_after, follow, inverse, letter_order};
 
-// The codes 0, 1, 2, and the orders 0 to 5.
+/// The codes 0, 1, 2, and the orders 0 to 5.
 const CODES: u8 = 3;
 
 const ORDERS: u8 = 6;
 
-// What the three codes add up to.
+/// What the three codes add up to.
 const CODE_SUM: u8 = 0 + 1 + 2;
 
-// Row o: what the order o makes of 0, 1 and 2.
+/// Row o: what the order o makes of 0, 1 and 2.
 const IMAGE: [[u8; 3]; 6] = [
     [0, 1, 2],
     [0, 2, 1],
@@ -23,7 +23,7 @@ const IMAGE: [[u8; 3]; 6] = [
     [2, 1, 0],
 ];
 
-// Row p, column q: the order p followed by the order q.
+/// Row p, column q: the order p followed by the order q.
 const FOLLOW: [[u8; 6]; 6] = [
     [0, 1, 2, 3, 4, 5],
     [1, 0, 3, 2, 5, 4],
@@ -33,10 +33,10 @@ const FOLLOW: [[u8; 6]; 6] = [
     [5, 3, 4, 1, 2, 0],
 ];
 
-// The order that takes each order back.
+/// The order that takes each order back.
 const INVERSE: [u8; 6] = [0, 1, 2, 4, 3, 5];
 
-// The third of two different codes: 3 less both. 0 where they are equal, or one of them is no code.
+/// The third of two different codes: 3 less both. 0 where they are equal, or one of them is no code.
 pub fn third(x: u8, y: u8) -> u8
     ensures { result ≡ third_of x y }
 {
@@ -51,7 +51,8 @@ pub fn third(x: u8, y: u8) -> u8
     all - (x & all) - (y & all)
 }
 
-// What the order o makes of the code x; 0 where there is no such order or code.
+/// What the order o makes of the code x; 0 where there is no such order or code.
+#[tactic(auto, using(crate::proofs::Tables::code_after_no_order, crate::proofs::Tables::code_after_no_code), unfolding(crate::specs::Orders::code_after))]
 pub fn code_after(o: u8, x: u8) -> u8
     ensures { result ≡ code_after o x }
 {
@@ -66,7 +67,8 @@ pub fn code_after(o: u8, x: u8) -> u8
     IMAGE[row][column]
 }
 
-// The order p followed by the order q; 0 where there is no such order.
+/// The order p followed by the order q; 0 where there is no such order.
+#[tactic(auto, using(crate::proofs::Tables::follow_no_first, crate::proofs::Tables::follow_no_second), unfolding(crate::specs::Orders::follow))]
 pub fn follow(p: u8, q: u8) -> u8
     ensures { result ≡ follow p q }
 {
@@ -81,7 +83,8 @@ pub fn follow(p: u8, q: u8) -> u8
     FOLLOW[row][column]
 }
 
-// The order that takes the order o back; 0 where there is no such order.
+/// The order that takes the order o back; 0 where there is no such order.
+#[tactic(auto, using(crate::proofs::Tables::inverse_no_order), unfolding(crate::specs::Orders::inverse))]
 pub fn inverse(o: u8) -> u8
     ensures { result ≡ inverse o }
 {
@@ -92,7 +95,8 @@ pub fn inverse(o: u8) -> u8
     INVERSE[at]
 }
 
-// The order of an L step: its literal's code and 2 exchanged.
+/// The order of an L step: its literal's code and 2 exchanged.
+#[tactic(auto, unfolding(crate::specs::Orders::letter_order))]
 pub fn letter_order(literal: u8) -> u8
     ensures { result ≡ letter_order literal }
 {

@@ -2,3 +2,4 @@ pub mod SharedSteps
 pub mod Effects
 pub mod Calls
 pub mod Changes
+pub mod Letters

@@ -1,76 +1,88 @@
-// Decisions on shared products, on values alone: the cubes' own and the test of the outputs; and the merge.
+//! Decisions on shared products, on values alone: the cubes' own and the test of the outputs; and the merge.
 ghost use Rattle.std.specs.Prelude.{◌≡◌, ◌≤◌};
+ghost use Rattle.records.specs.Reasons.{number_of};
 ghost use Rattle.cube.specs.Cubes.{Good};
 ghost use Rattle.cube.specs.Lists.{most_variables};
-ghost use Rattle.steps.specs.Moves.{refuse, step_refusal};
+ghost use Rattle.steps.specs.declared.Change.TheVariants.{Refuse};
+ghost use Rattle.steps.specs.Moves.{step_refusal, map_move};
 ghost use Rattle.steps.specs.Changes.{move_of};
+ghost use Rattle.shared.specs.SharedRecord.{sharing};
 ghost use Rattle.shared_steps.specs.SharedSteps.{alike, merge_move, shared_meaning, shared_decision};
 ghost use Rattle.shared_steps.specs.Calls.{SharedKnown};
-ghost use Rattle.shared_steps.specs.Changes.{shared_move_of};
 
-use crate::{MERGE, SharedChange};
+use crate::SharedStep;
+use cube::Cube;
+use records::Reason;
 use shared::Shared;
-use steps::{Change, StepRecord, StepRefusal, again, decide};
+use steps::decide::{self, misplaced};
+use steps::{Change, Step, StepRecord, StepRefusal};
 
-// Refused by this number, with 0 for the third answer.
-fn refused(number: u8) -> SharedChange
-    ensures { shared_move_of result ≡ refuse (step_refusal number) }
+/// Refused for this reason, with 0 for the third answer.
+#[inline(always)]
+fn refused(reason: Reason) -> Change<Shared>
+    ensures { result ≡ Refuse (step_refusal (number_of reason)) }
 {
-    SharedChange {
-        change: Change::Refuse(StepRefusal {
-            number,
-            differing: 0,
-        }),
-        outputs: 0,
+    Change::Refuse(StepRefusal {
+        number: reason as u8,
+        differing: 0,
+    })
+}
+
+/// A change of cubes, with these outputs for all that it writes.
+#[inline(always)]
+fn carried(change: Change<Cube>, outputs: u32) -> Change<Shared>
+    ensures { move_of result ≡ map_move (sharing outputs) (move_of change) }
+{
+    match change {
+        Change::Refuse(why) => Change::Refuse(why),
+        Change::Drop => Change::Drop,
+        Change::Join(cube) => Change::Join(Shared { cube, outputs }),
+        Change::Split(c, d) => {
+            Change::Split(Shared { cube: c, outputs }, Shared { cube: d, outputs })
+        }
+        Change::Turn(c, d) => {
+            Change::Turn(Shared { cube: c, outputs }, Shared { cube: d, outputs })
+        }
     }
 }
 
-// Drop, join and turn: the cubes' own change where the outputs are equal; else its own refusal, or 22.
-fn of_alike(a: Shared, b: Shared, change: Change) -> SharedChange
-    ensures { shared_move_of result ≡ alike a b (move_of change) }
+/// Drop, join and turn: the cubes' own change where the outputs are equal; else its own refusal, or 22.
+#[inline(always)]
+fn of_alike(a: Shared, b: Shared, change: Change<Cube>) -> Change<Shared>
+    ensures { move_of result ≡ alike a b (move_of change) }
 {
     if a.outputs == b.outputs {
-        return SharedChange {
-            change,
-            outputs: a.outputs,
-        };
+        return carried(change, a.outputs);
     }
     match change {
-        Change::Refuse(why) => SharedChange {
-            change: Change::Refuse(why),
-            outputs: 0,
-        },
-        Change::Drop => refused(22),
-        Change::Join(_) => refused(22),
-        Change::Split(_, _) => refused(22),
-        Change::Turn(_, _) => refused(22),
+        Change::Refuse(why) => Change::Refuse(why),
+        _ => refused(Reason::OutputsDiffer),
     }
 }
 
-// Merge: 10, 11; 23 unless the cubes are equal and the outputs are not.
-fn decide_merge(n: usize, count: usize, i: usize, j: usize, a: Shared, b: Shared) -> SharedChange
+/// Merge: 10, 11; 23 unless the cubes are equal and the outputs are not.
+#[inline(always)]
+fn decide_merge(n: usize, count: usize, i: usize, j: usize, a: Shared, b: Shared) -> Change<Shared>
     requires { Good n a.cube × Good n b.cube }
-    ensures { shared_move_of result ≡ merge_move n count i j a b }
+    ensures { move_of result ≡ merge_move n count i j a b }
 {
-    let number = decide::two_places(count, i, j);
-    if number != 0 {
-        return refused(number);
+    if let Some(reason) = misplaced(count, i, j) {
+        return refused(reason);
     }
-    let c = a.cube;
-    let d = b.cube;
-    if c.differing(d) != 0 {
-        return refused(23);
+    if a.cube.differing(b.cube) != 0 {
+        return refused(Reason::NotMergeable);
     }
     if a.outputs == b.outputs {
-        return refused(23);
+        return refused(Reason::NotMergeable);
     }
-    SharedChange {
-        change: Change::Join(c),
+    Change::Join(Shared {
+        cube: a.cube,
         outputs: a.outputs ^ b.outputs,
-    }
+    })
 }
 
-// What a drop, join, split, turn or merge does, from the products at its places.
+/// What a drop, join, split, turn or merge does, from the products at its places.
+#[inline(always)]
 pub(crate) fn decide_shared(
     n: usize,
     count: usize,
@@ -78,25 +90,20 @@ pub(crate) fn decide_shared(
     x: StepRecord,
     a: Shared,
     b: Shared,
-) -> SharedChange
+) -> Change<Shared>
     requires good { Good n a.cube × Good n b.cube }
     requires n_le_most_variables { n ≤ most_variables }
     requires shared_known { SharedKnown n x }
     requires fact { x.op ≡ 5 → ⊥ }
-    ensures { shared_move_of result ≡ shared_decision n count cap (shared_meaning x) a b }
+    ensures { move_of result ≡ shared_decision n count cap (shared_meaning x) a b }
 {
-    let op = x.op;
-    if op == MERGE {
-        return decide_merge(n, count, x.i, x.j, a, b);
+    let step = match SharedStep::from(x) {
+        SharedStep::Merge { i, j } => return decide_merge(n, count, i, j, a, b),
+        SharedStep::Plain(step) => step,
+    };
+    let change = decide::decide(n, count, cap, x, a.cube, b.cube);
+    match step {
+        Step::Split { .. } => carried(change, a.outputs),
+        _ => of_alike(a, b, change),
     }
-    let c = a.cube;
-    let d = b.cube;
-    let change = again::decide(n, count, cap, x, c, d);
-    if op == 3 {
-        return SharedChange {
-            change,
-            outputs: a.outputs,
-        };
-    }
-    of_alike(a, b, change)
 }

@@ -1,19 +1,14 @@
-// The six steps on shared products: look, decide, perform; and L by one pass over the records.
+//! The six steps on shared products: what is decided of them, over the steps of any kind of record.
 #![tactic(auto)]
 
 pub mod decide;
-pub mod perform;
+pub mod operation;
 pub mod reorder;
+pub mod rewrites;
 pub mod step;
 
-use steps::Change;
+pub use operation::SharedStep;
+pub use rewrites::OnProducts;
 
-// What a step does to the products at its places: a change of cubes, and the outputs of all that it writes.
-#[derive(Clone, Copy)]
-pub struct SharedChange {
-    pub change: Change,
-    pub outputs: u32,
-}
-
-// The operation of a merge.
+/// The operation of a merge.
 pub const MERGE: u8 = 6;

@@ -1,4 +1,4 @@
-// The codes at one variable moved by an order, in the cube of every record of the work buffer: one pass with masks, and no branch a record.
+//! The codes at one variable moved by an order, in the cube of every record of the work buffer.
 ghost use Rattle.std.specs.Prelude.{◌≡◌, map, ◌<◌, length};
 ghost use Rattle.bits.specs.Sums.{All};
 ghost use Rattle.records.specs.Records.{Held, records, image};
@@ -8,32 +8,15 @@ ghost use Rattle.steps.specs.Steps.{reordered};
 ghost use Rattle.shared.specs.SharedRecord.{shares, Fine};
 ghost use Rattle.shared_steps.specs.SharedSteps.{on_cube};
 
-use shared::{Shared, list};
-use steps::perform::smaller;
-use steps::reorder::{masks_at, recoded};
+use crate::OnProducts;
+use steps::reorder::reorder_on;
 
-// Every cube's code at v moved by the order o; the outputs stay.
+/// Every cube's code at v moved by the order o; the outputs stay.
 pub fn reorder(work: &mut [u8], count: usize, v: u8, o: u8)
     requires held { Held shares count work.old }
     requires all { All (Fine most_variables) (records shares count work.old) }
     requires v_lt_most_variables { (v < most_variables) × (o < order_count) }
     ensures { work.new ≡ image shares (length work.old) (map (on_cube (reordered v o)) (records shares count work.old)) }
 {
-    let k = masks_at(v as u32, o);
-    let end = smaller(count, work.len() / list::SHARED_WIDTH);
-    let mut i: usize = 0;
-    while i < end {
-        let s = list::record_at(work, i);
-        let c = s.cube;
-        let cube = recoded(k, c);
-        list::put_record(
-            work,
-            i,
-            Shared {
-                cube,
-                outputs: s.outputs,
-            },
-        );
-        i += 1;
-    }
+    reorder_on::<OnProducts>(work, count, v, o)
 }

@@ -10,8 +10,6 @@ use Rattle.steps.specs.declared.Change.{Change}
 use Rattle.steps.specs.declared.Change.TheVariants as change_is
 use Rattle.steps.specs.Moves.{Move, refuse, drops, joins, splits, turns}
 use Rattle.steps.specs.Changes.{move_of}
-use Rattle.steps.proofs.again.decide.Kinds as again_kinds
-use Rattle.steps.proofs.again.decide.Reads as again_reads
 use Rattle.steps.proofs.decide.two_places.Kinds as two_places_kinds
 use Rattle.steps.proofs.decide.two_places.Reads as two_places_reads
 use Rattle.steps.proofs.decide.decide.Kinds as decide_kinds
@@ -36,14 +34,14 @@ use Rattle.steps.proofs.step.do_step.Kinds as do_step_kinds
 use Rattle.steps.proofs.step.do_step.Reads as do_step_reads
 
 -- the change that a move is, read back
-change_of : Move Cube → Change
+change_of : Move Cube → Change Cube
 change_of (refuse why) = change_is.Refuse why
 change_of drops = change_is.Drop
 change_of (joins c) = change_is.Join c
 change_of (splits c d) = change_is.Split c d
 change_of (turns c d) = change_is.Turn c d
 
-change_known : (change : Change) → change_of (move_of change) ≡ change
+change_known : (change : Change Cube) → change_of (move_of change) ≡ change
 unfolding change_of move_of
 change_known (change_is.Refuse why) = refl
 change_known change_is.Drop = refl
@@ -57,7 +55,8 @@ two_places_determined κs a z z' ws ws' p q = (same p q, refl)
 pub decide_determined : Determined 0 decide_kinds.ps decide_kinds.r decide_reads.Learnt
 decide_determined κs a z z' ws ws' p q = (same_told move_of change_of change_known p.is q.is, refl)
 
-pub again_determined : Determined 0 again_kinds.ps again_kinds.r again_reads.Learnt
+-- `again::decide` is the same function
+pub again_determined : Determined 0 decide_kinds.ps decide_kinds.r decide_reads.Learnt
 again_determined = decide_determined
 
 pub third_at_determined : Determined 0 third_at_kinds.ps third_at_kinds.r third_at_reads.Learnt

@@ -13,7 +13,7 @@ use Rattle.cube.specs.declared.Cube.{Cube}
 use Rattle.cube.specs.Cubes.{one, Good, holds}
 use Rattle.cube.specs.Lists.{trues, list_value}
 use Rattle.cube.proofs.Lists.{good_at}
-use Rattle.steps.specs.Moves.{Move, drops, joins, splits, turns, next, applied}
+use Rattle.steps.specs.Moves.{drops, joins, splits, turns, next, applied}
 use Rattle.steps.specs.Steps.{Step, drop, join, split, turn, L, Allowed, cube_at, third_at, exchanged, step, is_split, is_join, is_drop}
 use Rattle.steps.specs.Effects.{IsRewrite}
 use Rattle.steps.specs.Changes.{Placed}

@@ -1,17 +1,16 @@
 -- What is decided of a step is the step: the change at its places gives the step's list, with places of the list and good cubes.
 -- Assumes nothing.
-use mathlib.Core.Path.{◌≡◌, refl, sym, ap, ◌∙◌, subst}
+use mathlib.Core.Path.{◌≡◌, refl, ap, ◌∙◌, subst}
 use mathlib.Core.List.{List}
 use Prim.Native.Nat.{ℕ, zero, suc, ◌≤◌, ◌<◌}
 use native.Mathlib.Omega.{arith}
 use lib.ListN.{length}
 use Rattle.cube.specs.declared.Cube.{Cube}
-use Rattle.cube.specs.Cubes.{one, Good, mask_bits}
-use Rattle.cube.specs.Lists.{most_variables}
+use Rattle.cube.specs.Cubes.{one, Good}
 use Rattle.steps.specs.declared.Change.{Change}
 use Rattle.steps.specs.declared.StepRecord.{StepRecord}
 use Rattle.steps.specs.Moves.{applied}
-use Rattle.steps.specs.Steps.{Step, Allowed, meaning, meaning_by, cube_at, drop_move, join_move, split_move, turn_move, step, decision}
+use Rattle.steps.specs.Steps.{Step, drop, L, is_l, Allowed, meaning, meaning_by, cube_at, split_move, step, decision}
 use Rattle.steps.specs.Calls.{Known}
 use Rattle.steps.specs.Changes.{move_of, Decided}
 use Rattle.steps.proofs.Inversion.{split_by}
@@ -27,41 +26,46 @@ module _ (x : StepRecord) where
   pub means_fits : (n op : ℕ) → x.op ≡ op → Known n x → Allowed n (meaning_by op x)
   means_fits n op e k = subst (Allowed n) (means op e) k.fits
 
-  -- a used variable is one of the masks' variables
-  pub split_below : (n : ℕ) → Known n x → n ≤ most_variables → x.op ≡ 3 → x.v < mask_bits
-  split_below n k few e = let l : x.v < n = means_fits n 3 e k in omega arith
-
-  -- of the known operations but L, the one that is no drop, join or split
-  pub turn_op : (n : ℕ) → Known n x → x.op < 5 → (x.op ≡ 1 → ⊥) → (x.op ≡ 2 → ⊥) → (x.op ≡ 3 → ⊥) → x.op ≡ 4
-  turn_op n k l f g h = go x.op k.least l f g h
+  -- below 2 a drop, from 5 on an L step
+  pub means_drop : x.op < 2 → drop x.i x.j ≡ meaning x
+  unfolding meaning
+  means_drop l = go x.op l
     where
-      go : (op : ℕ) → 1 ≤ op → op < 5 → (op ≡ 1 → ⊥) → (op ≡ 2 → ⊥) → (op ≡ 3 → ⊥) → op ≡ 4
-      go op a b f g h = omega arith
+      go : (op : ℕ) → op < 2 → drop x.i x.j ≡ meaning_by op x
+      go zero l = refl
+      go (suc zero) l = refl
+      go (suc (suc op)) l = absurd (omega arith)
 
-  pub turn_below : (n : ℕ) → Known n x → x.op ≡ 4 → x.v < n
-  turn_below n k e = means_fits n 4 e k
+  pub means_l : 5 ≤ x.op → L x.v x.literal ≡ meaning x
+  unfolding meaning
+  means_l l = go x.op l
+    where
+      go : (op : ℕ) → 5 ≤ op → L x.v x.literal ≡ meaning_by op x
+      go zero l = absurd (omega arith)
+      go (suc zero) l = absurd (omega arith)
+      go (suc (suc zero)) l = absurd (omega arith)
+      go (suc (suc (suc zero))) l = absurd (omega arith)
+      go (suc (suc (suc (suc zero)))) l = absurd (omega arith)
+      go (suc (suc (suc (suc (suc op))))) l = refl
+
+  -- below 5 there is no L step
+  pub no_letter : x.op < 5 → (v b : ℕ) → L v b ≡ meaning x → ⊥
+  unfolding meaning
+  no_letter l v b e = go x.op l (ap is_l e)
+    where
+      go : (op : ℕ) → op < 5 → 1 ≡ is_l (meaning_by op x) → ⊥
+      go zero l e = omega arith
+      go (suc zero) l e = omega arith
+      go (suc (suc zero)) l e = omega arith
+      go (suc (suc (suc zero))) l e = omega arith
+      go (suc (suc (suc (suc zero)))) l e = omega arith
+      go (suc (suc (suc (suc (suc op))))) l e = omega arith
 
 -- ---- what is decided
 
-module _ (n count cap : ℕ) (x : StepRecord) (a b : Cube) (change : Change) where
-  decided : (op : ℕ) → x.op ≡ op → move_of change ≡ decision n count cap (meaning_by op x) a b → Decided n count cap x a b change
-  decided op eo e = record { is = e ∙ ap (λ (y : Step). decision n count cap y a b) (sym (means x op eo)) }
-
-  pub drop_decided : x.op ≡ 1 → move_of change ≡ drop_move n count x.i x.j a b → Decided n count cap x a b change
-  unfolding decision
-  drop_decided = decided 1
-
-  pub join_decided : x.op ≡ 2 → move_of change ≡ join_move n count x.i x.j a b → Decided n count cap x a b change
-  unfolding decision
-  join_decided = decided 2
-
-  pub split_decided : x.op ≡ 3 → move_of change ≡ split_move count cap x.v x.i a → Decided n count cap x a b change
-  unfolding decision
-  split_decided = decided 3
-
-  pub turn_decided : x.op ≡ 4 → move_of change ≡ turn_move n count x.v x.i x.j a b → Decided n count cap x a b change
-  unfolding decision
-  turn_decided = decided 4
+pub decided : (n count cap : ℕ) (x : StepRecord) (a b : Cube) (change : Change Cube) (y : Step) → y ≡ meaning x → move_of change ≡ decision n count cap y a b
+    → Decided n count cap x a b change
+decided n count cap x a b change y e is = record { is = is ∙ ap (λ (z : Step). decision n count cap z a b) e }
 
 -- ---- what is decided is the step, made at its record's places; and it is sound
 

@@ -8,7 +8,7 @@ use native.Mathlib.Decide.{dec_le}
 use native.Mathlib.Omega.{arith}
 use lib.ListN.{length}
 use Rattle.bits.specs.Sums.{All}
-use Rattle.records.specs.Records.{Codec, Holds, records, image}
+use Rattle.records.specs.Records.{Codec, Holds, Held, records, image}
 use Rattle.records.proofs.Images.{length_image}
 use Rattle.records.proofs.Records.{Lawful, length_records, held_fits, holds_held, holds_records, image_holds}
 use Rattle.steps.specs.Moves.{After, next}

@@ -1,2 +1,3 @@
 -- What the proofs of `step` use, and what a step is for crates above.
 pub mod Stepping
+pub mod OnKind

@@ -1,14 +1,13 @@
 -- One step on a work buffer: what it needs, answers and leaves.
 -- Assumes nothing.
-use Rattle.std.specs.Prelude.{ℕ, ◌*◌, ◌≤◌, List, length}
+use Rattle.std.specs.Prelude.{ℕ, ◌*◌, ◌≤◌, List, length, Result, Ok, Err}
 use Rattle.bits.specs.Sums.{All}
+use Rattle.steps.specs.declared.StepRefusal.{StepRefusal}
 use Rattle.records.specs.Records.{Codec, Held, records, image}
 use Rattle.cube.specs.declared.Cube.{Cube}
 use Rattle.cube.specs.Cubes.{Good}
 use Rattle.cube.specs.Lists.{cubes, most_variables}
 use Rattle.steps.specs.declared.StepRecord.{StepRecord}
-use Rattle.steps.specs.declared.Stepped.{Stepped}
-use Rattle.steps.specs.declared.Stepped.TheVariants as stepped_is
 use Rattle.steps.specs.Moves.{After, stop, next}
 use Rattle.steps.specs.Steps.{Allowed, meaning}
 
@@ -30,9 +29,9 @@ pub record Known (n : ℕ) (x : StepRecord) : Type 0 where
   pub fits : Allowed n (meaning x)
 
 -- the answer of a step, on any kind of record
-abbrev pub stepped : {A : Type 0} → After A → Stepped
-stepped (stop why) = stepped_is.Refused why
-stepped (next l) = stepped_is.Count (length l)
+abbrev pub stepped : {A : Type 0} → After A → Result ℕ StepRefusal
+stepped (stop why) = Err why
+stepped (next l) = Ok (length l)
 
 -- the buffer after it: the next list and zeros after it; refused, it is as it was
 abbrev pub stepped_by : {A : Type 0} → Codec A → List ℕ → After A → List ℕ

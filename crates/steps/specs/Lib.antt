@@ -4,3 +4,5 @@ pub mod Effects
 pub mod Rules
 pub mod Calls
 pub mod Changes
+pub mod Kinds
+pub mod Letters

@@ -8,6 +8,7 @@ use native.Mathlib.Omega.{arith}
 use lib.Dec.{leb}
 use lib.ListN.{length, get_or, length-replicate}
 use borrow.Author.Tests.{le-leb, lt-leb, leb-true}
+use Rattle.std.specs.Prelude.{Ok}
 use Rattle.bits.specs.Sums.{one_if}
 use Rattle.records.specs.declared.Refusal.{Refusal}
 use Rattle.records.specs.Records.{records, image, written, filled_by, zeros}
@@ -22,7 +23,6 @@ use Rattle.steps.specs.Calls.{Ready}
 use Rattle.script.specs.Scripts.{step_records, step_width, most_steps, record_of}
 use Rattle.script.proofs.Filled.{filled_records, filled_long, filled_ready}
 use Rattle.writer.specs.declared.Written.{Written}
-use Rattle.writer.specs.declared.Wrote.TheVariants as wrote_is
 use Rattle.writer.specs.Easy.{easy_steps, easy_end, easy_finished}
 use Rattle.writer.specs.Calls.{write_outcome, write_work, write_steps, wrote}
 use Rattle.writer.specs.Watching.{Unmarked, WritingIs}
@@ -125,7 +125,7 @@ module _ (n : ℕ) (list work script : List ℕ) where
             (and_then_lem _ _ _ e ∙ unless_passes _ 5 0 _ (le-leb _ _ checked_fits) ∙ unless_fails _ 5 0 _ (lt-leb (step_width * min (length (cubes_of list)) most_steps) (length script) (omega (arith, steps_most))) ∙ ap refused (sym er))
 
         pub all_written : step_width * most ≤ length script → (w s : List ℕ) (r : Written) → WritingIs n (cubes_of list) work w script s r
-            → Writes n list work script (wrote (wrote_is.Script r)) w s
+            → Writes n list work script (wrote (Ok r)) w s
         unfolding write_outcome write_work write_steps
         all_written g w s r t =
             let o =

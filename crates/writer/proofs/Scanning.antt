@@ -1,7 +1,7 @@
 -- The rows of a work buffer, looked at in turn: the loop over them, and the new cube before it.
 -- Assumes nothing.
 use mathlib.Core.Path.{◌≡◌, refl, sym, ap, ◌∙◌, subst}
-use mathlib.Core.Bool.{Bool, cond, true≢false}
+use mathlib.Core.Bool.{Bool, false, cond, true≢false}
 use mathlib.Core.List.{List}
 use Prim.Native.Nat.{ℕ, ◌+◌, ◌≤◌, ◌<◌, zero-le}
 use native.Mathlib.Decide.{ℕ_discrete}
@@ -13,8 +13,8 @@ use Rattle.records.specs.Records.{records}
 use Rattle.records.proofs.Records.{length_records}
 use Rattle.cube.specs.declared.Cube.{Cube}
 use Rattle.cube.specs.Lists.{cubes}
-use Rattle.writer.specs.Pairs.{pair_at, partner, IsPair}
-use Rattle.writer.specs.Watching.{Watched, Found, looked}
+use Rattle.writer.specs.Pairs.{pair_at, partner, has_pair, IsPair}
+use Rattle.writer.specs.Watching.{Watched, FoundPair, looked}
 use Rattle.writer.proofs.Pairs.{pair_partner}
 use Rattle.writer.proofs.Watching.{watched_rows, found_new, row_of, found_none, found_row, watched_more}
 
@@ -46,22 +46,20 @@ module _ (n count : ℕ) (b : List ℕ) where
     rows_none row w = record { watched = subst (λ (k : ℕ). Watched n l row k marks₀) (sym size) w; long = refl }
 
     module _ (r : ℕ) (marks : List ℕ) (w : Rows n (records cubes count b) marks₀ r marks) where
-      pub rows_end : count ≤ r → Found n (records cubes count b) marks (record { i = count; j = count })
-      rows_end h =
-          subst (λ (k : ℕ). Found n l marks (record { i = k; j = count })) size
-          (found_none n l r marks w.watched (omega (arith, size)) count)
+      pub rows_end : count ≤ r → has_pair n (records cubes count b) ≡ false
+      rows_end h = found_none n l r marks w.watched (omega (arith, size))
 
       module _ (h : r < count) (j : ℕ) (ej : j ≡ looked (get_or marks r 0) n (records cubes count b) r) where
-        pub rows_found : j < count → Found n (records cubes count b) marks (record { i = r; j = j })
+        pub rows_found : j < count → FoundPair n (records cubes count b) marks (record { i = r; j = j })
         rows_found g =
             elim (ℕ_discrete (get_or marks r 0) 0) [
               | yes z ↦ found (ej ∙ looked_unmarked n l r (get_or marks r 0) z)
               | no z ↦ absurd (omega (arith, ej, looked_marked n l r (get_or marks r 0) z, size))
             ]
           where
-            found : j ≡ partner n l r → Found n l marks (record { i = r; j = j })
+            found : j ≡ partner n l r → FoundPair n l marks (record { i = r; j = j })
             found e =
-                subst (λ (k : ℕ). Found n l marks (record { i = r; j = k })) (sym e)
+                subst (λ (k : ℕ). FoundPair n l marks (record { i = r; j = k })) (sym e)
                 (found_row n l r marks w.watched (omega (arith, size)) (omega (arith, e, size)))
 
         pub rows_more : count ≤ j → Rows n (records cubes count b) marks₀ (r + 1) (set marks r 1)
@@ -88,5 +86,5 @@ module _ (n count : ℕ) (b : List ℕ) where
       pub find_none : row ≤ k → Watched n (records cubes count b) row count marks
       find_none h = only_rows (λ r p. true≢false (sym p.near ∙ q.before.none r zero-le (omega (arith, p.above))))
 
-      pub find_low : row < count → k < row → Found n (records cubes count b) marks (record { i = k; j = row })
+      pub find_low : row < count → k < row → FoundPair n (records cubes count b) marks (record { i = k; j = row })
       find_low h g = found_new n l row row marks w refl (omega (arith, size)) k q g

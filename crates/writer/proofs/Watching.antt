@@ -2,7 +2,7 @@
 -- Assumes nothing.
 use mathlib.Core.Path.{◌≡◌, sym, ap, ap₂, ◌∙◌, subst}
 use mathlib.Core.Logic.{◌≢◌, ◌⊎◌, inl, inr, ⊎_elim}
-use mathlib.Core.Bool.{true≢false}
+use mathlib.Core.Bool.{true≢false, false}
 use mathlib.Core.List.{List}
 use Prim.Native.Nat.{ℕ, ◌+◌, ◌-◌, ◌≤◌, ◌<◌, zero-le}
 use native.Mathlib.Decide.{ℕ_discrete}
@@ -14,8 +14,8 @@ use Rattle.bits.proofs.Bools.{below_or}
 use Rattle.cube.specs.declared.Cube.{Cube}
 use Rattle.cube.specs.Cubes.{one}
 use Rattle.steps.specs.Steps.{cube_at}
-use Rattle.writer.specs.Pairs.{pair, pair_at, partner, IsPair, First}
-use Rattle.writer.specs.Watching.{Watched, Found}
+use Rattle.writer.specs.Pairs.{pair, pair_at, partner, IsPair, First, has_pair}
+use Rattle.writer.specs.Watching.{Watched, FoundPair}
 use Rattle.writer.proofs.Pairs.{partner_pair, pair_partner, left_none}
 use Rattle.writer.proofs.Moves.{Moved}
 
@@ -33,10 +33,9 @@ module _ (n : ℕ) (l : List Cube) (row new : ℕ) (marks : List ℕ) (w : Watch
   watched_kept = record { only = λ r s p. ⊎_elim inl (λ t. inr (zero-le, t.1)) (w.only r s p) }
 
   -- the lowest row that makes a pair with the new place is the first pair's
-  pub found_new : new ≡ row → row < length l → (k : ℕ) → FirstIn (λ s. pair_at n l s new) 0 new k → k < new → Found n l marks (record { i = k; j = new })
+  pub found_new : new ≡ row → row < length l → (k : ℕ) → FirstIn (λ s. pair_at n l s new) 0 new k → k < new → FoundPair n l marks (record { i = k; j = new })
   found_new e h k q g = record {
-    first = λ t. record { is = record { above = g; inside = omega (arith, e); near = q.passes g }; least = λ r s p. go r s p (w.only r s p) };
-    none = λ t. absurd (omega (arith, e));
+    first = record { is = record { above = g; inside = omega (arith, e); near = q.passes g }; least = λ r s p. go r s p (w.only r s p) };
     kept = watched_kept;
   }
     where
@@ -56,18 +55,13 @@ module _ (n : ℕ) (l : List Cube) (row : ℕ) (marks : List ℕ) (w : Watched n
   pub row_of : (r s : ℕ) → IsPair n l r s → (row ≤ r) × (get_or marks r 0 ≡ 0)
   row_of r s p = ⊎_elim (λ e. absurd (omega (arith, e, p.inside))) (λ t. t) (w.only r s p)
 
-  pub found_none : length l ≤ row → (j : ℕ) → Found n l marks (record { i = length l; j = j })
-  found_none h j = record {
-    first = λ g. absurd (omega arith);
-    none = λ g. left_none n l (λ r s p. omega (arith, (row_of r s p).0, p.above, p.inside));
-    kept = record { only = λ r s p. inr (zero-le, (row_of r s p).1) };
-  }
+  pub found_none : length l ≤ row → has_pair n l ≡ false
+  found_none h = left_none n l (λ r s p. omega (arith, (row_of r s p).0, p.above, p.inside))
 
   module _ (h : row < length l) where
-    pub found_row : partner n l row < length l → Found n l marks (record { i = row; j = partner n l row })
+    pub found_row : partner n l row < length l → FoundPair n l marks (record { i = row; j = partner n l row })
     found_row g = record {
-      first = λ t. record { is = partner_pair n l row h g; least = least };
-      none = λ t. absurd (omega arith);
+      first = record { is = partner_pair n l row h g; least = least };
       kept = record { only = λ r s p. inr (zero-le, (row_of r s p).1) };
     }
       where

@@ -11,6 +11,7 @@ use native.Mathlib.Omega.{arith}
 use lib.Count.{ones, count_trailing_zeros}
 use lib.Dec.{eqb}
 use lib.ListN.{length, get_or, set, length-set}
+use Rattle.std.specs.Prelude.{Option, None, Some, is_none}
 use borrow.Author.Tests.{ne_eqb, leb-true}
 use Rattle.bits.specs.Sums.{one_if}
 use Rattle.records.specs.Records.{Held, Holds, records, written, image, stored}
@@ -33,7 +34,7 @@ use Rattle.script.specs.Scripts.{step_records, most_steps, place_size, narrow_st
 use Rattle.writer.specs.declared.Pair.{Pair}
 use Rattle.writer.specs.Pairs.{pair, has_pair, First}
 use Rattle.writer.specs.Easy.{step_by, step_at, easy_step, easy_next, easy_steps, easy_end}
-use Rattle.writer.specs.Watching.{Watched, Found, Unmarked, Made, WritingIs}
+use Rattle.writer.specs.Watching.{Watched, Found, FoundPair, Unmarked, Made, WritingIs}
 use Rattle.writer.proofs.Searching.{number_ones, read_cube, read_good}
 use Rattle.writer.proofs.Watching.{watched_next}
 use Rattle.writer.proofs.Easy.{pair_places, easy_accepted, easy_fewer, easy_fits, first_has, first_step, first_moved, first_dropped, first_joined, steps_pair, end_pair, steps_none, end_none, no_steps, no_end}
@@ -192,73 +193,76 @@ module _ (n first : ℕ) (work script marks₀ : List ℕ) where
       bytes = sym (w.bytes_so_far ∙ ap (λ (xs : List Step). written step_records k (map record_of xs) s) es);
     }
 
-    module _ (marks' : List ℕ) (p : Pair) (found : Found n left marks' p) where
-      -- no pair is left
-      pub writing_end : count ≤ p.i → WritingIs n (records cubes first work) work b script s (record { steps = k; finished = true })
-      writing_end h =
-          let none : has_pair n left ≡ false = found.none (omega (arith, many)) in
-          ends true (steps_none n (most_steps - k) left none) (end_none n (most_steps - k) left none) (sym (ap not none))
+    -- no pair is left
+    pub writing_end : has_pair n (records cubes count b) ≡ false → WritingIs n (records cubes first work) work b script s (record { steps = k; finished = true })
+    writing_end none = ends true (steps_none n (most_steps - k) left none) (end_none n (most_steps - k) left none) (sym (ap not none))
 
-      module _ (h : p.i < count) where
-        pub writing_first : First n (records cubes count b) p.i p.j
-        writing_first = found.first (omega (arith, many))
+    -- 1,024 steps are done, and a pair is left or none
+    pub writing_limit : most_steps ≤ k → (marks' : List ℕ) (o : Option Pair) → Found n (records cubes count b) marks' o
+        → WritingIs n (records cubes first work) work b script s (record { steps = most_steps; finished = is_none o })
+    writing_limit g marks' o found =
+        subst (λ (m : ℕ). WritingIs n (records cubes first work) work b script s (record { steps = m; finished = is_none o })) (omega (arith, w.limit)) (go o found)
+      where
+        none : most_steps - k ≡ 0
+        none = omega arith
 
-        has : has_pair n left ≡ true
-        has = first_has n left p.i p.j writing_first
+        go : (o : Option Pair) → Found n (records cubes count b) marks' o → WritingIs n (records cubes first work) work b script s (record { steps = k; finished = is_none o })
+        go None found = writing_end found
+        go (Some p) found =
+            ends false (ap (λ (m : ℕ). easy_steps n m left) none ∙ no_steps n left) (ap (λ (m : ℕ). easy_end n m left) none ∙ no_end n left)
+            (sym (ap not (first_has n left p.i p.j found.first)))
 
-        -- 1,024 steps are done
-        pub writing_limit : most_steps ≤ k → WritingIs n (records cubes first work) work b script s (record { steps = k; finished = false })
-        writing_limit g =
-            let none : most_steps - k ≡ 0 = omega arith in
-            ends false (ap (λ (m : ℕ). easy_steps n m left) none ∙ no_steps n left) (ap (λ (m : ℕ). easy_end n m left) none ∙ no_end n left) (sym (ap not has))
+    module _ (marks' : List ℕ) (p : Pair) (found : FoundPair n (records cubes count b) marks' p) where
+      has : has_pair n left ≡ true
+      has = first_has n left p.i p.j found.first
 
-        module _ (g : k < most_steps) (long' : length marks' ≡ length marks) (b' s' : List ℕ) (c : ℕ) (made : Made n left k b b' s s' c) where
-          e : step n count (easy_step n left) left ≡ next (easy_next n left)
-          e = easy_accepted n left has count
+      module _ (g : k < most_steps) (long' : length marks' ≡ length marks) (b' s' : List ℕ) (c : ℕ) (made : Made n left k b b' s s' c) where
+        e : step n count (easy_step n left) left ≡ next (easy_next n left)
+        e = easy_accepted n left has count
 
-          e' : b' ≡ work_stepped b (step n count (easy_step n left) left)
-          e' = made.buffer ∙ sym (ap (work_stepped b) e)
+        e' : b' ≡ work_stepped b (step n count (easy_step n left) left)
+        e' = made.buffer ∙ sym (ap (work_stepped b) e)
 
-          list_is : records cubes c b' ≡ easy_next n left
-          list_is = ap (λ (k : ℕ). records cubes k b') made.many ∙ step_records_lem n count count b b' (easy_step n left) (easy_next n left) w.ready e e'
+        list_is : records cubes c b' ≡ easy_next n left
+        list_is = ap (λ (k : ℕ). records cubes k b') made.many ∙ step_records_lem n count count b b' (easy_step n left) (easy_next n left) w.ready e e'
 
-          after : Ready n c count b'
-          after =
-              subst (λ (k : ℕ). Ready n k count b') (sym made.many)
-              (ready_onward n count count b b' (easy_step n left) (easy_next n left) w.ready e e' (easy_fits n left has))
+        after : Ready n c count b'
+        after =
+            subst (λ (k : ℕ). Ready n k count b') (sym made.many)
+            (ready_onward n count count b b' (easy_step n left) (easy_next n left) w.ready e e' (easy_fits n left has))
 
-          more : most_steps - k ≡ suc (most_steps - (k + 1))
-          more = omega arith
+        more : most_steps - k ≡ suc (most_steps - (k + 1))
+        more = omega arith
 
-          steps_on : easy_steps n (most_steps - k) left ≡ easy_step n left ∷ easy_steps n (most_steps - (k + 1)) (records cubes c b')
-          steps_on =
-              ap (λ (t : ℕ). easy_steps n t left) more ∙ steps_pair n (most_steps - (k + 1)) left has
-              ∙ ap (λ (t : List Cube). easy_step n left ∷ easy_steps n (most_steps - (k + 1)) t) (sym list_is)
+        steps_on : easy_steps n (most_steps - k) left ≡ easy_step n left ∷ easy_steps n (most_steps - (k + 1)) (records cubes c b')
+        steps_on =
+            ap (λ (t : ℕ). easy_steps n t left) more ∙ steps_pair n (most_steps - (k + 1)) left has
+            ∙ ap (λ (t : List Cube). easy_step n left ∷ easy_steps n (most_steps - (k + 1)) t) (sym list_is)
 
-          pub writing_more : Writing n first work script marks₀ b' s' (set (set marks' p.i 0) p.j 0) c p.i (k + 1)
-          unfolding written
-          writing_more = record {
-            ready = record { held = after.held; good = after.good; few = after.few; room = held_fits cubes lawful c b' after.held };
-            long = step_long n count count b b' (easy_step n left) (easy_next n left) w.ready e e' ∙ w.long;
-            script_long = ap length made.bytes ∙ length_stored step_records s k (record_of (easy_step n left)) ∙ w.script_long;
-            marks_long = length-set (set marks' p.i 0) p.j 0 ∙ length-set marks' p.i 0 ∙ long' ∙ w.marks_long;
-            room = omega (arith, w.room, made.many, easy_fewer n left has, many);
-            few = omega (arith, made.many, easy_fewer n left has, many, w.few);
-            limit = omega arith;
-            watched =
-                subst (λ (t : List Cube). Watched n t p.i p.i (set (set marks' p.i 0) p.j 0)) (sym list_is)
-                (watched_next n left (easy_next n left) p.i p.j writing_first (first_moved n left p.i p.j writing_first) marks'
-                (omega (arith, many, w.room, long', w.marks_long)) found.kept);
-            steps_so_far =
-                w.steps_so_far ∙ ap (λ (xs : List Step). k + length xs) steps_on ∙ shift k (length (easy_steps n (most_steps - (k + 1)) (records cubes c b')));
-            end_so_far =
-                w.end_so_far ∙ ap (λ (t : ℕ). easy_end n t left) more ∙ end_pair n (most_steps - (k + 1)) left has
-                ∙ ap (easy_end n (most_steps - (k + 1))) (sym list_is);
-            bytes_so_far =
-                w.bytes_so_far ∙ ap (λ (xs : List Step). written step_records k (map record_of xs) s) steps_on
-                ∙ ap₂ (λ (t : ℕ) (y : List ℕ). written step_records t (map record_of (easy_steps n (most_steps - (k + 1)) (records cubes c b'))) y)
-                (sym (add-one k)) (sym made.bytes);
-          }
-            where
-              shift : (x y : ℕ) → x + suc y ≡ x + 1 + y
-              shift x y = omega arith
+        pub writing_more : Writing n first work script marks₀ b' s' (set (set marks' p.i 0) p.j 0) c p.i (k + 1)
+        unfolding written
+        writing_more = record {
+          ready = record { held = after.held; good = after.good; few = after.few; room = held_fits cubes lawful c b' after.held };
+          long = step_long n count count b b' (easy_step n left) (easy_next n left) w.ready e e' ∙ w.long;
+          script_long = ap length made.bytes ∙ length_stored step_records s k (record_of (easy_step n left)) ∙ w.script_long;
+          marks_long = length-set (set marks' p.i 0) p.j 0 ∙ length-set marks' p.i 0 ∙ long' ∙ w.marks_long;
+          room = omega (arith, w.room, made.many, easy_fewer n left has, many);
+          few = omega (arith, made.many, easy_fewer n left has, many, w.few);
+          limit = omega arith;
+          watched =
+              subst (λ (t : List Cube). Watched n t p.i p.i (set (set marks' p.i 0) p.j 0)) (sym list_is)
+              (watched_next n left (easy_next n left) p.i p.j found.first (first_moved n left p.i p.j found.first) marks'
+              (omega (arith, many, w.room, long', w.marks_long)) found.kept);
+          steps_so_far =
+              w.steps_so_far ∙ ap (λ (xs : List Step). k + length xs) steps_on ∙ shift k (length (easy_steps n (most_steps - (k + 1)) (records cubes c b')));
+          end_so_far =
+              w.end_so_far ∙ ap (λ (t : ℕ). easy_end n t left) more ∙ end_pair n (most_steps - (k + 1)) left has
+              ∙ ap (easy_end n (most_steps - (k + 1))) (sym list_is);
+          bytes_so_far =
+              w.bytes_so_far ∙ ap (λ (xs : List Step). written step_records k (map record_of xs) s) steps_on
+              ∙ ap₂ (λ (t : ℕ) (y : List ℕ). written step_records t (map record_of (easy_steps n (most_steps - (k + 1)) (records cubes c b'))) y)
+              (sym (add-one k)) (sym made.bytes);
+        }
+          where
+            shift : (x y : ℕ) → x + suc y ≡ x + 1 + y
+            shift x y = omega arith

@@ -1,6 +1,6 @@
 -- Inside: what the functions within the call promise one another. None of it is needed to read the call.
 -- Assumes nothing.
-use Rattle.std.specs.Prelude.{◌≡◌, ◌⊎◌, Bool, false, cond, List, map, ℕ, ◌≤◌, ◌<◌, eqb, ltb, length, get_or}
+use Rattle.std.specs.Prelude.{◌≡◌, ◌⊎◌, Bool, false, cond, List, map, ℕ, ◌≤◌, eqb, ltb, length, get_or, Option, None, Some}
 use Rattle.std.specs.Int.Count.{ones}
 use Rattle.records.specs.Records.{image, stored, written}
 use Rattle.cube.specs.declared.Cube.{Cube}
@@ -30,11 +30,14 @@ looked mark n l i = cond (eqb mark 0) (partner n l i) (length l)
 pub record Watched (n : ℕ) (l : List Cube) (row new : ℕ) (marks : List ℕ) : Type 0 where
   pub only : (r s : ℕ) → IsPair n l r s → (s ≡ new) ⊎ ((row ≤ r) × (get_or marks r 0 ≡ 0))
 
--- the first pair of a list or none, and marks that miss only pairs with its j
-pub record Found (n : ℕ) (l : List Cube) (marks : List ℕ) (p : Pair) : Type 0 where
-  pub first : p.i < length l → First n l p.i p.j
-  pub none : length l ≤ p.i → has_pair n l ≡ false
+-- the first pair of a list, and marks that miss only pairs with its j; or none
+pub record FoundPair (n : ℕ) (l : List Cube) (marks : List ℕ) (p : Pair) : Type 0 where
+  pub first : First n l p.i p.j
   pub kept : Watched n l 0 p.j marks
+
+abbrev pub Found : (n : ℕ) (l : List Cube) (marks : List ℕ) → Option Pair → Type 0
+Found n l marks None = has_pair n l ≡ false
+Found n l marks (Some p) = FoundPair n l marks p
 
 -- marks for so many rows, none of them set
 pub record Unmarked (count : ℕ) (marks : List ℕ) : Type 0 where

@@ -1,4 +1,4 @@
-// The first pair of a list, found without looking at every pair again.
+//! The first pair of a list, found without looking at every pair again.
 ghost use Rattle.std.specs.Prelude.{◌≡◌, not, ◌+◌, ◌/◌, ◌<◌, ◌≤◌, length};
 ghost use Rattle.bits.specs.Below.{NoneTo, FirstIn};
 ghost use Rattle.records.specs.Records.{records};
@@ -13,29 +13,28 @@ ghost use Rattle.writer.specs.Watching.{near, near_at, looked, Watched, Found};
 use crate::Pair;
 use cube::{Cube, list};
 
-// Whether the cube at a place that the list has and c are equal or differ in one variable.
+/// Whether the cube at a place that the list has and c are equal or differ in one variable.
 fn near_at(list: &[u8], i: usize, c: Cube) -> bool
     requires { i < length list.now / record_width }
     ensures { result ≡ near_at c (cubes_of list.now) i }
 {
-    u32::count_ones(list::differing_at(list, i, c)) < 2
+    list::differing_at(list, i, c).count_ones() < 2
 }
 
-// Whether none of a stride of cubes, from place i on, is near c. There is no branch between them.
+/// Whether none of a stride of cubes, from place i on, is near c. There is no branch between them.
 fn stride_far(list: &[u8], i: usize, c: Cube) -> bool
     requires { i + stride ≤ length list.now / record_width }
     ensures { result ≡ pass_from (λ d. not (near c d)) one stride (cubes_of list.now) i }
 {
     let mut far = true;
-    let mut k: usize = 0;
-    while k < list::STRIDE {
+    for k in 0..list::STRIDE {
         far = far & !near_at(list, i + k, c);
-        k += 1;
     }
     far
 }
 
-// A place up to which no cube, from place `from` on, is near c: by strides, as long as whole ones are left.
+/// A place up to which no cube, from place `from` on, is near c: by strides, as long as whole ones are left.
+// Stays: a loop that goes on by a stride; what it yields is where the rest begins, which `step_by` does not tell.
 fn far_to(list: &[u8], from: usize, end: usize, c: Cube) -> usize
     requires { (from ≤ end) × (end ≤ length list.now / record_width) }
     ensures { NoneTo (near_at c (cubes_of list.now)) from end result }
@@ -50,22 +49,20 @@ fn far_to(list: &[u8], from: usize, end: usize, c: Cube) -> usize
     i
 }
 
-// The lowest place from `from` on whose cube is near c, or the end.
+/// The lowest place from `from` on whose cube is near c, or the end.
 fn near_from(list: &[u8], from: usize, end: usize, c: Cube) -> usize
     requires { (from ≤ end) × (end ≤ length list.now / record_width) }
     ensures { FirstIn (near_at c (cubes_of list.now)) from end result }
 {
-    let mut i = far_to(list, from, end, c);
-    while i < end {
+    for i in far_to(list, from, end, c)..end {
         if near_at(list, i, c) {
             return i;
         }
-        i += 1;
     }
     end
 }
 
-// The lowest place below row that makes a pair with it, or row.
+/// The lowest place below row that makes a pair with it, or row.
 fn below(work: &[u8], n: usize, count: usize, row: usize) -> usize
     requires ready { Ready n count count work.now }
     requires row_lt_count { row < count }
@@ -74,7 +71,7 @@ fn below(work: &[u8], n: usize, count: usize, row: usize) -> usize
     near_from(work, 0, row, list::record_at(work, row))
 }
 
-// The lowest place above an unmarked row that makes a pair with it, or the count; the count where the row is marked.
+/// The lowest place above an unmarked row that makes a pair with it, or the count; the count where the row is marked.
 fn look(work: &[u8], n: usize, count: usize, i: usize, mark: u8) -> usize
     requires ready { Ready n count count work.now }
     requires i_lt_count { i < count }
@@ -86,27 +83,31 @@ fn look(work: &[u8], n: usize, count: usize, i: usize, mark: u8) -> usize
     near_from(work, i + 1, count, list::record_at(work, i))
 }
 
-// The first pair from row on, with a mark for each row that was looked at and has none.
-fn scan(work: &[u8], n: usize, count: usize, row: usize, marks: &mut [u8]) -> Pair
+/// The first pair from row on, with a mark for each row that was looked at and has none.
+fn scan(work: &[u8], n: usize, count: usize, row: usize, marks: &mut [u8]) -> Option<Pair>
     requires ready { Ready n count count work.now }
     requires count_in_bounds { count ≤ length marks.old }
     requires watched { Watched n (records cubes count work.now) row count marks.old }
     ensures { Found n (records cubes count work.now) marks.new result }
 {
-    let mut r = row;
-    while r < count {
-        let j = look(work, n, count, r, marks[r]);
+    for i in row..count {
+        let j = look(work, n, count, i, marks[i]);
         if j < count {
-            return Pair { i: r, j };
+            return Some(Pair { i, j });
         }
-        marks[r] = 1;
-        r += 1;
+        marks[i] = 1;
     }
-    Pair { i: count, j: count }
+    None
 }
 
-// The first pair: one with the new cube at row, or the first from row on.
-pub(crate) fn find(work: &[u8], n: usize, count: usize, row: usize, marks: &mut [u8]) -> Pair
+/// The first pair: one with the new cube at row, or the first from row on.
+pub(crate) fn find(
+    work: &[u8],
+    n: usize,
+    count: usize,
+    row: usize,
+    marks: &mut [u8],
+) -> Option<Pair>
     requires ready { Ready n count count work.now }
     requires count_in_bounds { count ≤ length marks.old }
     requires watched { Watched n (records cubes count work.now) row row marks.old }
@@ -117,7 +118,7 @@ pub(crate) fn find(work: &[u8], n: usize, count: usize, row: usize, marks: &mut 
     }
     let k = below(work, n, count, row);
     if k < row {
-        return Pair { i: k, j: row };
+        return Some(Pair { i: k, j: row });
     }
     scan(work, n, count, row, marks)
 }

@@ -3,60 +3,72 @@
 use mathlib.Core.Path.{◌≡◌, refl, sym, ap, ◌∙◌}
 use mathlib.Core.Bool.{false}
 use mathlib.Core.List.{List, [], ◌∷◌}
-use Prim.Native.Nat.{ℕ, zero, suc, ◌≤◌, ◌<◌}
+use Prim.Native.Nat.{ℕ}
 use native.Mathlib.Omega.{arith}
 use lib.Bits.{bit_xor}
 use lib.Count.{ones}
-use lib.Dec.{lit<}
 use lib.ListN.{length}
 use borrow.Author.Tests.{eq-eqb, ne_eqb}
+use Rattle.cube.specs.declared.Cube.{Cube}
 use Rattle.cube.specs.Cubes.{apart, Good, differing}
 use Rattle.cube.proofs.Masks.{apart_count}
 use Rattle.steps.specs.declared.Change.{Change}
 use Rattle.steps.specs.declared.Change.TheVariants as change_is
 use Rattle.steps.specs.declared.StepRecord.{StepRecord}
 use Rattle.steps.specs.declared.StepRefusal.{StepRefusal}
-use Rattle.steps.specs.Moves.{step_refusal, Move, refuse, joins}
-use Rattle.steps.specs.Steps.{Step, meaning_by, decision}
-use Rattle.steps.specs.Changes.{move_of, places_number, Decided}
-use Rattle.steps.proofs.Making.{means}
-use Rattle.steps.proofs.decide.Deciding.{number_refused, number_passed, none_set}
+use Rattle.steps.specs.declared.operation.Step as operation
+use Rattle.steps.specs.declared.operation.Step.TheVariants as step_is
+use Rattle.steps.specs.Moves.{step_refusal, Move, refuse, drops, joins, splits, turns, map_move}
+use Rattle.steps.specs.Steps.{Step, drop, join, split, turn, L, decision}
+use Rattle.steps.specs.Changes.{move_of, step_of, places_number, Decided}
+use Rattle.steps.proofs.Making.{no_letter}
+use Rattle.steps.proofs.decide.Deciding.{number_passed, none_set}
 use Rattle.shared.specs.declared.Shared.{Shared}
 use Rattle.shared.specs.SharedRecord.{sharing}
-use Rattle.shared_steps.specs.SharedSteps.{plain, merge_operation, shared_meaning, or_refuse, carried, alike, merged, merge_move, shared_decision}
+use Rattle.shared_steps.specs.SharedSteps.{SharedStep, plain, merge, shared_meaning, or_refuse, carried, alike, merged, merge_move, shared_decision}
 use Rattle.shared_steps.specs.Calls.{SharedKnown}
-use Rattle.shared_steps.specs.Changes.{carried_move}
 use Rattle.shared_steps.proofs.Inversion.{alike_same}
-use Rattle.shared_steps.proofs.Meaning.{means_merge, means_plain, plain_low}
+use Rattle.shared_steps.proofs.Meaning.{plain_low, no_merge, plain_meaning}
 
-pub refused_made : (o : ℕ) (why : StepRefusal) → carried_move o (change_is.Refuse why) ≡ refuse why
-unfolding carried_move move_of
-refused_made o why = refl
+-- ---- a change of cubes carried
+
+pub carried_is : (o : ℕ) (change c : Change Cube) → change ≡ c → map_move (sharing o) (move_of c) ≡ map_move (sharing o) (move_of change)
+carried_is o change c e = sym (ap (λ (t : Change Cube). map_move (sharing o) (move_of t)) e)
 
 -- ---- drop, join and turn: the outputs are equal, or they are not
 
-module _ (a b : Shared) (change : Change) where
-  pub alike_equal : a.outputs ≡ b.outputs → carried_move a.outputs change ≡ alike a b (move_of change)
-  unfolding carried_move
-  alike_equal e = sym (alike_same a b (move_of change) e)
+module _ (a b : Shared) (change : Change Cube) (m : Move Shared) where
+  pub alike_equal : a.outputs ≡ b.outputs → m ≡ map_move (sharing a.outputs) (move_of change) → m ≡ alike a b (move_of change)
+  alike_equal e f = f ∙ sym (alike_same a b (move_of change) e)
 
-  pub alike_unlike : (a.outputs ≡ b.outputs → ⊥) → (c : Change) → change ≡ c → (m : Move Shared) → m ≡ or_refuse false 22 (carried a (move_of c))
-      → m ≡ alike a b (move_of change)
-  unfolding alike
-  alike_unlike ne c e m f =
-      f ∙ sym (ap (λ (t : Change). alike a b (move_of t)) e ∙ simp (ne_eqb a.outputs b.outputs ne))
+  module _ (ne : a.outputs ≡ b.outputs → ⊥) where
+    unlike : (y : Move Cube) → m ≡ or_refuse false 22 (carried a y) → m ≡ alike a b y
+    unfolding alike
+    unlike y f = f ∙ sym (simp (ne_eqb a.outputs b.outputs ne))
+
+    -- a change of cubes that is refused is refused as it was
+    pub alike_refused : (why : StepRefusal) → change ≡ change_is.Refuse why → m ≡ refuse why → m ≡ alike a b (move_of change)
+    unfolding move_of
+    alike_refused why e f = unlike (refuse why) f ∙ sym (ap (λ (t : Change Cube). alike a b (move_of t)) e)
+
+    pub alike_unlike : ((why : StepRefusal) → change ≡ change_is.Refuse why → ⊥) → m ≡ refuse (step_refusal 22) → m ≡ alike a b (move_of change)
+    unfolding move_of
+    alike_unlike made f = go change refl
+      where
+        go : (c : Change Cube) → change ≡ c → m ≡ alike a b (move_of c)
+        go (change_is.Refuse why) e = absurd (made why e)
+        go change_is.Drop e = unlike drops f
+        go (change_is.Join x) e = unlike (joins x) f
+        go (change_is.Split x y) e = unlike (splits x y) f
+        go (change_is.Turn x y) e = unlike (turns x y) f
 
 -- ---- merge
 
-module _ (n count i j p : ℕ) (a b : Shared) (e : p ≡ places_number count i j) (m : Move Shared) where
-  pub merge_places : (p ≡ 0 → ⊥) → m ≡ refuse (step_refusal p) → m ≡ merge_move n count i j a b
-  unfolding merge_move
-  merge_places ne f = f ∙ number_refused count i j p e (merged a b (apart n a.cube b.cube)) ne
-
-  module _ (z : p ≡ 0) where
+module _ (n count i j : ℕ) (a b : Shared) (m : Move Shared) where
+  module _ (e : 0 ≡ places_number count i j) where
     passed : ((l : List ℕ) → apart n a.cube b.cube ≡ l → m ≡ merged a b l) → m ≡ merge_move n count i j a b
     unfolding merge_move
-    passed f = f (apart n a.cube b.cube) refl ∙ number_passed count i j p e (merged a b (apart n a.cube b.cube)) z
+    passed f = f (apart n a.cube b.cube) refl ∙ number_passed count i j 0 e (merged a b (apart n a.cube b.cube)) refl
 
     pub merge_same : a.outputs ≡ b.outputs → m ≡ refuse (step_refusal 23) → m ≡ merge_move n count i j a b
     merge_same q f = passed go
@@ -84,31 +96,30 @@ module _ (n count i j p : ℕ) (a b : Shared) (e : p ≡ places_number count i j
 -- ---- any step
 
 module _ (n count cap : ℕ) (x : StepRecord) (a b : Shared) (m : Move Shared) where
-  pub merge_decided : x.op ≡ merge_operation → m ≡ merge_move n count x.i x.j a b → m ≡ shared_decision n count cap (shared_meaning x) a b
+  pub merge_decided : (i j : ℕ) → merge i j ≡ shared_meaning x → m ≡ merge_move n count i j a b → m ≡ shared_decision n count cap (shared_meaning x) a b
   unfolding shared_decision
-  merge_decided e f = rw (means_merge x e) f
+  merge_decided i j e f = f ∙ ap (λ (y : SharedStep). shared_decision n count cap y a b) e
 
-  -- a step on cubes as the operation says it
-  plainly : (op : ℕ) → x.op ≡ op → op < 5 → m ≡ shared_decision n count cap (plain (meaning_by op x)) a b → m ≡ shared_decision n count cap (shared_meaning x) a b
-  plainly op e l f = rw (means_plain x (λ q. omega arith), means x op e) f
+  module _ (change : Change Cube) (made : Decided n count cap x a.cube b.cube change) where
+    -- the change of cubes is what is decided of the plain step
+    by_step : (y : Step) → plain y ≡ shared_meaning x → move_of change ≡ decision n count cap y a.cube b.cube
+    by_step y e = made.is ∙ ap (λ (z : Step). decision n count cap z a.cube b.cube) (sym (plain_meaning x y e))
 
-  module _ (change : Change) (made : Decided n count cap x a.cube b.cube change) where
-    by_operation : (op : ℕ) → x.op ≡ op → move_of change ≡ decision n count cap (meaning_by op x) a.cube b.cube
-    by_operation op e = made.is ∙ ap (λ (y : Step). decision n count cap y a.cube b.cube) (means x op e)
+    plainly : (f : Move Cube → Move Shared) (y : Step) → plain y ≡ shared_meaning x → f (decision n count cap y a.cube b.cube) ≡ shared_decision n count cap (plain y) a b
+        → m ≡ f (move_of change) → m ≡ shared_decision n count cap (shared_meaning x) a b
+    plainly f y e d g = g ∙ ap f (by_step y e) ∙ d ∙ ap (λ (z : SharedStep). shared_decision n count cap z a b) e
 
-    pub split_decided : x.op ≡ 3 → m ≡ carried_move a.outputs change → m ≡ shared_decision n count cap (shared_meaning x) a b
-    unfolding carried_move shared_decision decision
-    split_decided e f = plainly 3 e (lit< tt) (f ∙ ap (carried a) (by_operation 3 e))
-
-    pub alike_decided : SharedKnown n x → (x.op ≡ merge_operation → ⊥) → (x.op ≡ 5 → ⊥) → (x.op ≡ 3 → ⊥)
-        → m ≡ alike a b (move_of change) → m ≡ shared_decision n count cap (shared_meaning x) a b
+    pub split_decided : (v i : ℕ) → plain (split v i) ≡ shared_meaning x → m ≡ map_move (sharing a.outputs) (move_of change)
+        → m ≡ shared_decision n count cap (shared_meaning x) a b
     unfolding shared_decision decision
-    alike_decided k ne nl ns f = go x.op refl k.least (plain_low x n k ne nl) ns
-      where
-        go : (op : ℕ) → x.op ≡ op → 1 ≤ op → op < 5 → (op ≡ 3 → ⊥) → m ≡ shared_decision n count cap (shared_meaning x) a b
-        go zero e least low no_split = absurd (omega arith)
-        go (suc zero) e least low no_split = plainly 1 e low (f ∙ ap (alike a b) (by_operation 1 e))
-        go (suc (suc zero)) e least low no_split = plainly 2 e low (f ∙ ap (alike a b) (by_operation 2 e))
-        go (suc (suc (suc zero))) e least low no_split = absurd (no_split refl)
-        go (suc (suc (suc (suc zero)))) e least low no_split = plainly 4 e low (f ∙ ap (alike a b) (by_operation 4 e))
-        go (suc (suc (suc (suc (suc op))))) e least low no_split = absurd (omega arith)
+    split_decided v i e f = plainly (map_move (sharing a.outputs)) (split v i) e refl f
+
+    pub alike_decided : SharedKnown n x → (x.op ≡ 5 → ⊥) → (s : operation.Step) → plain (step_of s) ≡ shared_meaning x
+        → ((v i : ℕ) → s ≡ step_is.Split v i → ⊥) → m ≡ alike a b (move_of change) → m ≡ shared_decision n count cap (shared_meaning x) a b
+    unfolding shared_decision decision
+    alike_decided k nl (step_is.Drop i j) e no_split f = plainly (alike a b) (drop i j) e refl f
+    alike_decided k nl (step_is.Join i j) e no_split f = plainly (alike a b) (join i j) e refl f
+    alike_decided k nl (step_is.Split v i) e no_split f = absurd (no_split v i refl)
+    alike_decided k nl (step_is.Turn v i j) e no_split f = plainly (alike a b) (turn v i j) e refl f
+    alike_decided k nl (step_is.L v literal) e no_split f =
+        absurd (no_letter x (plain_low x n k (no_merge x (L v literal) e) nl) v literal (plain_meaning x (L v literal) e))

@@ -12,9 +12,12 @@ use lib.Count.{ones, count_trailing_zeros}
 use lib.Dec.{lit<, eqb}
 use lib.ListN.{length}
 use borrow.Author.Tests.{eqb-true, eqb-false, eq-eqb, ne_eqb, lt-ltb, le-ltb, not-true, not-false}
+use Rattle.std.specs.Prelude.{Some}
 use Rattle.bits.specs.Bits.{bit}
 use Rattle.bits.proofs.Bools.{all_at}
 use Rattle.bits.proofs.Bits.{bit_lt, bit_ext, bit_high, bit_xor_lem, pow_bit, pow_bit_other}
+use Rattle.records.specs.declared.reason.Reason.{Reason}
+use Rattle.records.specs.Reasons.{number_of}
 use Rattle.cube.specs.declared.Cube.{Cube}
 use Rattle.cube.specs.Cubes.{code, put, with_code, Good, apart, differing, mask_bits}
 use Rattle.cube.specs.Lists.{most_variables}
@@ -27,7 +30,7 @@ use Rattle.steps.specs.declared.Change.{Change}
 use Rattle.steps.specs.declared.Change.TheVariants as change_is
 use Rattle.steps.specs.Moves.{step_refusal, step_refusal_with, Move, refuse, drops, joins, splits, turns}
 use Rattle.steps.specs.Steps.{third_at, at_two_places, unfit_by, dropped, drop_move, joined, join_move, split_move, turned, turn_move}
-use Rattle.steps.specs.Changes.{move_of, places_number}
+use Rattle.steps.specs.Changes.{move_of, places_number, Misplaced}
 use Rattle.steps.proofs.Places.{two_tests}
 
 -- ---- a test of one number
@@ -72,11 +75,11 @@ module _ (count i j : ℕ) where
         two_tests count i j (λ t u. ◌≡◌ {A = ℕ} 0 (cond t (cond u 11 0) 10) → m ≡ cond t (cond u (refuse (step_refusal 11)) m) (refuse (step_refusal 10)))
         (λ u h q. absurd (omega arith)) (λ h f q. absurd (omega arith)) (λ two q. refl) (sym z ∙ e)
 
--- a step that is refused for its places, whatever is decided of its cubes
-pub places_refused : (count i j p : ℕ) → p ≡ places_number count i j → (m : Move Cube) → (p ≡ 0 → ⊥)
-    → (c : Change) → c ≡ change_is.Refuse (step_refusal p) → move_of c ≡ at_two_places count i j m
+-- a step that is refused for its places, whatever is decided of its records
+pub places_refused : {A : Type 0} (count i j : ℕ) (reason : Reason) → Misplaced count i j (Some reason) → (m : Move A) → (c : Change A)
+    → c ≡ change_is.Refuse (step_refusal (number_of reason)) → move_of c ≡ at_two_places count i j m
 unfolding move_of
-places_refused count i j p e m ne c ec = ap move_of ec ∙ number_refused count i j p e m ne
+places_refused count i j reason e m c ec = ap move_of ec ∙ number_refused count i j (number_of reason) e.0 m e.1
 
 -- ---- the set of the variables in which two good cubes differ
 
@@ -157,10 +160,10 @@ join_cube n a b g h few u el s v es ev c ec =
 
 -- ---- the decisions at two places
 
-module _ (n count i j p : ℕ) (a b : Cube) (e : p ≡ places_number count i j) where
-  module _ (z : p ≡ 0) (g : Good n a) (h : Good n b) (s : ℕ) (es : s ≡ differing a b) where
+module _ (n count i j : ℕ) (a b : Cube) (e : 0 ≡ places_number count i j) where
+  module _ (g : Good n a) (h : Good n b) (s : ℕ) (es : s ≡ differing a b) where
     passed : {m r : Move Cube} → r ≡ m → r ≡ at_two_places count i j m
-    passed {m} {r} f = f ∙ number_passed count i j p e m z
+    passed {m} {r} f = f ∙ number_passed count i j 0 e m refl
 
     many : (l : List ℕ) → apart n a b ≡ l → length l ≡ ones s
     many l el = sym (ap length el) ∙ apart_count n a b g h ∙ ap ones (sym es)
@@ -171,7 +174,7 @@ module _ (n count i j p : ℕ) (a b : Cube) (e : p ≡ places_number count i j) 
 
     -- drop
 
-    pub drop_unlike : (s ≡ 0 → ⊥) → (c : Change) → c ≡ change_is.Refuse (step_refusal_with 16 (ones s)) → move_of c ≡ drop_move n count i j a b
+    pub drop_unlike : (s ≡ 0 → ⊥) → (c : Change Cube) → c ≡ change_is.Refuse (step_refusal_with 16 (ones s)) → move_of c ≡ drop_move n count i j a b
     unfolding move_of drop_move
     drop_unlike ne c ec = ap move_of ec ∙ passed (go (apart n a b) refl)
       where
@@ -189,7 +192,7 @@ module _ (n count i j p : ℕ) (a b : Cube) (e : p ≡ places_number count i j) 
 
     -- join
 
-    pub join_unlike : (ones s ≡ 1 → ⊥) → (c : Change) → c ≡ change_is.Refuse (step_refusal_with 17 (ones s)) → move_of c ≡ join_move n count i j a b
+    pub join_unlike : (ones s ≡ 1 → ⊥) → (c : Change Cube) → c ≡ change_is.Refuse (step_refusal_with 17 (ones s)) → move_of c ≡ join_move n count i j a b
     unfolding move_of join_move
     join_unlike ne c ec = ap move_of ec ∙ passed (go (apart n a b) refl)
       where
@@ -211,7 +214,7 @@ module _ (n count i j p : ℕ) (a b : Cube) (e : p ≡ places_number count i j) 
     -- turn
 
     module _ (v : ℕ) where
-      pub turn_unlike : (ones s ≡ 2 → ⊥) → (c : Change) → c ≡ change_is.Refuse (step_refusal_with 18 (ones s)) → move_of c ≡ turn_move n count v i j a b
+      pub turn_unlike : (ones s ≡ 2 → ⊥) → (c : Change Cube) → c ≡ change_is.Refuse (step_refusal_with 18 (ones s)) → move_of c ≡ turn_move n count v i j a b
       unfolding move_of turn_move
       turn_unlike ne c ec = ap move_of ec ∙ passed (go (apart n a b) refl)
         where
@@ -225,7 +228,7 @@ module _ (n count i j p : ℕ) (a b : Cube) (e : p ≡ places_number count i j) 
       at_v : (u t : ℕ) → t ≡ bit s v → code b u ≢ code a u → v ≡ u → t ≡ 1
       at_v u t et ne e = et ∙ ap₂ bit es e ∙ bit_unlike n a b g h u ne
 
-      pub turn_elsewhere : ones s ≡ 2 → (t : ℕ) → t ≡ bit s v → t ≡ 0 → (c : Change) → c ≡ change_is.Refuse (step_refusal_with 19 (ones s))
+      pub turn_elsewhere : ones s ≡ 2 → (t : ℕ) → t ≡ bit s v → t ≡ 0 → (c : Change Cube) → c ≡ change_is.Refuse (step_refusal_with 19 (ones s))
           → move_of c ≡ turn_move n count v i j a b
       unfolding move_of turn_move
       turn_elsewhere two t et q c ec = ap move_of ec ∙ passed (go (apart n a b) refl)
@@ -266,11 +269,11 @@ module _ (n count i j p : ℕ) (a b : Cube) (e : p ≡ places_number count i j) 
 -- ---- split
 
 module _ (count cap v i : ℕ) (a : Cube) where
-  pub split_place : count ≤ i → (c : Change) → c ≡ change_is.Refuse (step_refusal 10) → move_of c ≡ split_move count cap v i a
+  pub split_place : count ≤ i → (c : Change Cube) → c ≡ change_is.Refuse (step_refusal 10) → move_of c ≡ split_move count cap v i a
   unfolding move_of split_move
   split_place h c ec = ap move_of ec ∙ sym (simp (le-ltb i count h))
 
-  pub split_full : i < count → cap ≤ count → (c : Change) → c ≡ change_is.Refuse (step_refusal 13) → move_of c ≡ split_move count cap v i a
+  pub split_full : i < count → cap ≤ count → (c : Change Cube) → c ≡ change_is.Refuse (step_refusal 13) → move_of c ≡ split_move count cap v i a
   unfolding move_of split_move
   split_full hi h c ec = ap move_of ec ∙ sym (simp (lt-ltb i count hi, le-ltb count cap h))
 

@@ -6,14 +6,13 @@ use Prim.Native.Nat.{ℕ, suc, ◌+◌, ◌-◌, ◌*◌, ◌/◌, ◌≤◌, �
 use native.Mathlib.Nat.{le_trans, mul-le-mul_left, mul-suc}
 use native.Mathlib.Omega.{arith}
 use lib.ListN.{length, get_or, set, length-set, get_or-eq_default}
+use Rattle.std.specs.Prelude.{Ok, Err}
 use Rattle.records.specs.Places.{remove_at}
 use Rattle.records.specs.Records.{Codec, stored, records, list_of, image, Holds, Held}
 use Rattle.records.proofs.Images.{length_image, length_remove}
 use Rattle.records.proofs.Records.{Lawful, length_records, get_or_records, list_at, length_stored, place_room, held_fits, held_place, holds_store, holds_push, holds_remove, holds_held, holds_records, image_holds}
-use Rattle.cube.specs.declared.Cube.{Cube}
 use Rattle.steps.specs.declared.Change.{Change}
 use Rattle.steps.specs.declared.Change.TheVariants as change_is
-use Rattle.steps.specs.declared.Stepped.TheVariants as stepped_is
 use Rattle.steps.specs.declared.StepRefusal.{StepRefusal}
 use Rattle.steps.specs.Moves.{Move, refuse, drops, joins, splits, turns, After, next, applied, drop_at, join_at, split_at, turn_at}
 use Rattle.steps.specs.Effects.{TwoPlaces}
@@ -166,27 +165,27 @@ module _ {A : Type 0} (k room i j : ℕ) (m : Move A) (p : Placed k room i j m) 
 
 module _ {A : Type 0} (C : Codec A) (K : Lawful C) (k i j : ℕ) (b : List ℕ) (m : Move A) where
   made_next : (b' : List ℕ) (l : List A) (count : ℕ) → applied C.none i j (records C k b) m ≡ next l → b' ≡ image C (length b) l → length l ≡ count
-      → DoneBy C b b' (applied C.none i j (records C k b) m) (stepped_is.Count count)
-  made_next b' l count p q r = subst (λ (e : After A). DoneBy C b b' e (stepped_is.Count count)) (sym p) (record { answer = ap stepped_is.Count (sym r); buffer = q })
+      → DoneBy C b b' (applied C.none i j (records C k b) m) (Ok count)
+  made_next b' l count p q r = subst (λ (e : After A). DoneBy C b b' e (Ok count)) (sym p) (record { answer = ap Ok (sym r); buffer = q })
 
-  pub made_refuse : (why : StepRefusal) → m ≡ refuse why → DoneBy C b b (applied C.none i j (records C k b) m) (stepped_is.Refused why)
+  pub made_refuse : (why : StepRefusal) → m ≡ refuse why → DoneBy C b b (applied C.none i j (records C k b) m) (Err why)
   unfolding applied
   made_refuse why e =
-      subst (λ (t : Move A). DoneBy C b b (applied C.none i j (records C k b) t) (stepped_is.Refused why)) (sym e) (record { answer = refl; buffer = refl })
+      subst (λ (t : Move A). DoneBy C b b (applied C.none i j (records C k b) t) (Err why)) (sym e) (record { answer = refl; buffer = refl })
 
   pub made_drop : m ≡ drops → (b' : List ℕ) (count : ℕ) → count ≡ length (drop_at C.none (records C k b) i j)
-      → b' ≡ image C (length b) (drop_at C.none (records C k b) i j) → DoneBy C b b' (applied C.none i j (records C k b) m) (stepped_is.Count count)
+      → b' ≡ image C (length b) (drop_at C.none (records C k b) i j) → DoneBy C b b' (applied C.none i j (records C k b) m) (Ok count)
   unfolding applied
   made_drop e b' count ec eb = made_next b' (drop_at C.none (records C k b) i j) count (ap (applied C.none i j (records C k b)) e) eb (sym ec)
 
   pub made_join : (x : A) → m ≡ joins x → (b' : List ℕ) (count : ℕ) → count ≡ length (join_at C.none (records C k b) i j x)
-      → b' ≡ image C (length b) (join_at C.none (records C k b) i j x) → DoneBy C b b' (applied C.none i j (records C k b) m) (stepped_is.Count count)
+      → b' ≡ image C (length b) (join_at C.none (records C k b) i j x) → DoneBy C b b' (applied C.none i j (records C k b) m) (Ok count)
   unfolding applied
   made_join x e b' count ec eb = made_next b' (join_at C.none (records C k b) i j x) count (ap (applied C.none i j (records C k b)) e) eb (sym ec)
 
   module _ (p : Placed k (length b / C.width) i j m) where
     pub made_split : (x y : A) → m ≡ splits x y → Held C k b → (b₁ b₂ : List ℕ) → b₁ ≡ stored C b i x → b₂ ≡ stored C b₁ k y
-        → DoneBy C b b₂ (applied C.none i j (records C k b) m) (stepped_is.Count (k + 1))
+        → DoneBy C b b₂ (applied C.none i j (records C k b) m) (Ok (k + 1))
     unfolding applied
     made_split x y e h b₁ b₂ e₁ e₂ =
         made_next b₂ (split_at (records C k b) i x y) (k + 1) (ap (applied C.none i j (records C k b)) e)
@@ -194,17 +193,16 @@ module _ {A : Type 0} (C : Codec A) (K : Lawful C) (k i j : ℕ) (b : List ℕ) 
         (length_split_at (records C k b) i x y ∙ ap (λ (n : ℕ). n + 1) (length_records C k b))
 
     pub made_turn : (x y : A) → m ≡ turns x y → Held C k b → (b₁ b₂ : List ℕ) → b₁ ≡ stored C b i x → b₂ ≡ stored C b₁ j y
-        → DoneBy C b b₂ (applied C.none i j (records C k b) m) (stepped_is.Count k)
+        → DoneBy C b b₂ (applied C.none i j (records C k b) m) (Ok k)
     unfolding applied
     made_turn x y e h b₁ b₂ e₁ e₂ =
         made_next b₂ (turn_at (records C k b) i j x y) k (ap (applied C.none i j (records C k b)) e)
         (turned_image C K k i j b h (turn_in k (length b / C.width) i j m p x y e) x y b₁ b₂ e₁ e₂)
         (length_turn_at (records C k b) i j x y ∙ length_records C k b)
 
--- ---- cubes in the work buffer
+-- ---- a change as a move
 
--- a change of cubes, as a move
-module _ (change : Change) where
+module _ {A : Type 0} (change : Change A) where
   pub refuse_move : (why : StepRefusal) → change ≡ change_is.Refuse why → move_of change ≡ refuse why
   unfolding move_of
   refuse_move why e = ap move_of e
@@ -213,14 +211,14 @@ module _ (change : Change) where
   unfolding move_of
   drop_move_lem e = ap move_of e
 
-  pub join_move_lem : (c : Cube) → change ≡ change_is.Join c → move_of change ≡ joins c
+  pub join_move_lem : (c : A) → change ≡ change_is.Join c → move_of change ≡ joins c
   unfolding move_of
   join_move_lem c e = ap move_of e
 
-  pub split_move_lem : (c d : Cube) → change ≡ change_is.Split c d → move_of change ≡ splits c d
+  pub split_move_lem : (c d : A) → change ≡ change_is.Split c d → move_of change ≡ splits c d
   unfolding move_of
   split_move_lem c d e = ap move_of e
 
-  pub turn_move_lem : (c d : Cube) → change ≡ change_is.Turn c d → move_of change ≡ turns c d
+  pub turn_move_lem : (c d : A) → change ≡ change_is.Turn c d → move_of change ≡ turns c d
   unfolding move_of
   turn_move_lem c d e = ap move_of e

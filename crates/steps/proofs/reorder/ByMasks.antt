@@ -124,6 +124,12 @@ module _ (low high : ℕ) (h : low < half_size) where
   pair_high : pair low high / half_size ≡ high
   pair_high = omega arith
 
+-- the cube of a cube's number is that cube
+pub halves_word : (c : Cube) → Good most_variables c → halves (word_of c) ≡ c
+halves_word c g =
+    let low : c.seen < half_size = good_seen most_variables c g in
+    λ t. record { seen = pair_low c.seen c.value low t; value = pair_high c.seen c.value low t }
+
 -- ---- a cube by masks
 
 -- one mask s, with the other w: f has a bit for each code, and i the masks of them

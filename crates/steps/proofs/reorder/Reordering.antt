@@ -8,17 +8,14 @@ use native.Mathlib.Numerals.{add-one}
 use native.Mathlib.Omega.{arith}
 use lib.ListN.{length, get_or, set}
 use Rattle.bits.specs.Sums.{All}
+use Rattle.bits.proofs.Sums.{all_get}
 use Rattle.records.specs.Records.{Codec, stored, records, list_of, image, Holds, Held}
 use Rattle.records.proofs.Records.{Lawful, length_records, length_stored, list_at, holds_load, holds_place, holds_store}
-use Rattle.cube.specs.declared.Cube.{Cube}
-use Rattle.cube.specs.Cubes.{one, Good}
-use Rattle.cube.specs.Lists.{cubes, cubes_of, most_variables}
-use Rattle.cube.proofs.Lists.{lawful, good_at}
+use Rattle.cube.specs.Lists.{most_variables}
 use Rattle.steps.specs.declared.reorder.Masks.{Masks}
-use Rattle.steps.specs.Steps.{reordered}
-use Rattle.steps.specs.Changes.{masks_at, by_masks}
+use Rattle.steps.specs.Changes.{masks_at}
+use Rattle.steps.specs.Kinds.{Recoded}
 use Rattle.steps.proofs.perform.Placing.{held_room}
-use Rattle.steps.proofs.reorder.ByMasks.{recoded_is}
 
 module _ {A : Type 0} (f : A → A) where
   -- the first k changed
@@ -96,14 +93,17 @@ module _ {A : Type 0} (C : Codec A) (K : Lawful C) (f : A → A) (n : ℕ) (d : 
 pub whole_count : {A : Type 0} (C : Codec A) → Lawful C → (n : ℕ) (d : List ℕ) → Held C n d → (e : ℕ) → e ≡ min n (length d / C.width) → e ≡ n
 whole_count C K n d h e q = q ∙ min-eq_left (held_room C K n d h)
 
--- the pass that moves every cube's code at v by the order o
-module _ (n v o : ℕ) (d b : List ℕ) (i : ℕ) (r : Mapped cubes (reordered v o) n d b i) (all : All (Good most_variables) (records cubes n d)) (h : i < n)
-    (c : Cube) (e : c ≡ get_or (cubes_of b) i one) where
-  next_is : c ≡ get_or (records cubes n d) i one
-  next_is = mapped_next cubes lawful (reordered v o) n d b i r h c e
+-- the pass that moves every record's code at v by the order o
+module _ {A : Type 0} (C : Codec A) (K : Lawful C) (Fine : A → Type 0) (moved : ℕ → ℕ → A → A) (v o n : ℕ) (d b : List ℕ) (i : ℕ) (r : Mapped C (moved v o) n d b i) (h : i < n) where
+  abbrev there : A
+  there = get_or (list_of C b) i C.none
 
-  pub reorder_more : v < most_variables → (k : Masks) → k ≡ masks_at v o → (x : Cube) → x ≡ by_masks k c
-      → (b₁ : List ℕ) → b₁ ≡ stored cubes b i x → Mapped cubes (reordered v o) n d b₁ (i + 1)
-  reorder_more hv k ek x ex b₁ e₁ =
-      let good : Good most_variables c = subst (Good most_variables) (sym next_is) (good_at most_variables (records cubes n d) all i) in
-      mapped_more cubes lawful (reordered v o) n d b i r h x (ex ∙ recoded_is k c good v o hv ek ∙ ap (reordered v o) next_is) b₁ e₁
+  there_is : there ≡ get_or (records C n d) i C.none
+  there_is = mapped_next C K (moved v o) n d b i r h there refl
+
+  -- the next record is as fine as it was
+  pub mapped_fine : All Fine (records C n d) → Fine there
+  mapped_fine all = subst Fine (sym there_is) (all_get Fine (records C n d) i C.none all (omega (arith, length_records C n d)))
+
+  pub mapped_recoded : (masks : Masks) → masks ≡ masks_at v o → v < most_variables → (b₁ : List ℕ) → Recoded C moved masks i b b₁ → Mapped C (moved v o) n d b₁ (i + 1)
+  mapped_recoded masks e hv b₁ done = mapped_more C K (moved v o) n d b i r h (moved v o there) (ap (moved v o) there_is) b₁ (done.is v o hv e)

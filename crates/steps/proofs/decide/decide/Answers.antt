@@ -1,23 +1,24 @@
 -- `steps::decide::decide` meets its contract.
 -- Assumes nothing.
-use borrow.Author.Rules.{rules}
-use Rattle.steps.proofs.Making.{split_below, turn_op, turn_below, drop_decided, join_decided, split_decided, turn_decided}
+use Rattle.steps.specs.Steps.{decision}
+use Rattle.steps.proofs.Making.{decided, no_letter}
 use Rattle.steps.proofs.decide.decide.Goals as goal
 
-pub decide_split-requires : goal.decide_split-requires
-decide_split-requires c = search split_below
+pub unreachable-requires : goal.unreachable-requires
+unreachable-requires c = no_letter c.args.x c.requires.op_bound _ _ c.in-L.ensures
 
-pub decide_turn-requires : goal.decide_turn-requires
-decide_turn-requires c = record { good = search rules; v_lt_n = (search (turn_below, turn_op), search rules) }
+pub returns-in-Drop : goal.returns-in-Drop
+unfolding decision
+returns-in-Drop c = decided _ _ _ c.args.x _ _ _ _ c.in-Drop.ensures c.decide_drop.ensures
 
-pub returns-in-1 : goal.returns-in-1
-returns-in-1 c = search drop_decided
+pub returns-in-Join : goal.returns-in-Join
+unfolding decision
+returns-in-Join c = decided _ _ _ c.args.x _ _ _ _ c.in-Join.ensures c.decide_join.ensures
 
-pub returns-in-2 : goal.returns-in-2
-returns-in-2 c = search join_decided
+pub returns-in-Split : goal.returns-in-Split
+unfolding decision
+returns-in-Split c = decided _ _ _ c.args.x _ _ _ _ c.in-Split.ensures c.decide_split.ensures
 
-pub returns-in-3 : goal.returns-in-3
-returns-in-3 c = search split_decided
-
-pub returns-in_default : goal.returns-in_default
-returns-in_default c = search (turn_decided, turn_op)
+pub returns-in-Turn : goal.returns-in-Turn
+unfolding decision
+returns-in-Turn c = decided _ _ _ c.args.x _ _ _ _ c.in-Turn.ensures c.decide_turn.ensures

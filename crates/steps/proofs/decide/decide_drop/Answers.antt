@@ -4,12 +4,12 @@ use Rattle.steps.specs.Steps.{drop_move}
 use Rattle.steps.proofs.decide.Deciding.{places_refused, drop_unlike, drop_equal}
 use Rattle.steps.proofs.decide.decide_drop.Goals as goal
 
-pub returns-then-number-ne0 : goal.returns-then-number-ne0
+pub returns-in-Some : goal.returns-in-Some
 unfolding drop_move
-returns-then-number-ne0 c = search places_refused
+returns-in-Some c = places_refused _ _ _ _ c.in-Some.ensures _ _ c.refuse.ensures
 
 pub returns-then-set-ne0 : goal.returns-then-set-ne0
-returns-then-set-ne0 c = search drop_unlike
+returns-then-set-ne0 c = let passed = c.in_default.ensures in search drop_unlike
 
 pub returns : goal.returns
-returns c = search drop_equal
+returns c = let passed = c.in_default.ensures in search drop_equal

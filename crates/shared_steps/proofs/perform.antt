@@ -1,2 +1,0 @@
--- What the proofs of `perform` and of the functions below it use.
-pub mod Performing

@@ -1,2 +1,0 @@
--- What the proof of `reorder` uses.
-pub mod Reordering
