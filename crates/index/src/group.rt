@@ -1,4 +1,4 @@
-// The group of a number in a lent index: whether the index is the list's, and the part that holds the group.
+//! The group of a number in a lent index: whether the index is the list's, and the part that holds the group.
 ghost use Rattle.std.specs.Prelude.{◌≡◌, cond, ◌+◌, ◌*◌, ◌/◌, ◌≤◌, ◌<◌, min, length};
 ghost use Rattle.records.specs.Records.{records};
 ghost use Rattle.records.specs.Places.{place_width, places};
@@ -11,22 +11,19 @@ ghost use Rattle.index.specs.Calls.{first_apart, own_outcome, group_outcome, par
 use crate::GROUPS;
 use crate::count::{literals_at, starts_of};
 use records::place::{PLACE_WIDTH, place_at};
-use records::{Counted, Refusal};
+use records::{Reason, Refusal};
 
-// The lowest wrong entry so far, with the entry e, which is right or wrong.
+/// The lowest wrong entry so far, with the entry e, which is right or wrong.
 fn lowest_wrong(bad: usize, e: usize, right: bool) -> usize
     ensures { result ≡ cond right bad (min bad e) }
 {
     if right {
         return bad;
     }
-    if bad < e {
-        return bad;
-    }
-    e
+    bad.min(e)
 }
 
-// The first wrong entry of an index, or the count. Each place is looked for at its entry, so that one pass over the list is enough.
+/// The first wrong entry of an index, or the count. Each place is looked for at its entry, so that one pass over the list is enough.
 fn wrong_entry(list: &[u8], count: usize, s: [u64; GROUPS], index: &[u8]) -> usize
     requires count_in_bounds { (count ≤ length list.now / record_width) × (count ≤ most_records) }
     requires started { Started (literals_at (cubes_of list.now)) count s }
@@ -35,33 +32,29 @@ fn wrong_entry(list: &[u8], count: usize, s: [u64; GROUPS], index: &[u8]) -> usi
 {
     let mut next = s;
     let mut bad = count;
-    let mut p = 0;
-    while p < count {
+    for p in 0..count {
         let m = literals_at(list, p);
         let e = next[m];
         let right = place_at(index, e as usize) as usize == p;
         bad = lowest_wrong(bad, e as usize, right);
         next[m] = e + 1;
-        p += 1;
     }
     bad
 }
 
-// The first group whose start is wrong, or 33.
+/// The first group whose start is wrong, or 33.
 fn wrong_start(starts: [u64; GROUPS], right: [u64; GROUPS]) -> usize
     ensures { result ≡ first_apart group_count starts right }
 {
-    let mut m = 0;
-    while m < GROUPS {
+    for m in 0..GROUPS {
         if starts[m] != right[m] {
             return m;
         }
-        m += 1;
     }
     GROUPS
 }
 
-// Where the group after m starts.
+/// Where the group after m starts.
 fn next_start(starts: [u64; GROUPS], count: usize, m: usize) -> usize
     requires { m < group_count }
     ensures { result ≡ next_start starts count m }
@@ -72,14 +65,14 @@ fn next_start(starts: [u64; GROUPS], count: usize, m: usize) -> usize
     starts[m + 1] as usize
 }
 
-// The group of a number in an index that has room for a checked list's: refusals 25 and 21, or how many entries it has.
+/// The group of a number in an index that has room for a checked list's: refusals 25 and 21, or how many entries it has.
 fn own_group(
     list: &[u8],
     count: usize,
     index: &[u8],
     starts: [u64; GROUPS],
     number: usize,
-) -> Counted
+) -> Result<usize, Refusal>
     requires count_value { (count ≡ length list.now / record_width) × (count ≤ most_records) }
     requires count_in_bounds { place_width * count ≤ length index.now }
     ensures { counted result ≡ own_outcome (cubes_of list.now) index.now starts number }
@@ -87,41 +80,37 @@ fn own_group(
     let right = starts_of(list, count);
     let bad = wrong_entry(list, count, right, index);
     if bad != count {
-        return Counted::Refused(Refusal::new(25, bad));
+        return Err(Reason::OtherIndex.at(bad));
     }
     let off = wrong_start(starts, right);
     if off != GROUPS {
-        return Counted::Refused(Refusal::new(25, off));
+        return Err(Reason::OtherIndex.at(off));
     }
     if GROUPS <= number {
-        return Counted::Refused(Refusal::new(21, 0));
+        return Err(Reason::NoSuchOutput.at(0));
     }
     let end = next_start(right, count, number);
-    Counted::Count(end - right[number] as usize)
+    Ok(end - right[number] as usize)
 }
 
-// The group of a number: refusals 1 to 4, 5, 25 and 21, or how many entries it has.
+/// The group of a number: refusals 1 to 4, 5, 25 and 21, or how many entries it has.
 pub fn group_count(
     n: usize,
     list: &[u8],
     index: &[u8],
     starts: [u64; GROUPS],
     number: usize,
-) -> Counted
+) -> Result<usize, Refusal>
     ensures { counted result ≡ group_outcome n list.now index.now starts number }
 {
-    match cube::list::check(n, list) {
-        Counted::Refused(r) => Counted::Refused(r),
-        Counted::Count(count) => {
-            if index.len() < PLACE_WIDTH * count {
-                return Counted::Refused(Refusal::new(5, 0));
-            }
-            own_group(list, count, index, starts, number)
-        }
+    let count = cube::list::check(n, list)?;
+    if index.len() < PLACE_WIDTH * count {
+        return Err(Reason::NoRoom.at(0));
     }
+    own_group(list, count, index, starts, number)
 }
 
-// So many entries of an index, from one on.
+/// So many entries of an index, from one on.
 fn part<'a>(index: &'a [u8], from: usize, size: usize) -> &'a [u8]
     requires { place_width * (from + size) ≤ length index.now }
     ensures { result.now ≡ part_of index.now from size }
@@ -129,8 +118,8 @@ fn part<'a>(index: &'a [u8], from: usize, size: usize) -> &'a [u8]
     &index[PLACE_WIDTH * from..PLACE_WIDTH * (from + size)]
 }
 
-// The part of the lent index that holds the places of the cubes with so many literals, from the group's start to the next; an empty part where the
-// call is refused, and then `group_count` says why.
+/// The part of the lent index that holds the places of the cubes with so many literals, from the group's start to the next; an empty part where the
+/// call is refused, and then `group_count` says why.
 pub fn group<'a>(
     n: usize,
     list: &[u8],
@@ -140,14 +129,8 @@ pub fn group<'a>(
 ) -> &'a [u8]
     ensures { result.now ≡ group_part n list.now index.now starts number }
 {
-    let answer = group_count(n, list, index, starts, number);
-    match answer {
-        Counted::Refused(_) => {
-            return part(index, 0, 0);
-        }
-        Counted::Count(size) => {
-            let from = starts[number] as usize;
-            return part(index, from, size);
-        }
+    match group_count(n, list, index, starts, number) {
+        Err(_) => part(index, 0, 0),
+        Ok(size) => part(index, starts[number] as usize, size),
     }
 }

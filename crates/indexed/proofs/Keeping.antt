@@ -1,39 +1,39 @@
--- The index kept up beside the work list: after a step it can be rebuilt, and is then the one of the next list.
+-- The index kept up beside the work list: that of the list after a step is kept, and can be rebuilt.
 -- Assumes nothing.
 use mathlib.Core.Path.{◌≡◌, sym, ap, ◌∙◌, subst}
-use mathlib.Core.Bool.{true, false}
+use mathlib.Core.Bool.{true}
 use mathlib.Core.List.{List}
 use Prim.Native.Nat.{ℕ, ◌-◌, ◌*◌, ◌/◌, ◌≤◌}
-use native.Mathlib.Nat.{le_refl, sub-zero}
+use native.Mathlib.Nat.{sub-zero}
 use native.Mathlib.Omega.{arith}
 use lib.ListN.{length}
 use lib.Seq.{drop_at}
-use Rattle.records.specs.Records.{records, flat, filled, image, zeros}
+use Rattle.records.specs.Records.{Held, Holds, records, flat, filled, image, zeros}
 use Rattle.records.specs.Places.{place_width, places}
 use Rattle.records.proofs.Images.{length_flat, length_image}
 use Rattle.records.proofs.Places.{places_lawful}
 use Rattle.records.proofs.Records.{length_records, held_fits}
 use Rattle.cube.specs.declared.Cube.{Cube}
-use Rattle.cube.specs.Lists.{cubes, record_width}
+use Rattle.cube.specs.Cubes.{good, Good}
+use Rattle.cube.specs.Lists.{cubes, record_width, most_records}
+use Rattle.cube.proofs.Codes.{good_parts}
 use Rattle.cube.proofs.Lists.{lawful, good_at}
-use Rattle.steps.specs.Moves.{After}
-use Rattle.steps.specs.Steps.{Step, step}
-use Rattle.steps.specs.Calls.{Ready, work_stepped}
-use Rattle.steps.proofs.step.Stepping.{step_fits, step_records_lem, step_long}
-use Rattle.script.specs.declared.Standing.{Standing}
-use Rattle.script.specs.Progress.{advanced, work_advanced}
-use Rattle.script.proofs.run.Advancing.{Went, went, halts}
+use Rattle.script.specs.Carrying.{Carries}
+use Rattle.script.proofs.Carrying.{carries_ready}
 use Rattle.index.specs.Index.{literals_at, list_index}
 use Rattle.index.specs.Counting.{ClearBehind}
 use Rattle.index.proofs.Entries.{length_index}
 use Rattle.index.proofs.Accepted.{good_grouped}
-use Rattle.indexed.specs.Calls.{index_advanced}
-use Rattle.indexed.specs.Keeping.{IndexRoom, Rebuildable, index_beside}
+use Rattle.indexed.specs.Keeping.{IndexKept}
 
 -- ---- an index buffer that is zero behind its entries
 
 pub clear_all : (index : List ℕ) (room : ℕ) → index ≡ zeros room → length index ≡ room → ClearBehind 0 index
 clear_all index room e long = e ∙ ap zeros (sym long ∙ sym (sub-zero (length index)))
+
+image_long : (room : ℕ) (l : List ℕ) → place_width * length l ≤ room → length (image places room l) ≡ room
+unfolding image filled
+image_long room l h = length_image places.enc place_width places_lawful.len room l h
 
 image_behind : (room : ℕ) (l : List ℕ) → place_width * length l ≤ room → ClearBehind (length l) (image places room l)
 unfolding image filled
@@ -43,63 +43,36 @@ image_behind room l h =
     drop_at (flat places.enc l) (zeros (room - length (flat places.enc l))) (place_width * length l) bytes
     ∙ ap zeros (ap (λ (k : ℕ). room - k) bytes ∙ ap (λ (k : ℕ). k - place_width * length l) (sym long))
 
-module _ (n count cap : ℕ) (b index : List ℕ) (ready : Ready n count cap b) (i : IndexRoom count cap (length index)) where
-  pub ready_here : count ≤ length b / record_width
-  ready_here = omega (arith, held_fits cubes lawful count b ready.held)
+-- ---- a list of cubes in a work buffer
 
-  -- the index beside the list has an entry for each of its cubes
-  pub beside_behind : index ≡ index_beside count b (length index) → ClearBehind count index
+module _ (n count cap : ℕ) (w : List ℕ) (c : Carries cubes (good n) n count cap w) where
+  abbrev l : List Cube
+  l = records cubes count w
+
+  many : length l ≡ count
+  many = length_records cubes count w
+
+  pub carried_here : count ≤ length w / record_width
+  carried_here = omega (arith, held_fits cubes lawful count w (carries_ready cubes (good n) (Good n) n count cap w (good_parts n) c).held)
+
+  -- an index built of it has an entry for each cube, and its buffer is as long as it was
+  entries : length (list_index l) ≡ length l
   unfolding list_index
-  beside_behind e =
-      let l : List Cube = records cubes count b in
-      let many : length (list_index l) ≡ count =
-      length_index (literals_at l) (length l) (good_grouped n l ready.few (good_at n l ready.good)) ∙ length_records cubes count b in
-      let behind : ClearBehind (length (list_index l)) (image places (length index) (list_index l)) = image_behind (length index) (list_index l) (omega (arith, many, i.few, i.fits)) in
-      subst (ClearBehind count) (sym e) (subst (λ (k : ℕ). ClearBehind k (image places (length index) (list_index l))) many behind)
+  entries = length_index (literals_at l) (length l) (good_grouped n l c.few (good_at n l (carries_ready cubes (good n) (Good n) n count cap w (good_parts n) c).good))
 
--- ---- one step
+  pub built_long : (room : ℕ) → count ≤ cap → place_width * cap ≤ room → (index : List ℕ) → index ≡ image places room (list_index l) → length index ≡ room
+  built_long room few fits index e = ap length e ∙ image_long room (list_index l) (omega (arith, entries, many, few, fits))
 
-module _ (n cap : ℕ) (x : Step) (p q : Standing) (b b' : List ℕ) (room : ℕ) (ready : Ready n p.count cap b) (i : IndexRoom p.count cap room)
-    (eq : q ≡ advanced p (step n cap x (records cubes p.count b))) (eb : b' ≡ work_advanced b (step n cap x (records cubes p.count b))) where
-  abbrev stepped : After Cube
-  stepped = step n cap x (records cubes p.count b)
-
-  module _ (f : q.done ≡ true) where
-    w : Went stepped q
-    w = went p q stepped eq f
-
-    left : b' ≡ work_stepped b stepped
-    left = eb ∙ ap (work_advanced b) w.is ∙ sym (ap (work_stepped b) w.is)
-
-    next_few : q.count ≤ cap
-    next_few =
-        omega (arith, w.many, step_fits n cap cap x (records cubes p.count b) w.list (omega (arith, length_records cubes p.count b, i.few)) (le_refl cap) w.is)
-
-    pub next_room : IndexRoom q.count cap room
-    next_room = record { few = next_few; most = i.most; fits = i.fits }
-
-    pub next_rebuildable : (index : List ℕ) → length index ≡ room → index ≡ index_beside p.count b room → Rebuildable q.count p.count (length b') index
-    next_rebuildable index long e = record {
-      here = omega (arith, next_few, ready.room, step_long n p.count cap b b' x w.list ready w.is left);
-      few = omega (arith, next_few, i.most);
-      fits = omega (arith, next_few, i.fits, long);
-      old_fits = omega (arith, i.few, i.fits, long);
-      clear = beside_behind n p.count cap b index ready (subst (IndexRoom p.count cap) (sym long) i) (e ∙ ap (index_beside p.count b) (sym long));
-    }
-
-    -- the cubes of the work buffer are the next list
-    next_list : records cubes q.count b' ≡ w.list
-    next_list = ap (λ (k : ℕ). records cubes k b') w.many ∙ step_records_lem n p.count cap b b' x w.list ready w.is left
-
-    -- so the index beside it is that of the next list
-    pub next_index : index_beside q.count b' room ≡ index_advanced room stepped
-    next_index = ap (λ (l : List Cube). image places room (list_index l)) next_list ∙ sym (ap (index_advanced room) w.is)
-
-    pub advance_kept : (index' : List ℕ) → index' ≡ index_beside q.count b' room → index' ≡ index_advanced room stepped
-    advance_kept index' e = e ∙ next_index
-
-  pub advance_cleared : q.done ≡ false → (index' : List ℕ) → index' ≡ zeros room → index' ≡ index_advanced room stepped
-  advance_cleared f index' e = e ∙ sym (ap (index_advanced room) (halts p q stepped eq f))
-
-  pub advance_zeros : q.done ≡ false → (index' : List ℕ) → index' ≡ index_advanced room stepped → index' ≡ zeros room
-  advance_zeros f index' e = e ∙ ap (index_advanced room) (halts p q stepped eq f)
+  -- and is kept
+  pub index_kept : (room : ℕ) → count ≤ cap → cap ≤ most_records → place_width * cap ≤ room → (index : List ℕ) → index ≡ image places room (list_index l)
+      → IndexKept cap l index
+  index_kept room few most fits index e =
+      let long : length index ≡ room = built_long room few fits index e in
+      let behind : ClearBehind (length (list_index l)) (image places room (list_index l)) = image_behind room (list_index l) (omega (arith, entries, many, few, fits)) in
+      record {
+        few = omega (arith, many, few);
+        most = most;
+        fits = omega (arith, fits, long);
+        is = e ∙ ap (λ (k : ℕ). image places k (list_index l)) (sym long);
+        behind = subst (ClearBehind (length l)) (sym e) (subst (λ (k : ℕ). ClearBehind k (image places room (list_index l))) entries behind);
+      }

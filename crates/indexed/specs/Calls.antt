@@ -36,7 +36,7 @@ index_advanced room (next l) = image places room (list_index l)
 
 -- "and after the undoing"
 abbrev pub ran_index : ℕ → Ran Cube → List ℕ
-ran_index room (stopped why step) = zeros room
+ran_index room (stopped why step) = index_advanced room (stop why)
 ran_index room (ended l peak) = image places room (list_index l)
 
 -- "A refusal found before the first step writes nothing" (document 01)

@@ -4,12 +4,13 @@ use mathlib.Core.Path.{◌≡◌, refl, ap}
 use mathlib.Core.List.{List}
 use Prim.Native.Nat.{ℕ}
 use lib.ListN.{get_or}
+use Rattle.std.specs.Prelude.{Result}
 use Rattle.bits.specs.Outcomes.{Determined}
 use Rattle.bits.proofs.Determined.{same, same_told}
-use Rattle.records.specs.Answers.{Outcome, accepted, refused, counted}
-use Rattle.records.proofs.Answers.{counted_back, counted_known}
-use Rattle.script.specs.declared.Finished.{Finished}
-use Rattle.script.specs.declared.Finished.TheVariants as finished_is
+use Rattle.script.specs.declared.Peaked.{Peaked}
+use Rattle.records.specs.declared.Refusal.{Refusal}
+use Rattle.records.specs.Answers.{Outcome, counted}
+use Rattle.records.proofs.Answers.{counted_back, counted_known, answer_back, answer_known}
 use Rattle.script.specs.Calls.{finished}
 use Rattle.script.proofs.record.step_at.Kinds as step_at_kinds
 use Rattle.script.proofs.record.step_at.Reads as step_at_reads
@@ -33,14 +34,15 @@ use Rattle.script.proofs.run.run.Kinds as run_kinds
 use Rattle.script.proofs.run.run.Reads as run_reads
 
 -- the run's answer, read back
-pub finished_back : Outcome → Finished
-finished_back (accepted v) = finished_is.Done (get_or v 0 0) (get_or v 1 0)
-finished_back (refused r) = finished_is.Refused r
+pub finished_value : List ℕ → Peaked
+finished_value v = record { count = get_or v 0 0; peak = get_or v 1 0 }
 
-pub finished_known : (a : Finished) → finished_back (finished a) ≡ a
-unfolding finished_back
-finished_known (finished_is.Done count peak) = refl
-finished_known (finished_is.Refused r) = refl
+pub finished_back : Outcome → Result Peaked Refusal
+finished_back = answer_back finished_value
+
+pub finished_known : (r : Result Peaked Refusal) → finished_back (finished r) ≡ r
+unfolding finished_value finished_back
+finished_known = answer_known _ finished_value (λ a. refl)
 
 pub step_at_determined : Determined 1 step_at_kinds.ps step_at_kinds.r step_at_reads.Learnt
 step_at_determined κs a z z' ws ws' p q = (same p q, refl)

@@ -1,4 +1,5 @@
 pub mod Runs
+pub mod Carrying
 pub mod Pending
 pub mod Value
 pub mod Counts

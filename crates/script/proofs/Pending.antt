@@ -76,7 +76,7 @@ unfolding pend_by
 pend_orders [] os a = a
 pend_orders (x ∷ xs) os a = pend_orders xs (pend_step os x) (pend_step_orders os x a)
 
-none_orders : (k : ℕ) → All IsOrder (replicate k no_order)
+pub none_orders : (k : ℕ) → All IsOrder (replicate k no_order)
 none_orders zero = tt
 none_orders (suc k) = (omega arith, none_orders k)
 

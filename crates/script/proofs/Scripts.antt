@@ -20,6 +20,7 @@ use Rattle.records.proofs.Images.{length_flat}
 use Rattle.records.proofs.Records.{Lawful, length_list, list_flat, written_front, written_rest}
 use Rattle.steps.specs.declared.StepRecord.{StepRecord}
 use Rattle.steps.specs.Steps.{Step, drop, join, split, turn, L, Allowed, meaning}
+use Rattle.steps.specs.Calls.{Known}
 use Rattle.script.specs.Scripts.{step_width, most_steps, step_records, known, uses_v, uses_i, uses_j, uses_literal, field, fits, record_of, steps_of}
 use Rattle.script.specs.Calls.{check_script}
 
@@ -103,6 +104,12 @@ module _ (n : ℕ) (r : StepRecord) (e : fits n r ≡ true) where
   -- and its step fits
   pub meaning_fits : Allowed n (meaning r)
   meaning_fits = parted.fit
+
+-- it is of one of the five operations
+pub fits_known : (n : ℕ) (r : StepRecord) → fits n r ≡ true → Known n r
+fits_known n r e =
+    let p = both_true (leb 1 r.op) (leb r.op 5) (fits_parts n r e).op_known in
+    record { least = leb-true _ _ p.0; most = leb-true _ _ p.1; fits = meaning_fits n r e }
 
 -- the record of a step that fits is not refused
 fits_record : (n : ℕ) (s : Step) → Allowed n s → fits n (record_of s) ≡ true

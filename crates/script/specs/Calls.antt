@@ -1,16 +1,15 @@
 -- The call `run`: what it answers, and what it leaves in the work buffer. Document 01, "Refusal numbers and places"; document 02, Four.
 -- Assumes nothing.
 use Rattle.cube.specs.declared.Cube.{Cube}
-use Rattle.std.specs.Prelude.{ℕ, ◌/◌, ◌%◌, List, [], ◌∷◌, leb, eqb, length}
+use Rattle.std.specs.Prelude.{ℕ, ◌/◌, ◌%◌, List, [], ◌∷◌, leb, eqb, length, Result}
+use Rattle.script.specs.declared.Peaked.{Peaked}
 use Rattle.records.specs.Records.{Codec, list_of, image, zeros}
 use Rattle.records.specs.declared.Refusal.{Refusal}
-use Rattle.records.specs.Answers.{Outcome, accepted, refused, refusal_with, unless, unless_at, and_then}
+use Rattle.records.specs.Answers.{Outcome, accepted, refused, refusal_with, unless, unless_at, and_then, outcome_of}
 use Rattle.cube.specs.Lists.{most_variables, cubes, cubes_of, cube_capacity}
 use Rattle.cube.specs.Calls.{check_list}
 use Rattle.steps.specs.declared.StepRefusal.{StepRefusal}
 use Rattle.steps.specs.Moves.{step_refusal_with}
-use Rattle.script.specs.declared.Finished.{Finished}
-use Rattle.script.specs.declared.Finished.TheVariants as finished_is
 use Rattle.script.specs.Run.{Ran, stopped, ended, run}
 use Rattle.script.specs.Scripts.{step_records, step_width, most_steps, fits, steps_of}
 
@@ -71,6 +70,5 @@ unfoldable pub run_after : ℕ → List ℕ → List ℕ → List ℕ → List �
 run_after n list script work = work_after (check_run n list script (length work)) work (run_of n list script (length work))
 
 -- document 01's number and values for each case of the answer
-abbrev pub finished : Finished → Outcome
-finished (finished_is.Done count peak) = accepted (count ∷ peak ∷ [])
-finished (finished_is.Refused r) = refused r
+abbrev pub finished : Result Peaked Refusal → Outcome
+finished = outcome_of (λ a. a.count ∷ a.peak ∷ [])

@@ -1,3 +1,4 @@
+pub mod Carrying
 pub mod Run
 pub mod Counts
 pub mod Pending

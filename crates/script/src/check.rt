@@ -1,19 +1,21 @@
-// The check of a script: refusals 7, 8 and 9.
+//! The check of a script: refusals 7, 8 and 9.
 ghost use Rattle.std.specs.Prelude.{◌≡◌};
 ghost use Rattle.bits.specs.Sums.{first_bad};
 ghost use Rattle.records.specs.Records.{list_of};
 ghost use Rattle.records.specs.Answers.{counted};
-ghost use Rattle.script.specs.Scripts.{step_records, fits};
+ghost use Rattle.records.proofs.Checks.{checked};
+ghost use Rattle.script.specs.Scripts.{step_records, most_steps, fits};
 ghost use Rattle.script.specs.Calls.{check_script};
 
 pub use crate::record::{STEP_WIDTH, step_at};
-use records::{Counted, Refusal};
+use crate::{Cubes, Runnable};
+use records::{Reason, Refusal};
 use steps::StepRecord;
 
-// Steps of a script, at most.
+/// Steps of a script, at most.
 pub const MOST_STEPS: usize = 1024;
 
-// Whether a step passes rule 9 over n variables: a row for each operation, and what it doesn't use is zero.
+/// Whether a step passes rule 9 over n variables: a row for each operation, and what it doesn't use is zero.
 pub fn fits(n: usize, x: StepRecord) -> bool
     ensures { result ≡ fits n x }
 {
@@ -31,9 +33,11 @@ pub fn fits(n: usize, x: StepRecord) -> bool
     }
 }
 
-// The lowest step that breaks rule 9, or the number of steps.
-fn first_bad(n: usize, script: &[u8]) -> usize
-    ensures { result ≡ first_bad (fits n) (list_of step_records script.now) }
+/// The lowest step that breaks rule 9, or the number of steps.
+// Stays: a loop that yields its place by `break`, as the documents ask of it.
+#[inline(always)]
+fn first_bad<K: Runnable>(n: usize, script: &[u8]) -> usize
+    ensures { result ≡ first_bad (K.fits n) (list_of step_records script.now) }
 {
     let count = script.len() / STEP_WIDTH;
     let mut k: usize = 0;
@@ -41,7 +45,7 @@ fn first_bad(n: usize, script: &[u8]) -> usize
         if count <= k {
             break count;
         }
-        if !fits(n, step_at(script, k)) {
+        if !K::fits(n, step_at(script, k)) {
             break k;
         }
         k += 1;
@@ -49,20 +53,28 @@ fn first_bad(n: usize, script: &[u8]) -> usize
     found
 }
 
-// Checking a script over n variables: refusals 7, 8 and 9, or the number of its steps.
-pub fn check_script(n: usize, script: &[u8]) -> Counted
-    ensures { counted result ≡ check_script n script.now }
+/// Checking a script over n variables, for any kind of record: refusals 7, 8 and 9, or the number of its steps.
+#[inline(always)]
+pub fn check_script_on<K: Runnable>(n: usize, script: &[u8]) -> Result<usize, Refusal>
+    ensures { counted result ≡ checked step_records (K.fits n) 7 8 9 most_steps script.now }
 {
     if script.len() % STEP_WIDTH != 0 {
-        return Counted::Refused(Refusal::new(7, 0));
+        return Err(Reason::ScriptCutShort.at(0));
     }
     let count = script.len() / STEP_WIDTH;
     if MOST_STEPS < count {
-        return Counted::Refused(Refusal::new(8, 0));
+        return Err(Reason::TooManySteps.at(0));
     }
-    let bad = first_bad(n, script);
+    let bad = first_bad::<K>(n, script);
     if bad != count {
-        return Counted::Refused(Refusal::new(9, bad));
+        return Err(Reason::BadStep.at(bad));
     }
-    Counted::Count(count)
+    Ok(count)
+}
+
+/// Checking a script over n variables: refusals 7, 8 and 9, or the number of its steps.
+pub fn check_script(n: usize, script: &[u8]) -> Result<usize, Refusal>
+    ensures { counted result ≡ check_script n script.now }
+{
+    check_script_on::<Cubes>(n, script)
 }

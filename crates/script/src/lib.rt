@@ -1,36 +1,26 @@
-// Running a script on a list of cubes, in a lent work buffer.
+//! Running a script on a list of any kind of record, in a lent work buffer.
 #![tactic(auto)]
 
 pub mod check;
+pub mod kind;
+pub mod list;
 pub mod record;
 pub mod run;
 
 use cube::list::MOST_VARIABLES;
-use records::Refusal;
-use steps::StepRefusal;
+pub use kind::{Cubes, Runnable, Unwatched, Watch};
+pub use list::WorkList;
 
-// What a run answers: the count and the peak, or a refusal.
-#[derive(Clone, Copy)]
-pub enum Finished {
-    Done(usize, usize),
-    Refused(Refusal),
-}
-
-// Where a run stands after a step: the count and the peak; or why the step is refused.
-#[derive(Clone, Copy)]
-pub struct Standing {
-    pub done: bool,
-    pub why: StepRefusal,
+/// The count after the last step, and the highest count on the way.
+#[derive(Clone, Copy, Debug, PartialEq, Eq)]
+pub struct Peaked {
     pub count: usize,
     pub peak: usize,
 }
 
-// How far the steps went: where the run stands, with the count, the peak and an order pending for each variable; or to a refusal, and its place.
-#[derive(Clone, Copy)]
-pub struct Progress {
-    pub done: bool,
-    pub why: StepRefusal,
-    pub place: usize,
+/// Where the steps of a script ended: the count, the highest count on the way, and an order pending for each variable.
+#[derive(Clone, Copy, Debug, PartialEq, Eq)]
+pub struct Ended {
     pub count: usize,
     pub peak: usize,
     pub pending: [u8; MOST_VARIABLES],

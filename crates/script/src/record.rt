@@ -1,4 +1,4 @@
-// The record of a step: eight bytes of a script.
+//! The record of a step: eight bytes of a script.
 ghost use Rattle.std.specs.Prelude.{◌≡◌, ◌+◌, ◌≤◌, length, get_or};
 ghost use Rattle.records.specs.Numbers.{number_at};
 ghost use Rattle.records.specs.Records.{list_of, stored};
@@ -7,13 +7,13 @@ ghost use Rattle.script.specs.Scripts.{step_records, narrow_step};
 use records::numbers;
 use steps::StepRecord;
 
-// Bytes of a step's record.
+/// Bytes of a step's record.
 pub const STEP_WIDTH: usize = 8;
 
-// How many places two bytes can name.
+/// How many places two bytes can name.
 const PLACES: usize = 65536;
 
-// The place in the two bytes from byte p on.
+/// The place in the two bytes from byte p on.
 fn place_at(script: &[u8], p: usize) -> usize
     requires { p + 2 ≤ length script.now }
     ensures { result ≡ number_at 2 script.now p }
@@ -22,7 +22,7 @@ fn place_at(script: &[u8], p: usize) -> usize
     numbers::number2_at(&script[p..end], 0) as usize
 }
 
-// The record of step k, or one that is all zero past the end.
+/// The record of step k, or one that is all zero past the end.
 pub fn step_at(script: &[u8], k: usize) -> StepRecord
     ensures { result ≡ get_or (list_of step_records script.now) k step_records.none }
 {
@@ -49,7 +49,7 @@ pub fn step_at(script: &[u8], k: usize) -> StepRecord
     }
 }
 
-// The record of step k stored, its places cut to two bytes; nothing where the script has no such step.
+/// The record of step k stored, its places cut to two bytes; nothing where the script has no such step.
 pub fn put_step(script: &mut [u8], k: usize, x: StepRecord)
     ensures { script.new ≡ stored step_records script.old k (narrow_step x) }
 {

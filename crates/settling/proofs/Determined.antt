@@ -6,13 +6,14 @@ use mathlib.Core.List.{List}
 use Prim.Native.Nat.{ℕ, ◌-◌}
 use lib.Dec.{eqb}
 use lib.ListN.{length, get_or}
+use Rattle.std.specs.Prelude.{Result, Ok, Err}
 use Rattle.bits.specs.Outcomes.{Determined}
 use Rattle.bits.proofs.Determined.{same, same_told}
+use Rattle.settling.specs.declared.Settlement.{Settlement}
+use Rattle.records.specs.declared.Refusal.{Refusal}
 use Rattle.records.specs.Answers.{Outcome, accepted, refused}
 use Rattle.settling.specs.declared.Fixed.{Fixed}
 use Rattle.settling.specs.declared.Fixed.TheVariants as fixed_is
-use Rattle.settling.specs.declared.Settled.{Settled}
-use Rattle.settling.specs.declared.Settled.TheVariants as settled_is
 use Rattle.settling.specs.Calls.{settled}
 use Rattle.settling.proofs.candidates.count_list.Kinds as count_list_kinds
 use Rattle.settling.proofs.candidates.count_list.Reads as count_list_reads
@@ -23,22 +24,22 @@ use Rattle.settling.proofs.settle.settle.Reads as settle_reads
 fixed_from : List ℕ → Fixed
 fixed_from v = cond (eqb (length v) 4) fixed_is.Absent (fixed_is.Polarity (get_or v 3 0) (get_or v 4 0))
 
-pub settled_back : Outcome → Settled
+pub settled_back : Outcome → Result Settlement Refusal
 settled_back (accepted v) =
-    settled_is.Burned (record { given = get_or v 0 0; peak = get_or v 1 0; script = get_or v 2 0; fixed = fixed_from v; burned = get_or v (length v - 1) 0 })
-settled_back (refused r) = settled_is.Refused r
+    Ok (record { given = get_or v 0 0; peak = get_or v 1 0; script = get_or v 2 0; fixed = fixed_from v; burned = get_or v (length v - 1) 0 })
+settled_back (refused r) = Err r
 
 counts_known : (given peak script burned : ℕ) (f : Fixed)
-    → settled_back (settled (settled_is.Burned (record { given = given; peak = peak; script = script; fixed = f; burned = burned })))
-    ≡ settled_is.Burned (record { given = given; peak = peak; script = script; fixed = f; burned = burned })
+    → settled_back (settled (Ok (record { given = given; peak = peak; script = script; fixed = f; burned = burned })))
+    ≡ Ok (record { given = given; peak = peak; script = script; fixed = f; burned = burned })
 unfolding settled_back fixed_from
 counts_known given peak script burned (fixed_is.Polarity p size) = refl
 counts_known given peak script burned fixed_is.Absent = refl
 
-pub settled_known : (a : Settled) → settled_back (settled a) ≡ a
+pub settled_known : (a : Result Settlement Refusal) → settled_back (settled a) ≡ a
 unfolding settled_back
-settled_known (settled_is.Burned s) = counts_known s.given s.peak s.script s.burned s.fixed
-settled_known (settled_is.Refused r) = refl
+settled_known (Ok s) = counts_known s.given s.peak s.script s.burned s.fixed
+settled_known (Err r) = refl
 
 pub settle_determined : Determined 4 settle_kinds.ps settle_kinds.r settle_reads.Learnt
 settle_determined κs a z z' ws ws' p q = (

@@ -12,6 +12,7 @@ use borrow.Author.Tests.{leb-true}
 use lib.Dec.{leb}
 use lib.ListN.{length, drop, replicate}
 use lib.Seq.{drop_at}
+use Rattle.std.specs.Prelude.{Ok}
 use Rattle.bits.specs.Sums.{All}
 use Rattle.bits.proofs.Sums.{all_map}
 use Rattle.records.specs.declared.Refusal.{Refusal}
@@ -39,7 +40,6 @@ use Rattle.script.specs.Calls.{check_script, run_of, of_step}
 use Rattle.script.proofs.Scripts.{meaning_fits}
 use Rattle.script.proofs.Scripts.{AcceptedScript, script_accepts}
 use Rattle.script.proofs.Value.{run_value, run_good}
-use Rattle.settling.specs.declared.Settled.TheVariants as settled_is
 use Rattle.settling.specs.declared.Settlement.{Settlement}
 use Rattle.settling.specs.Candidates.{best_of, best_form, tree_form, burned_list, fixed_of}
 use Rattle.settling.specs.Calls.{check_settle, ran_settled, settle_outcome, settle_work_by, settle_work, settle_out_by, settle_out, settled}
@@ -91,9 +91,9 @@ settlement_of n list script work out e = record {
 }
 
 -- two settlements with the same counts are one
-pub same_settlement : (s t : Settlement) → settled (settled_is.Burned s) ≡ settled (settled_is.Burned t) → s ≡ t
+pub same_settlement : (s t : Settlement) → settled (Ok s) ≡ settled (Ok t) → s ≡ t
 same_settlement s t e =
-    let both : settled_is.Burned s ≡ settled_is.Burned t = sym (settled_known (settled_is.Burned s)) ∙ ap settled_back e ∙ settled_known (settled_is.Burned t) in
+    let both : Ok s ≡ Ok t = sym (settled_known (Ok s)) ∙ ap settled_back e ∙ settled_known (Ok t) in
     cc
 
 module _ (n : ℕ) (list script : List ℕ) (work out : ℕ) where
@@ -109,7 +109,7 @@ module _ (n : ℕ) (list script : List ℕ) (work out : ℕ) where
       go (ended result peak) f u e k = record { values = u; checked = e; result = result; peak = peak; ran = f }
 
   -- What settle answers are the counts of the script's end, and of the list that is burned.
-  pub settle_counts : (e : Ended n list script work out) → settle_outcome n list script work out ≡ settled (settled_is.Burned (settlement_of n list script work out e))
+  pub settle_counts : (e : Ended n list script work out) → settle_outcome n list script work out ≡ settled (Ok (settlement_of n list script work out e))
   unfolding settle_outcome
   settle_counts e = ap₂ (λ (o : Outcome) (r : Ran Cube). and_then o (ran_settled n (cubes_of list) r)) e.checked e.ran
 

@@ -1,8 +1,10 @@
 -- The call `settle`: what it answers, and what it leaves in its buffers. Document 01, "Settling" and "Refusal numbers and places".
 -- Assumes nothing.
-use Rattle.std.specs.Prelude.{ℕ, List, [], ◌∷◌, ◌++◌, leb, length}
+use Rattle.std.specs.Prelude.{ℕ, List, [], ◌∷◌, ◌++◌, leb, length, Result}
+use Rattle.settling.specs.declared.Settlement.{Settlement}
+use Rattle.records.specs.declared.Refusal.{Refusal}
 use Rattle.records.specs.Records.{image, zeros}
-use Rattle.records.specs.Answers.{Outcome, accepted, refused, unless, and_then, after_call}
+use Rattle.records.specs.Answers.{Outcome, accepted, refused, unless, and_then, after_call, outcome_of}
 use Rattle.cube.specs.declared.Cube.{Cube}
 use Rattle.cube.specs.Lists.{most_variables, cubes, cubes_of, cube_capacity}
 use Rattle.cube.specs.Calls.{check_list}
@@ -10,8 +12,6 @@ use Rattle.script.specs.Run.{Ran, stopped, ended}
 use Rattle.script.specs.Calls.{check_script, run_of, at_step}
 use Rattle.settling.specs.declared.Fixed.{Fixed}
 use Rattle.settling.specs.declared.Fixed.TheVariants as fixed_is
-use Rattle.settling.specs.declared.Settled.{Settled}
-use Rattle.settling.specs.declared.Settled.TheVariants as settled_is
 use Rattle.settling.specs.Candidates.{burned_list, fixed_of}
 
 -- "Settle: the same; 5 tests work, then output, against the given count", before any step
@@ -56,6 +56,5 @@ settle_out n list script work out =
     settle_out_by (check_settle n list script work (length out)) n (cubes_of list) (run_of n list script work) out
 
 -- document 01's number and values for each case of the answer
-abbrev pub settled : Settled → Outcome
-settled (settled_is.Burned s) = accepted (s.given ∷ s.peak ∷ s.script ∷ (fixed_values s.fixed ++ (s.burned ∷ [])))
-settled (settled_is.Refused r) = refused r
+abbrev pub settled : Result Settlement Refusal → Outcome
+settled = outcome_of (λ s. s.given ∷ s.peak ∷ s.script ∷ (fixed_values s.fixed ++ (s.burned ∷ [])))

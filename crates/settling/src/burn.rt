@@ -1,4 +1,4 @@
-// The list that is burned, and zeros after it.
+//! The list that is burned, and zeros after it.
 ghost use Rattle.std.specs.Prelude.{◌≡◌, ◌^◌, ◌%◌, ◌<◌, ◌≤◌, length, take};
 ghost use Rattle.cube.specs.Lists.{cubes_of, cube_capacity, record_width};
 ghost use Rattle.polarity.specs.Forms.{form_list};
@@ -6,9 +6,8 @@ ghost use Rattle.polarity.specs.Vectors.{byte_at, Vector};
 ghost use Rattle.settling.specs.Choice.{list_from, ListFits, Burnable, BurnedIs};
 
 use crate::{BestForm, Origin, tree};
-use records::Counted;
 
-// A whole list, as it stands.
+/// A whole list, as it stands.
 fn burn_list(list: &[u8], out: &mut [u8]) -> usize
     requires record_width_len { length list.now % record_width ≡ 0 }
     requires list_len_bound { length (cubes_of list.now) ≤ cube_capacity (length out.old) }
@@ -18,7 +17,7 @@ fn burn_list(list: &[u8], out: &mut [u8]) -> usize
     list.len() / cube::list::RECORD_WIDTH
 }
 
-// The form of a vector under p; its coefficients are left in a buffer as long as the vector.
+/// The form of a vector under p; its coefficients are left in a buffer as long as the vector.
 fn put_form(n: usize, vector: &[u8], p: usize, buffer: &mut [u8], out: &mut [u8]) -> usize
     requires vector { Vector n vector.now }
     requires p_bound { p < 2 ^ n }
@@ -27,14 +26,14 @@ fn put_form(n: usize, vector: &[u8], p: usize, buffer: &mut [u8], out: &mut [u8]
     ensures { BurnedIs (form_list n p (byte_at vector.now)) out.old out.new result }
 {
     records::clear(out);
-    polarity::transform::coefficients(n, vector, p as u64, buffer);
+    let _ = polarity::transform::coefficients(n, vector, p as u64, buffer);
     match polarity::form::write_form(n, buffer, p as u64, out) {
-        Counted::Count(count) => count,
-        Counted::Refused(_) => 0,
+        Ok(count) => count,
+        Err(_) => 0,
     }
 }
 
-// The form of the vector at the front of a buffer.
+/// The form of the vector at the front of a buffer.
 fn burn_form(n: usize, vector: &[u8], p: usize, out: &mut [u8]) -> usize
     requires list_fits { ListFits n vector.now (form_list n p) (length out.old) }
     requires p_bound { p < 2 ^ n }
@@ -51,7 +50,7 @@ fn burn_form(n: usize, vector: &[u8], p: usize, out: &mut [u8]) -> usize
     )
 }
 
-// The list that an origin names.
+/// The list that an origin names.
 pub(crate) fn burn(
     n: usize,
     list: &[u8],

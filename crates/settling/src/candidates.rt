@@ -1,4 +1,4 @@
-// The candidates, and the choice among them.
+//! The candidates, and the choice among them.
 ghost use Rattle.std.specs.Prelude.{◌≡◌, ◌^◌, ◌<◌, ◌≤◌, length};
 ghost use Rattle.cube.specs.Lists.{cubes_of, most_records, most_variables, truth_vector, vector_variables};
 ghost use Rattle.cube.specs.Calls.{check_list};
@@ -8,9 +8,9 @@ ghost use Rattle.settling.specs.Choice.{candidate_of, better_of, StandsFor, Form
 ghost use Rattle.records.specs.Answers.{Accepts};
 
 use crate::{BestForm, Candidate, Fixed, Forms, Origin};
-use polarity::{Best, Counts, form};
+use polarity::{BestPolarity, Counts, form};
 
-// The better of two candidates: the later one where it ranks lower, else the earlier.
+/// The better of two candidates: the later one where it ranks lower, else the earlier.
 fn better(earlier: Candidate, later: Candidate) -> Candidate
     ensures { result ≡ better_of earlier later }
 {
@@ -20,7 +20,7 @@ fn better(earlier: Candidate, later: Candidate) -> Candidate
     earlier
 }
 
-// The candidate of a list that has these counts.
+/// The candidate of a list that has these counts.
 fn candidate(counts: Counts, origin: Origin) -> Candidate
     ensures { result ≡ candidate_of counts origin }
 {
@@ -30,17 +30,15 @@ fn candidate(counts: Counts, origin: Origin) -> Candidate
     }
 }
 
-// The products of a list, and whether one of them has no literal.
+/// The products of a list, and whether one of them has no literal.
 pub fn count_list(list: &[u8]) -> Counts
     requires { length (cubes_of list.now) ≤ most_records }
     ensures { result ≡ counts_of (cubes_of list.now) }
 {
     let count = list.len() / cube::list::RECORD_WIDTH;
     let mut bare: u32 = 0;
-    let mut i: usize = 0;
-    while i < count {
+    for i in 0..count {
         bare += cube::list::bare_at(list, i) as u32;
-        i += 1;
     }
     let products = count as u32;
     Counts {
@@ -49,7 +47,7 @@ pub fn count_list(list: &[u8]) -> Counts
     }
 }
 
-// The products of a vector's form under p, and whether one of them has no literal: its coefficient is the byte at p.
+/// The products of a vector's form under p, and whether one of them has no literal: its coefficient is the byte at p.
 fn count_form(vector: [u8; 256], p: usize, size: usize) -> Counts
     requires { (p < 256) × (size ≤ 256) }
     ensures { FormCounts vector p size result }
@@ -62,7 +60,7 @@ fn count_form(vector: [u8; 256], p: usize, size: usize) -> Counts
     }
 }
 
-// The candidate that is burned: each in turn against the best before it.
+/// The candidate that is burned: each in turn against the best before it.
 pub(crate) fn choose(n: usize, list: &[u8], res: &[u8], best: BestForm) -> Candidate
     requires { Choosable n list.now res.now best }
     ensures { StandsFor n (cubes_of res.now) (cubes_of list.now) (burned_list n (cubes_of res.now) (cubes_of list.now)) result }
@@ -82,28 +80,33 @@ pub(crate) fn choose(n: usize, list: &[u8], res: &[u8], best: BestForm) -> Candi
     }
 }
 
-// The best polarity of the given list's function, whose truth vector is written, and what the tree's list counts.
+/// The best polarity of the given list's function, whose truth vector is written, and what the tree's list counts.
 fn best_of(n: usize, list: &[u8], vector: &mut [u8]) -> Forms
     requires accepts { Accepts (check_list vector_variables n list.now) }
     requires vector_len { length vector.old ≡ 2 ^ n }
     ensures forms_are { FormsAre n (cubes_of list.now) result }
     ensures vector_after { vector.new ≡ truth_vector n (cubes_of list.now) }
 {
-    cube::value::truth_vector(n, list, vector);
+    let _ = cube::value::truth_vector(n, list, vector);
     let tree = trees::tree::count_tree(n, vector);
     match polarity::choose::best_polarity(n, vector) {
-        Best::Found(p, size) => Forms {
+        Ok(
+            BestPolarity {
+                polarity: p,
+                products: size,
+            },
+        ) => Forms {
             fixed: Fixed::Polarity(p, size),
             tree,
         },
-        Best::Refused(_) => Forms {
+        Err(_) => Forms {
             fixed: Fixed::Absent,
             tree,
         },
     }
 }
 
-// The best polarity of the given list's function and what the tree's list counts, with the truth vector, where there are at most 8 variables.
+/// The best polarity of the given list's function and what the tree's list counts, with the truth vector, where there are at most 8 variables.
 pub(crate) fn best_form(n: usize, list: &[u8]) -> BestForm
     requires { Accepts (check_list most_variables n list.now) }
     ensures { FormIs n (cubes_of list.now) result }

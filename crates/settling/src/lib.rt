@@ -1,4 +1,4 @@
-// Settling a map: given list plus script in, list to burn out.
+//! Settling a map: given list plus script in, list to burn out.
 #![tactic(auto)]
 
 pub mod burn;
@@ -7,16 +7,15 @@ pub mod settle;
 mod tree;
 
 use polarity::Counts;
-use records::Refusal;
 
-// The best polarity and its size, for at most 8 variables.
+/// The best polarity and its size, for at most 8 variables.
 #[derive(Clone, Copy)]
 pub enum Fixed {
     Polarity(usize, usize),
     Absent,
 }
 
-// What a settled map's counts are.
+/// What a settled map's counts are.
 #[derive(Clone, Copy)]
 pub struct Settlement {
     pub given: usize,
@@ -26,21 +25,14 @@ pub struct Settlement {
     pub burned: usize,
 }
 
-// The fixed-polarity candidate, and how many products are burned.
+/// The fixed-polarity candidate, and how many products are burned.
 #[derive(Clone, Copy)]
 pub struct Burning {
     pub fixed: Fixed,
     pub burned: usize,
 }
 
-// What settling answers.
-#[derive(Clone, Copy)]
-pub enum Settled {
-    Burned(Settlement),
-    Refused(Refusal),
-}
-
-// Where a candidate's list comes from: the script, the caller, the form of a polarity, or the cheapest tree.
+/// Where a candidate's list comes from: the script, the caller, the form of a polarity, or the cheapest tree.
 #[derive(Clone, Copy)]
 pub enum Origin {
     Script,
@@ -49,21 +41,21 @@ pub enum Origin {
     Tree,
 }
 
-// A candidate: what the choice goes by, and where its list comes from.
+/// A candidate: what the choice goes by, and where its list comes from.
 #[derive(Clone, Copy)]
 pub struct Candidate {
     pub rank: usize,
     pub origin: Origin,
 }
 
-// Of a function: the best polarity and its size, and what the tree's list counts.
+/// Of a function: the best polarity and its size, and what the tree's list counts.
 #[derive(Clone, Copy)]
 pub struct Forms {
     pub fixed: Fixed,
     pub tree: Counts,
 }
 
-// The best polarity and its size, and for at most 8 variables what the tree's list counts and the truth vector that both are of.
+/// The best polarity and its size, and for at most 8 variables what the tree's list counts and the truth vector that both are of.
 #[derive(Clone, Copy)]
 pub struct BestForm {
     pub fixed: Fixed,

@@ -1,16 +1,16 @@
 -- The calls run and settle on a list of shared products: what they answer, and what they leave in their buffers. Document 02, Nine; document 01, "Settling" and
 -- "Refusal numbers and places".
 -- Assumes nothing.
-use Rattle.std.specs.Prelude.{List, [], ◌∷◌, ℕ, leb, length}
+use Rattle.std.specs.Prelude.{List, [], ◌∷◌, ℕ, leb, length, Result}
+use Rattle.shared_run.specs.declared.SharedSettlement.{SharedSettlement}
+use Rattle.records.specs.declared.Refusal.{Refusal}
 use Rattle.records.specs.Records.{image, zeros}
-use Rattle.records.specs.Answers.{Outcome, accepted, refused, unless, and_then, after_call}
+use Rattle.records.specs.Answers.{Outcome, accepted, refused, unless, and_then, after_call, outcome_of}
 use Rattle.script.specs.Run.{Ran, stopped, ended}
 use Rattle.script.specs.Calls.{check_before, at_step, ran_outcome, work_after_by}
 use Rattle.shared.specs.declared.Shared.{Shared}
 use Rattle.shared.specs.SharedRecord.{shares, shares_of, shared_capacity}
 use Rattle.shared.specs.Calls.{check_shared}
-use Rattle.shared_run.specs.declared.SharedSettled.{SharedSettled}
-use Rattle.shared_run.specs.declared.SharedSettled.TheVariants as settled_is
 use Rattle.shared_run.specs.SharedScripts.{check_shared_script, shared_steps_of}
 use Rattle.shared_run.specs.SharedRun.{shared_run, shared_burned}
 
@@ -66,6 +66,5 @@ shared_settle_out n list script work out =
     after_call (check_shared_settle n list script work (length out)) (ran_shared_out (shares_of list) (shared_run_of n list script work) out) out
 
 -- document 01's number and values for each case of the answer
-abbrev pub shared_settled : SharedSettled → Outcome
-shared_settled (settled_is.Burned s) = accepted (s.given ∷ s.peak ∷ s.script ∷ s.burned ∷ [])
-shared_settled (settled_is.Refused r) = refused r
+abbrev pub shared_settled : Result SharedSettlement Refusal → Outcome
+shared_settled = outcome_of (λ s. s.given ∷ s.peak ∷ s.script ∷ s.burned ∷ [])

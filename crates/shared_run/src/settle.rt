@@ -1,16 +1,16 @@
-// Settling a list of shared products: the script's result or the given list, whichever has fewer products.
+//! Settling a list of shared products: the script's result or the given list, whichever has fewer products.
 ghost use Rattle.std.specs.Prelude.{◌≡◌, ◌%◌, ◌≤◌, length};
 ghost use Rattle.records.specs.Records.{image};
 ghost use Rattle.shared.specs.SharedRecord.{shares, shares_of, shared_width};
 ghost use Rattle.shared_run.specs.SharedRun.{shared_burned};
 ghost use Rattle.shared_run.specs.Calls.{shared_settled, shared_settle_outcome, shared_settle_work, shared_settle_out};
 
-use crate::{SharedSettled, SharedSettlement, run};
-use records::{Counted, Refusal};
-use script::Finished;
+use crate::{SharedSettlement, run};
+use records::{Reason, Refusal};
+use script::Peaked;
 use shared::list;
 
-// The script's result or the given list, whichever has fewer products and of equal ones the result, to the front of the output: its count.
+/// The script's result or the given list, whichever has fewer products and of equal ones the result, to the front of the output: its count.
 fn burn(list: &[u8], res: &[u8], out: &mut [u8]) -> usize
     requires shared_width_len { (length list.now % shared_width ≡ 0) × (length res.now % shared_width ≡ 0) }
     requires list_in_bounds { length list.now ≤ length out.old }
@@ -27,41 +27,33 @@ fn burn(list: &[u8], res: &[u8], out: &mut [u8]) -> usize
     count
 }
 
-// Settles a list of shared products: the refusals of run, where 5 tests work and then output; or the counts, with the list to burn in the output.
+/// Settles a list of shared products: the refusals of run, where 5 tests work and then output; or the counts, with the list to burn in the output.
 pub fn settle(
     n: usize,
     list: &[u8],
     script: &[u8],
     work: &mut [u8],
     out: &mut [u8],
-) -> SharedSettled
+) -> Result<SharedSettlement, Refusal>
     ensures result_value { shared_settled result ≡ shared_settle_outcome n list.now script.now (length work.old) (length out.old) }
     ensures work_after { work.new ≡ shared_settle_work n list.now script.now work.old (length out.old) }
     ensures out_after { out.new ≡ shared_settle_out n list.now script.now (length work.old) out.old }
 {
-    match list::check(n, list) {
-        Counted::Refused(r) => SharedSettled::Refused(r),
-        Counted::Count(given) => {
-            if list::capacity(work.len()) < given {
-                return SharedSettled::Refused(Refusal::new(5, 0));
-            }
-            if list::capacity(out.len()) < given {
-                return SharedSettled::Refused(Refusal::new(5, 0));
-            }
-            match run::run_checked(n, list, script, work) {
-                Finished::Refused(r) => SharedSettled::Refused(r),
-                Finished::Done(count, peak) => {
-                    let end = list::SHARED_WIDTH * count;
-                    let burned = burn(list, &work[..end], out);
-                    records::clear(work);
-                    SharedSettled::Burned(SharedSettlement {
-                        given,
-                        peak,
-                        script: count,
-                        burned,
-                    })
-                }
-            }
-        }
+    let given = list::check(n, list)?;
+    if list::capacity(work.len()) < given {
+        return Err(Reason::NoRoom.at(0));
     }
+    if list::capacity(out.len()) < given {
+        return Err(Reason::NoRoom.at(0));
+    }
+    let Peaked { count, peak } = run::run_checked(n, list, script, work)?;
+    let end = list::SHARED_WIDTH * count;
+    let burned = burn(list, &work[..end], out);
+    records::clear(work);
+    Ok(SharedSettlement {
+        given,
+        peak,
+        script: count,
+        burned,
+    })
 }

@@ -8,11 +8,10 @@ use native.Mathlib.Omega.{arith}
 use borrow.Author.Tests.{le-leb, lt-ltb}
 use lib.Dec.{leb}
 use lib.ListN.{length, get_or, take, length-take, replicate, drop_of_length-le, length-replicate}
+use Rattle.std.specs.Prelude.{Result, Ok, Err}
 use Rattle.bits.proofs.Below.{get_or_list_below}
 use Rattle.records.specs.Answers.{accepted, unless, counted}
 use Rattle.records.specs.Records.{list_of, image, filled, filled_by, flat, zeros, written}
-use Rattle.records.specs.declared.Counted.{Counted}
-use Rattle.records.specs.declared.Counted.TheVariants as counted_is
 use Rattle.records.specs.declared.Refusal.{Refusal}
 use Rattle.records.proofs.Answers.{not_both, and_then_lem, unless_passes, after_accepted}
 use Rattle.records.proofs.Filling.{drop_zeros}
@@ -148,7 +147,7 @@ module _ (n q : ℕ) (v : List ℕ) (vector : Vector n v) (polarity : q < 2 ^ n)
         ∙ ap (λ (l : List Cube). unless (leb (length l) (cube_capacity (length out))) 5 0 (accepted (length l ∷ []))) form_is
         ∙ unless_passes _ 5 0 _ (le-leb _ _ room)
 
-    pub form_burned : (r : Counted) (count : ℕ) → r ≡ counted_is.Count count → (out₁ : List ℕ) → out₁ ≡ zeros (length out) → counted r ≡ form_outcome n c q (length out₁)
+    pub form_burned : (r : Result ℕ Refusal) (count : ℕ) → r ≡ Ok count → (out₁ : List ℕ) → out₁ ≡ zeros (length out) → counted r ≡ form_outcome n c q (length out₁)
         → (out₂ : List ℕ) → out₂ ≡ form_after n c q out₁ → BurnedIs (form_list n q (byte_at v)) out out₂ count
     unfolding form_after
     form_burned r count er out₁ e₁ ea out₂ e₂ =
@@ -159,7 +158,7 @@ module _ (n q : ℕ) (v : List ℕ) (vector : Vector n v) (polarity : q < 2 ^ n)
         list_written (form_list n q (byte_at v)) out room out₁ e₁ count same_count out₂
         (e₂ ∙ after_accepted _ _ out₁ _ is ∙ ap (λ (l : List Cube). written cubes 0 l out₁) (ap (λ (t : List ℕ). form_from n q (byte_at t)) ec ∙ form_is))
 
-    pub form_not_refused : (r : Counted) (x : Refusal) → r ≡ counted_is.Refused x → (out₁ : List ℕ) → out₁ ≡ zeros (length out) → counted r ≡ form_outcome n c q (length out₁) → ⊥
+    pub form_not_refused : (r : Result ℕ Refusal) (x : Refusal) → r ≡ Err x → (out₁ : List ℕ) → out₁ ≡ zeros (length out) → counted r ≡ form_outcome n c q (length out₁) → ⊥
     form_not_refused r x er out₁ e₁ ea =
         let same : length out₁ ≡ length out = ap length e₁ ∙ length-replicate {A = ℕ} (length out) 0 in
         not_both (sym (ap (form_outcome n c q) same ∙ form_accepted) ∙ sym ea ∙ ap counted er)

@@ -9,7 +9,9 @@ use borrow.Author.Tests.{le-leb, lt-leb}
 use lib.Dec.{leb}
 use lib.ListN.{length, drop_of_length-le}
 use lib.Seq.{take_at}
+use Rattle.std.specs.Prelude.{Result, Ok, Err}
 use Rattle.bits.proofs.Below.{length_list_below}
+use Rattle.polarity.specs.declared.BestPolarity.{BestPolarity}
 use Rattle.records.specs.declared.Refusal.{Refusal}
 use Rattle.records.specs.Answers.{accepted, Accepts}
 use Rattle.records.proofs.Answers.{not_both, unless_accepted, and_then_lem, after_accepted}
@@ -17,8 +19,6 @@ use Rattle.cube.specs.declared.Cube.{Cube}
 use Rattle.cube.specs.Lists.{cubes, cubes_of, list_value, truth_vector, most_variables, vector_variables}
 use Rattle.cube.specs.Calls.{check_list_of, check_list, vector_outcome, vector_after}
 use Rattle.cube.proofs.Lists.{check_accepts}
-use Rattle.polarity.specs.declared.Best.{Best}
-use Rattle.polarity.specs.declared.Best.TheVariants as best_is
 use Rattle.polarity.specs.declared.Counts.{Counts}
 use Rattle.polarity.specs.Forms.{best_polarity, size}
 use Rattle.polarity.specs.Ranks.{counts_of}
@@ -53,7 +53,7 @@ module _ (n : ℕ) (list : List ℕ) (p : Accepts (check_list vector_variables n
         and_then_lem _ _ _ (vector_accepted n v vector_is_vector)
         ∙ ap (λ (t : List ℕ). accepted (best_polarity n (byte_at t) ∷ size n (best_polarity n (byte_at t)) (byte_at t) ∷ [])) ev
 
-    pub best_polarity_found : (r : Best) (q s : ℕ) → r ≡ best_is.Found q s → found r ≡ best_outcome n v → fixed_is.Polarity q s ≡ fixed_of n (cubes_of list)
+    pub best_polarity_found : (r : Result BestPolarity Refusal) (q s : ℕ) → r ≡ Ok (record { polarity = q; products = s }) → found r ≡ best_outcome n v → fixed_is.Polarity q s ≡ fixed_of n (cubes_of list)
     unfolding fixed_of
     best_polarity_found r q s er e =
         let both : accepted (q ∷ s ∷ []) ≡ accepted (best_of n (cubes_of list) ∷ length (best_form n (cubes_of list)) ∷ []) = ap found (sym er) ∙ e ∙ best_is_found in
@@ -62,7 +62,7 @@ module _ (n : ℕ) (list : List ℕ) (p : Accepts (check_list vector_variables n
         ap₂ fixed_is.Polarity eq es
         ∙ sym (ap (λ (b : Bool). cond b (fixed_is.Polarity (best_of n (cubes_of list)) (length (best_form n (cubes_of list)))) fixed_is.Absent) (le-leb _ _ few))
 
-    pub best_polarity_not_refused : (r : Best) (q : Refusal) → r ≡ best_is.Refused q → found r ≡ best_outcome n v → ⊥
+    pub best_polarity_not_refused : (r : Result BestPolarity Refusal) (q : Refusal) → r ≡ Err q → found r ≡ best_outcome n v → ⊥
     best_polarity_not_refused r q er e = not_both (sym best_is_found ∙ sym e ∙ ap found er)
 
 -- ---- the vector and its best polarity together

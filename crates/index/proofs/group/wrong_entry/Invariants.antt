@@ -1,6 +1,5 @@
 -- `group::wrong_entry` meets its contract: the loop keeps `Comparing`.
 -- Assumes nothing.
-use Prim.Native.Nat.{◌-◌}
 use Rattle.cube.specs.Lists.{cubes_of}
 use Rattle.index.specs.Index.{literals_at}
 use Rattle.index.proofs.group.Comparing.{Comparing}
@@ -8,6 +7,3 @@ use Rattle.index.proofs.group.wrong_entry.Given as goal
 
 abbrev pub invariant-loop-p : goal.invariant-loop-p
 invariant-loop-p l = Comparing (literals_at (cubes_of l.list)) l.count l.index l.next l.bad l.p
-
-abbrev pub decreases-loop-p : goal.decreases-loop-p
-decreases-loop-p l = l.count - l.p

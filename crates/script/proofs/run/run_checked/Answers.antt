@@ -1,18 +1,19 @@
--- `run::run_checked` meets its contract.
+-- `run::run_checked` meets its contract: the run of any kind of record, for cubes.
 -- Assumes nothing.
-use mathlib.Core.Path.{sym, ap, ◌∙◌}
-use Rattle.records.specs.Answers.{counted}
-use Rattle.script.proofs.Outcomes.{passed, run_refuses}
-use Rattle.script.proofs.run.Finishing.{whole_run}
-use Rattle.script.proofs.run.Checked.{checked_script}
+use mathlib.Core.Path.{refl, ap, ◌∙◌}
+use lib.ListN.{length}
+use Rattle.records.specs.Answers.{Outcome, and_then}
+use Rattle.cube.specs.Lists.{cubes}
+use Rattle.script.specs.Calls.{ran_outcome, work_after_by}
+use Rattle.script.proofs.run.Checked.{back, checked_script, same_outcome, same_after}
 use Rattle.script.proofs.run.run_checked.Goals as goal
 
-pub run_accepted-requires : goal.run_accepted-requires
-run_accepted-requires c =
-    passed _ _ (sym (c.check_script.ensures ∙ checked_script _ _ _ _ c.requires.accepts c.requires.list_len_bound) ∙ ap counted c.in-Count.is)
-
-pub returns-in-Refused : goal.returns-in-Refused
-returns-in-Refused c = let both = run_refuses _ _ _ _ _ (sym (c.check_script.ensures ∙ checked_script _ _ _ _ c.requires.accepts c.requires.list_len_bound) ∙ ap counted c.in-Refused.is) in record { result_value = both.0; work_after = both.1 }
-
-pub returns-in-Count : goal.returns-in-Count
-returns-in-Count c = let both = whole_run _ _ _ _ _ (sym (c.check_script.ensures ∙ checked_script _ _ _ _ c.requires.accepts c.requires.list_len_bound) ∙ ap counted c.in-Count.is) _ _ c.run_accepted.ensures in record { result_value = both.0; work_after = both.1 }
+pub returns : goal.returns
+returns c =
+    let a = c.args in
+    let ran = back a.n a.list.now a.script.now (length a.work.now) in
+    let same = checked_script a.n a.list.now a.script.now (length a.work.now) c.requires.accepts c.requires.list_len_bound in
+    record {
+      result_value = c.run_checked_on.ensures.answer ∙ ap (λ (o : Outcome). and_then o (ran_outcome ran)) same ∙ same_outcome a.n a.list.now a.script.now (length a.work.now);
+      work_after = c.run_checked_on.ensures.work_after ∙ ap (λ (o : Outcome). work_after_by cubes o a.work.now ran) same ∙ same_after a.n a.list.now a.script.now (length a.work.now) a.work.now refl;
+    }

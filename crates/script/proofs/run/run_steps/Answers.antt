@@ -1,34 +1,33 @@
--- `run::run_steps` meets its contract: the loop keeps `Running`.
+-- The steps of a script on a list of cubes.
 -- Assumes nothing.
-use mathlib.Core.Path.{sym, subst}
-use borrow.Author.Rules.{rules}
-use borrow.Author.Tests.{not-true, not-false}
-use Rattle.script.specs.Progress.{Stepping}
-use Rattle.script.proofs.run.Advancing.{pend_other}
-use Rattle.script.proofs.run.Running.{running_none, running_more, running_stop, running_end, step_known}
+use mathlib.Core.Path.{◌≡◌, sym, ◌∙◌, subst}
+use mathlib.Core.Bool.{true}
+use Prim.Native.Nat.{ℕ}
+use Rattle.bits.specs.Sums.{All}
+use Rattle.cube.specs.Cubes.{good, Good}
+use Rattle.cube.specs.Lists.{cubes}
+use Rattle.cube.proofs.Codes.{good_parts, parts_good}
+use Rattle.records.specs.Records.{list_of}
+use Rattle.steps.specs.Steps.{meaning, step}
+use Rattle.script.specs.Scripts.{step_records, fits, steps_of}
+use Rattle.script.proofs.Carrying.{ready_carries}
+use Rattle.script.proofs.run.Checked.{pend_script}
+use Rattle.script.proofs.run.Finishing.{stepping_mean, stepping_same}
 use Rattle.script.proofs.run.run_steps.Goals as goal
 
-pub loop-k-init : goal.loop-k-init
-loop-k-init c = search running_none
+pub of-requires : goal.of-requires
+of-requires c = let a = c.args in record { ready = ready_carries cubes (good a.n) (Good a.n) a.n a.first a.cap a.work.now (parts_good a.n) c.requires.ready }
 
-pub advance-next-requires : goal.advance-next-requires
-advance-next-requires c = record { ready = search rules; known = search step_known }
-
-pub returns-then-not-next : goal.returns-then-not-next
-returns-then-not-next c =
-    subst (Stepping _ _ _ _ _ _) (sym c.halted.ensures)
-    (running_stop _ _ _ _ _ _ _ _ _ c.loop-k.invariant c.loop-k-test.true c.requires.all _ c.step_at-x.ensures _ _
-    c.advance-next.ensures.value c.advance-next.ensures.work_after (not-true _ c.if-not-next.true))
-
-pub overflow_add-k : goal.overflow_add-k
-overflow_add-k c =
-    search (rules, c.well_formed)
-
-pub loop-k-preserved : goal.loop-k-preserved
-loop-k-preserved c =
-    running_more _ _ _ _ _ _ _ _ _ c.loop-k.invariant c.loop-k-test.true c.requires.all _ c.step_at-x.ensures _ _
-    c.advance-next.ensures.value c.advance-next.ensures.work_after (not-false _ c.if-not-next.false) _
-    (search (rules, pend_other c.loop-k.pending c.step_at-x.result))
+pub run_steps-requires-clause-all : goal.run_steps-requires-clause-all
+run_steps-requires-clause-all c = subst (λ (n : ℕ). All (λ r. fits n r ≡ true) (list_of step_records c.args.script.now)) (sym c.of.ensures.variables) c.requires.all
 
 pub returns : goal.returns
-returns c = search running_end
+unfolding steps_of
+returns c =
+    let a = c.args in
+    let o = c.of.ensures in
+    stepping_mean cubes (step a.n a.cap) meaning (λ b. good a.n b ≡ true) (Good a.n) (good_parts a.n) a.n a.cap a.first (list_of step_records a.script.now) _ _ a.work.now _
+    (pend_script a.n a.script.now c.requires.all) _
+    (stepping_same cubes (λ f b. f b) (λ n cap x l. step n cap (meaning x) l) good (list_of step_records a.script.now) _ c.run_steps.new.self.buffer.now
+    _ a.n _ a.cap _ a.first _ a.work.now _ c.run_steps.result o.variables o.capacity o.count o.bytes
+    (sym (c.work-1.given.1.1 (sym (c.run_steps.ensures.same_reference ∙ o.same_reference)))) c.run_steps.ensures.stepping)

@@ -7,16 +7,16 @@ pub count_tree-tree-requires : goal.count_tree-tree-requires
 count_tree-tree-requires c =
     vector_is_vector _ _ c.requires.accepts _ (vector_written _ _ c.requires.accepts _ _ c.requires.vector_len c.truth_vector.ensures.out_after)
 
-pub returns-in-Found : goal.returns-in-Found
-returns-in-Found c =
+pub returns-in-Ok : goal.returns-in-Ok
+returns-in-Ok c =
     let v = vector_written _ _ c.requires.accepts _ _ c.requires.vector_len c.truth_vector.ensures.out_after in record {
       forms_are = record {
-        fixed = best_polarity_found _ _ c.requires.accepts _ v _ _ _ c.in-Found.is c.best_polarity.ensures;
+        fixed = best_polarity_found _ _ c.requires.accepts _ v _ _ _ c.in-Ok.is c.best_polarity.ensures;
         tree = tree_counted _ _ _ v _ c.count_tree-tree.ensures;
       };
       vector_after = v;
     }
 
-pub returns-in-Refused : goal.returns-in-Refused
-returns-in-Refused c =
-    let v = vector_written _ _ c.requires.accepts _ _ c.requires.vector_len c.truth_vector.ensures.out_after in record { forms_are = absurd (best_polarity_not_refused _ _ c.requires.accepts _ v _ _ c.in-Refused.is c.best_polarity.ensures); vector_after = absurd (best_polarity_not_refused _ _ c.requires.accepts _ v _ _ c.in-Refused.is c.best_polarity.ensures) }
+pub returns-in-Err : goal.returns-in-Err
+returns-in-Err c =
+    let v = vector_written _ _ c.requires.accepts _ _ c.requires.vector_len c.truth_vector.ensures.out_after in record { forms_are = absurd (best_polarity_not_refused _ _ c.requires.accepts _ v _ _ c.in-Err.is c.best_polarity.ensures); vector_after = absurd (best_polarity_not_refused _ _ c.requires.accepts _ v _ _ c.in-Err.is c.best_polarity.ensures) }

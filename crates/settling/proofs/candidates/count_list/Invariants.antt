@@ -1,14 +1,9 @@
 -- `candidates::count_list` meets its contract: the loop keeps `Counting`.
 -- Assumes nothing.
-use Prim.Native.Nat.{◌-◌, ◌/◌}
-use lib.ListN.{length}
 use Rattle.records.proofs.Counting.{Counting}
-use Rattle.cube.specs.Lists.{cubes, record_width}
+use Rattle.cube.specs.Lists.{cubes}
 use Rattle.cube.specs.Cubes.{bare}
 use Rattle.settling.proofs.candidates.count_list.Given as goal
 
 abbrev pub invariant-loop-i : goal.invariant-loop-i
 invariant-loop-i l = Counting cubes bare l.list l.bare l.i
-
-abbrev pub decreases-loop-i : goal.decreases-loop-i
-decreases-loop-i l = length l.list / record_width - l.i

@@ -1,20 +1,19 @@
--- `run::run` meets its contract.
+-- `run::run` meets its contract: the run of any kind of record, for shared products.
 -- Assumes nothing.
-use mathlib.Core.Path.{sym, ap, ◌∙◌}
-use native.Mathlib.Omega.{arith}
-use Rattle.records.specs.Answers.{counted}
-use Rattle.records.proofs.Records.{length_list}
+use mathlib.Core.Path.{refl, ap, ◌∙◌}
+use lib.ListN.{length}
+use Rattle.records.specs.Answers.{Outcome, and_then}
+use Rattle.script.specs.Calls.{ran_outcome, work_after_by}
 use Rattle.shared.specs.SharedRecord.{shares}
-use Rattle.script.proofs.Outcomes.{passed}
-use Rattle.shared_run.proofs.Outcomes.{run_list_refused, run_short, run_refuses}
+use Rattle.shared_run.proofs.run.Checked.{back, same_check, same_outcome, same_after}
 use Rattle.shared_run.proofs.run.run.Goals as goal
 
-pub returns-then-capacity-list : goal.returns-then-capacity-list
-returns-then-capacity-list c = let both = run_refuses _ _ _ _ _ (sym (run_short _ _ _ _ _ (sym c.check.ensures ∙ ap counted c.in-Count.is) _ c.new.ensures (omega (arith, c.if-capacity-list.true, c.capacity.ensures)))) in record { result_value = both.0; work_after = both.1 }
-
-pub run_checked-requires : goal.run_checked-requires
-run_checked-requires c =
-    let list = c.args.list.now in record { accepts = passed _ _ (sym c.check.ensures ∙ ap counted c.in-Count.is); list_len_bound = omega (arith, c.if-capacity-list.false, c.capacity.ensures, length_list shares list) }
-
-pub returns-in-Refused : goal.returns-in-Refused
-returns-in-Refused c = let both = run_refuses _ _ _ _ _ (sym (run_list_refused _ _ _ _ _ (sym c.check.ensures ∙ ap counted c.in-Refused.is))) in record { result_value = both.0; work_after = both.1 }
+pub returns : goal.returns
+returns c =
+    let a = c.args in
+    let ran = back a.n a.list.now a.script.now (length a.work.now) in
+    let same = same_check a.n a.list.now a.script.now (length a.work.now) in
+    record {
+      result_value = c.run_on.ensures.answer ∙ ap (λ (o : Outcome). and_then o (ran_outcome ran)) same ∙ same_outcome a.n a.list.now a.script.now (length a.work.now);
+      work_after = c.run_on.ensures.work_after ∙ ap (λ (o : Outcome). work_after_by shares o a.work.now ran) same ∙ same_after a.n a.list.now a.script.now (length a.work.now) a.work.now refl;
+    }
