@@ -1,7 +1,6 @@
--- The starts that a caller lends to the build of an index, and to a run with one, as the call leaves them.
+-- The starts that a caller lends to the build of an index, as the call leaves them.
 -- Assumes nothing.
-use mathlib.Core.Path.{◌≡◌, refl, sym, ap, ap₂, ◌∙◌}
-use mathlib.Core.Bool.{Bool, true, false}
+use mathlib.Core.Path.{◌≡◌, refl, ap₂, ◌∙◌}
 use mathlib.Core.List.{List}
 use Prim.Native.Nat.{ℕ}
 use lib.ListN.{replicate}
@@ -9,7 +8,6 @@ use Rattle.records.specs.Answers.{Outcome, accepted, refused, after_call}
 use Rattle.cube.specs.Lists.{cubes_of}
 use Rattle.index.specs.Index.{group_count, list_starts}
 use Rattle.index.specs.Calls.{build_outcome, build_starts}
-use Rattle.druthmoy.specs.Faces.{starts_if}
 
 -- the starts that a build answers, in the place of those that a caller lent
 pub starts_built : (n : ℕ) (list : List ℕ) (room : ℕ) (old : List ℕ) {starts new : List ℕ} {o : Outcome} → o ≡ build_outcome n list room → starts ≡ build_starts n list room
@@ -20,10 +18,3 @@ starts_built n list room old eo es en = en ∙ ap₂ (λ (o : Outcome) (s : List
     once : (o : Outcome) → after_call o (after_call o (list_starts (cubes_of list)) (replicate group_count 0)) old ≡ after_call o (list_starts (cubes_of list)) old
     once (accepted v) = refl
     once (refused r) = refl
-
--- the starts of a run with an index: written where it came to the steps, and else as they were
-pub starts_written : {t began : Bool} {kept said new : List ℕ} (old : List ℕ) → t ≡ began → kept ≡ said → t ≡ true → new ≡ kept → new ≡ starts_if began said old
-starts_written {said = said} old et ek e en = en ∙ ek ∙ ap (λ (b : Bool). starts_if b said old) (sym e ∙ et)
-
-pub starts_left : {t began : Bool} {new old : List ℕ} (said : List ℕ) → t ≡ began → t ≡ false → new ≡ old → new ≡ starts_if began said old
-starts_left {old = old} said et e en = en ∙ ap (λ (b : Bool). starts_if b said old) (sym e ∙ et)

@@ -1,4 +1,4 @@
-// The calls that crate druthmoy_c exports for C and Rust: every answer is eight words.
+//! The calls that crate druthmoy_c exports for C and Rust: every answer is eight words.
 #![tactic(auto)]
 
 pub mod maps;
@@ -25,103 +25,103 @@ ghost use Rattle.druthmoy.specs.Faces.{words, settled_words, with_start, starts_
 
 use index::GROUPS;
 
-// Checking a list. Values: its count.
+/// Checking a list. Values: its count.
 pub fn dm_check(n: u64, list: &[u8], answer: &mut [u64; 8])
     ensures { answer.new ≡ words (check_list most_variables n list.now) }
 {
     let counted = cube::list::check(n as usize, list);
-    words::put_counted(answer, counted);
+    words::put_answer(answer, counted);
 }
 
-// The value of a list at the assignment a. Values: the bit and the number of true products.
+/// The value of a list at the assignment a. Values: the bit and the number of true products.
 pub fn dm_value(n: u64, list: &[u8], a: u64, answer: &mut [u64; 8])
     ensures { answer.new ≡ words (value_outcome n list.now a) }
 {
     let valued = cube::value::value(n as usize, list, a);
-    words::put_valued(answer, valued);
+    words::put_answer(answer, valued);
 }
 
-// The places of the products of a list that are true at the assignment a. Values: their number and the bit.
+/// The places of the products of a list that are true at the assignment a. Values: their number and the bit.
 pub fn dm_reasons(n: u64, list: &[u8], a: u64, out: &mut [u8], answer: &mut [u64; 8])
     ensures answer_after { answer.new ≡ words (reasons_outcome n list.now a (length out.old)) }
     ensures out_after { out.new ≡ reasons_after n list.now a out.old }
 {
     let reasoned = reasons::reasons(n as usize, list, a, out);
-    words::put_reasoned(answer, reasoned);
+    words::put_answer(answer, reasoned);
 }
 
-// The truth vector of a list. Values: 2^n.
+/// The truth vector of a list. Values: 2^n.
 pub fn dm_truth_vector(n: u64, list: &[u8], out: &mut [u8], answer: &mut [u64; 8])
     ensures answer_after { answer.new ≡ words (vector_outcome n list.now (length out.old)) }
     ensures out_after { out.new ≡ vector_after n list.now out.old }
 {
     let counted = cube::value::truth_vector(n as usize, list, out);
-    words::put_counted(answer, counted);
+    words::put_answer(answer, counted);
 }
 
-// The coefficients of a truth vector under the polarity p. Values: 2^n.
+/// The coefficients of a truth vector under the polarity p. Values: 2^n.
 pub fn dm_coefficients(n: u64, vector: &[u8], p: u64, out: &mut [u8], answer: &mut [u64; 8])
     ensures answer_after { answer.new ≡ words (coefficients_outcome n vector.now p (length out.old)) }
     ensures out_after { out.new ≡ coefficients_after n vector.now p out.old }
 {
     let counted = polarity::transform::coefficients(n as usize, vector, p, out);
-    words::put_counted(answer, counted);
+    words::put_answer(answer, counted);
 }
 
-// The truth vector of coefficients under the polarity p. Values: 2^n.
+/// The truth vector of coefficients under the polarity p. Values: 2^n.
 pub fn dm_vector(n: u64, coefficients: &[u8], p: u64, out: &mut [u8], answer: &mut [u64; 8])
     ensures answer_after { answer.new ≡ words (coefficients_outcome n coefficients.now p (length out.old)) }
     ensures out_after { out.new ≡ back_after n coefficients.now p out.old }
 {
     let counted = polarity::transform::vector_back(n as usize, coefficients, p, out);
-    words::put_counted(answer, counted);
+    words::put_answer(answer, counted);
 }
 
-// The list of a form from its coefficients under the polarity p. Values: its count.
+/// The list of a form from its coefficients under the polarity p. Values: its count.
 pub fn dm_write_form(n: u64, coefficients: &[u8], p: u64, out: &mut [u8], answer: &mut [u64; 8])
     ensures answer_after { answer.new ≡ words (form_outcome n coefficients.now p (length out.old)) }
     ensures out_after { out.new ≡ form_after n coefficients.now p out.old }
 {
     let counted = polarity::form::write_form(n as usize, coefficients, p, out);
-    words::put_counted(answer, counted);
+    words::put_answer(answer, counted);
 }
 
-// The best polarity of a truth vector. Values: it and its size.
+/// The best polarity of a truth vector. Values: it and its size.
 pub fn dm_best_polarity(n: u64, vector: &[u8], answer: &mut [u64; 8])
     ensures { answer.new ≡ words (best_outcome n vector.now) }
 {
     let best = polarity::choose::best_polarity(n as usize, vector);
-    words::put_best(answer, best);
+    words::put_answer(answer, best);
 }
 
-// The list of a truth vector's cheapest tree. Values: its products and its cost.
+/// The list of a truth vector's cheapest tree. Values: its products and its cost.
 pub fn dm_write_tree(n: u64, vector: &[u8], out: &mut [u8], answer: &mut [u64; 8])
     ensures answer_after { answer.new ≡ words (tree_outcome n vector.now (length out.old)) }
     ensures out_after { out.new ≡ tree_after n vector.now out.old }
 {
     let listed = trees::tree::write_tree(n as usize, vector, out);
-    words::put_listed(answer, listed);
+    words::put_answer(answer, listed);
 }
 
-// The list of a truth vector's cheapest choice of one expansion for each variable. Values: its cost, the choice and its products.
+/// The list of a truth vector's cheapest choice of one expansion for each variable. Values: its cost, the choice and its products.
 pub fn dm_write_kronecker(n: u64, vector: &[u8], out: &mut [u8], answer: &mut [u64; 8])
     ensures answer_after { answer.new ≡ words (kronecker_outcome n vector.now (length out.old)) }
     ensures out_after { out.new ≡ kronecker_after n vector.now out.old }
 {
     let listed = kronecker::choice::write_kronecker(n as usize, vector, out);
-    words::put_kronecker_listed(answer, listed);
+    words::put_answer(answer, listed);
 }
 
-// Runs a script on a list. Values: the count and the peak.
+/// Runs a script on a list. Values: the count and the peak.
 pub fn dm_run(n: u64, list: &[u8], script: &[u8], work: &mut [u8], answer: &mut [u64; 8])
     ensures answer_after { answer.new ≡ words (run_outcome n list.now script.now (length work.old)) }
     ensures work_after { work.new ≡ run_after n list.now script.now work.old }
 {
     let finished = script::run::run(n as usize, list, script, work);
-    words::put_finished(answer, finished);
+    words::put_answer(answer, finished);
 }
 
-// The index of a list by number of literals. Values: its count. The starts are written where it is accepted.
+/// The index of a list by number of literals. Values: its count. The starts are written where it is accepted.
 pub fn dm_index(
     n: u64,
     list: &[u8],
@@ -137,7 +137,7 @@ pub fn dm_index(
     words::put_indexed(answer, starts, indexed);
 }
 
-// The group of a number in a lent index. Values: how many entries its run has, and the entry that it begins at.
+/// The group of a number in a lent index. Values: how many entries its run has, and the entry that it begins at.
 pub fn dm_group(
     n: u64,
     list: &[u8],
@@ -154,7 +154,7 @@ pub fn dm_group(
     words::put_group(answer, counted, start);
 }
 
-// Runs a script on a list and keeps an index for the work list. Values: the count and the peak. The starts are written where the run came to the steps.
+/// Runs a script on a list and keeps an index for the work list. Values: the count and the peak. The starts are written where the run came to the steps.
 pub fn dm_run_indexed(
     n: u64,
     list: &[u8],
@@ -176,10 +176,10 @@ pub fn dm_run_indexed(
     if begun {
         *starts = kept;
     }
-    words::put_finished(answer, finished);
+    words::put_answer(answer, finished);
 }
 
-// Writes the easy script of a list. Values: the number of its steps, and 1 where no pair is left, else 0.
+/// Writes the easy script of a list. Values: the number of its steps, and 1 where no pair is left, else 0.
 pub fn dm_write_script(
     n: u64,
     list: &[u8],
@@ -192,19 +192,19 @@ pub fn dm_write_script(
     ensures script_after { script.new ≡ write_steps n list.now (length work.old) script.old }
 {
     let wrote = writer::write::write_script(n as usize, list, work, script);
-    words::put_wrote(answer, wrote);
+    words::put_answer(answer, wrote);
 }
 
-// Compacts a script, for lists of so many products. Values: the number of steps left.
+/// Compacts a script, for lists of so many products. Values: the number of steps left.
 pub fn dm_compact(n: u64, count: u64, script: &[u8], out: &mut [u8], answer: &mut [u64; 8])
     ensures answer_after { answer.new ≡ words (compact_outcome n count script.now (length out.old)) }
     ensures out_after { out.new ≡ compact_after n count script.now out.old }
 {
     let counted = compactor::compact::compact(n as usize, count as usize, script, out);
-    words::put_counted(answer, counted);
+    words::put_answer(answer, counted);
 }
 
-// Settles a map. Values: given, peak, the script's count, the best polarity and its size (both all ones above 8 variables), burned.
+/// Settles a map. Values: given, peak, the script's count, the best polarity and its size (both all ones above 8 variables), burned.
 pub fn dm_settle(
     n: u64,
     list: &[u8],
@@ -218,53 +218,53 @@ pub fn dm_settle(
     ensures out_after { out.new ≡ settle_out n list.now script.now (length work.old) out.old }
 {
     let settled = settling::settle::settle(n as usize, list, script, work, out);
-    words::put_settled(answer, settled);
+    words::put_answer(answer, settled);
 }
 
-// Wide from narrow: an old list of 4-byte records as a list of 8-byte records. Values: its count.
+/// Wide from narrow: an old list of 4-byte records as a list of 8-byte records. Values: its count.
 pub fn dm_wide_from_narrow(n: u64, list: &[u8], out: &mut [u8], answer: &mut [u64; 8])
     ensures answer_after { answer.new ≡ words (wide_outcome n list.now (length out.old)) }
     ensures out_after { out.new ≡ wide_after n list.now out.old }
 {
     let counted = converters::wide_from_narrow::wide_from_narrow(n as usize, list, out);
-    words::put_counted(answer, counted);
+    words::put_answer(answer, counted);
 }
 
-// Narrow from wide: a list of at most 16 variables as a list of 4-byte records. Values: its count.
+/// Narrow from wide: a list of at most 16 variables as a list of 4-byte records. Values: its count.
 pub fn dm_narrow_from_wide(n: u64, list: &[u8], out: &mut [u8], answer: &mut [u64; 8])
     ensures answer_after { answer.new ≡ words (narrow_outcome n list.now (length out.old)) }
     ensures out_after { out.new ≡ narrow_after n list.now out.old }
 {
     let counted = converters::narrow_from_wide::narrow_from_wide(n as usize, list, out);
-    words::put_counted(answer, counted);
+    words::put_answer(answer, counted);
 }
 
-// Checking a list of shared products. Values: its count.
+/// Checking a list of shared products. Values: its count.
 pub fn dm_shared_check(n: u64, list: &[u8], answer: &mut [u64; 8])
     ensures { answer.new ≡ words (check_shared n list.now) }
 {
     let counted = shared::list::check(n as usize, list);
-    words::put_counted(answer, counted);
+    words::put_answer(answer, counted);
 }
 
-// The values of all outputs of a list of shared products at the assignment a. Values: one word, bit k for output k.
+/// The values of all outputs of a list of shared products at the assignment a. Values: one word, bit k for output k.
 pub fn dm_shared_value(n: u64, list: &[u8], a: u64, answer: &mut [u64; 8])
     ensures { answer.new ≡ words (word_outcome n list.now a) }
 {
     let worded = shared::value::value(n as usize, list, a);
-    words::put_worded(answer, worded);
+    words::put_answer(answer, worded);
 }
 
-// Runs a script on a list of shared products. Values: the count and the peak.
+/// Runs a script on a list of shared products. Values: the count and the peak.
 pub fn dm_shared_run(n: u64, list: &[u8], script: &[u8], work: &mut [u8], answer: &mut [u64; 8])
     ensures answer_after { answer.new ≡ words (shared_run_outcome n list.now script.now (length work.old)) }
     ensures work_after { work.new ≡ shared_run_after n list.now script.now work.old }
 {
     let finished = shared_run::run::run(n as usize, list, script, work);
-    words::put_finished(answer, finished);
+    words::put_answer(answer, finished);
 }
 
-// Settles a list of shared products. Values: given, peak, the script's count, burned.
+/// Settles a list of shared products. Values: given, peak, the script's count, burned.
 pub fn dm_shared_settle(
     n: u64,
     list: &[u8],
@@ -278,5 +278,5 @@ pub fn dm_shared_settle(
     ensures out_after { out.new ≡ shared_settle_out n list.now script.now (length work.old) out.old }
 {
     let settled = shared_run::settle::settle(n as usize, list, script, work, out);
-    words::put_shared_settled(answer, settled);
+    words::put_answer(answer, settled);
 }

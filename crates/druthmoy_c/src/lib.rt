@@ -1,4 +1,4 @@
-// The calls of crate `druthmoy`, exported for C and Rust: a slice passes as a pointer and a length, and every answer is eight words.
+//! The calls of crate `druthmoy`, exported for C and Rust: a slice passes as a pointer and a length, and every answer is eight words.
 #![tactic(auto)]
 
 pub mod maps;
@@ -25,7 +25,7 @@ ghost use Rattle.druthmoy.specs.Faces.{words, settled_words, with_start, starts_
 
 use index::GROUPS;
 
-// Checking a list. Values: its count.
+/// Checking a list. Values: its count.
 #[unsafe(no_mangle)]
 pub extern "C" fn dm_check(n: u64, list: &[u8], answer: &mut [u64; 8])
     ensures { answer.new ≡ words (check_list most_variables n list.now) }
@@ -33,7 +33,7 @@ pub extern "C" fn dm_check(n: u64, list: &[u8], answer: &mut [u64; 8])
     druthmoy::dm_check(n, list, answer);
 }
 
-// The value of a list at the assignment a. Values: the bit and the number of true products.
+/// The value of a list at the assignment a. Values: the bit and the number of true products.
 #[unsafe(no_mangle)]
 pub extern "C" fn dm_value(n: u64, list: &[u8], a: u64, answer: &mut [u64; 8])
     ensures { answer.new ≡ words (value_outcome n list.now a) }
@@ -41,7 +41,7 @@ pub extern "C" fn dm_value(n: u64, list: &[u8], a: u64, answer: &mut [u64; 8])
     druthmoy::dm_value(n, list, a, answer);
 }
 
-// The places of the products of a list that are true at the assignment a. Values: their number and the bit.
+/// The places of the products of a list that are true at the assignment a. Values: their number and the bit.
 #[unsafe(no_mangle)]
 pub extern "C" fn dm_reasons(n: u64, list: &[u8], a: u64, out: &mut [u8], answer: &mut [u64; 8])
     ensures answer_after { answer.new ≡ words (reasons_outcome n list.now a (length out.old)) }
@@ -50,7 +50,7 @@ pub extern "C" fn dm_reasons(n: u64, list: &[u8], a: u64, out: &mut [u8], answer
     druthmoy::dm_reasons(n, list, a, out, answer);
 }
 
-// The truth vector of a list. Values: 2^n.
+/// The truth vector of a list. Values: 2^n.
 #[unsafe(no_mangle)]
 pub extern "C" fn dm_truth_vector(n: u64, list: &[u8], out: &mut [u8], answer: &mut [u64; 8])
     ensures answer_after { answer.new ≡ words (vector_outcome n list.now (length out.old)) }
@@ -59,7 +59,7 @@ pub extern "C" fn dm_truth_vector(n: u64, list: &[u8], out: &mut [u8], answer: &
     druthmoy::dm_truth_vector(n, list, out, answer);
 }
 
-// The coefficients of a truth vector under the polarity p. Values: 2^n.
+/// The coefficients of a truth vector under the polarity p. Values: 2^n.
 #[unsafe(no_mangle)]
 pub extern "C" fn dm_coefficients(
     n: u64,
@@ -74,7 +74,7 @@ pub extern "C" fn dm_coefficients(
     druthmoy::dm_coefficients(n, vector, p, out, answer);
 }
 
-// The truth vector of coefficients under the polarity p. Values: 2^n.
+/// The truth vector of coefficients under the polarity p. Values: 2^n.
 #[unsafe(no_mangle)]
 pub extern "C" fn dm_vector(
     n: u64,
@@ -89,7 +89,7 @@ pub extern "C" fn dm_vector(
     druthmoy::dm_vector(n, coefficients, p, out, answer);
 }
 
-// The list of a form from its coefficients under the polarity p. Values: its count.
+/// The list of a form from its coefficients under the polarity p. Values: its count.
 #[unsafe(no_mangle)]
 pub extern "C" fn dm_write_form(
     n: u64,
@@ -104,7 +104,7 @@ pub extern "C" fn dm_write_form(
     druthmoy::dm_write_form(n, coefficients, p, out, answer);
 }
 
-// The best polarity of a truth vector. Values: it and its size.
+/// The best polarity of a truth vector. Values: it and its size.
 #[unsafe(no_mangle)]
 pub extern "C" fn dm_best_polarity(n: u64, vector: &[u8], answer: &mut [u64; 8])
     ensures { answer.new ≡ words (best_outcome n vector.now) }
@@ -112,7 +112,7 @@ pub extern "C" fn dm_best_polarity(n: u64, vector: &[u8], answer: &mut [u64; 8])
     druthmoy::dm_best_polarity(n, vector, answer);
 }
 
-// The list of a truth vector's cheapest tree. Values: its products and its cost.
+/// The list of a truth vector's cheapest tree. Values: its products and its cost.
 #[unsafe(no_mangle)]
 pub extern "C" fn dm_write_tree(n: u64, vector: &[u8], out: &mut [u8], answer: &mut [u64; 8])
     ensures answer_after { answer.new ≡ words (tree_outcome n vector.now (length out.old)) }
@@ -121,7 +121,7 @@ pub extern "C" fn dm_write_tree(n: u64, vector: &[u8], out: &mut [u8], answer: &
     druthmoy::dm_write_tree(n, vector, out, answer);
 }
 
-// The list of a truth vector's cheapest choice of one expansion for each variable. Values: its cost, the choice and its products.
+/// The list of a truth vector's cheapest choice of one expansion for each variable. Values: its cost, the choice and its products.
 #[unsafe(no_mangle)]
 pub extern "C" fn dm_write_kronecker(n: u64, vector: &[u8], out: &mut [u8], answer: &mut [u64; 8])
     ensures answer_after { answer.new ≡ words (kronecker_outcome n vector.now (length out.old)) }
@@ -130,7 +130,7 @@ pub extern "C" fn dm_write_kronecker(n: u64, vector: &[u8], out: &mut [u8], answ
     druthmoy::dm_write_kronecker(n, vector, out, answer);
 }
 
-// Runs a script on a list. Values: the count and the peak.
+/// Runs a script on a list. Values: the count and the peak.
 #[unsafe(no_mangle)]
 pub extern "C" fn dm_run(n: u64, list: &[u8], script: &[u8], work: &mut [u8], answer: &mut [u64; 8])
     ensures answer_after { answer.new ≡ words (run_outcome n list.now script.now (length work.old)) }
@@ -139,7 +139,7 @@ pub extern "C" fn dm_run(n: u64, list: &[u8], script: &[u8], work: &mut [u8], an
     druthmoy::dm_run(n, list, script, work, answer);
 }
 
-// The index of a list by number of literals. Values: its count. The starts are written where it is accepted.
+/// The index of a list by number of literals. Values: its count. The starts are written where it is accepted.
 #[unsafe(no_mangle)]
 pub extern "C" fn dm_index(
     n: u64,
@@ -155,7 +155,7 @@ pub extern "C" fn dm_index(
     druthmoy::dm_index(n, list, index, starts, answer);
 }
 
-// The group of a number in a lent index. Values: how many entries its run has, and the entry that it begins at.
+/// The group of a number in a lent index. Values: how many entries its run has, and the entry that it begins at.
 #[unsafe(no_mangle)]
 pub extern "C" fn dm_group(
     n: u64,
@@ -170,7 +170,7 @@ pub extern "C" fn dm_group(
     druthmoy::dm_group(n, list, index, starts, number, answer);
 }
 
-// Runs a script on a list and keeps an index for the work list. Values: the count and the peak. The starts are written where the run came to the steps.
+/// Runs a script on a list and keeps an index for the work list. Values: the count and the peak. The starts are written where the run came to the steps.
 #[unsafe(no_mangle)]
 pub extern "C" fn dm_run_indexed(
     n: u64,
@@ -189,7 +189,7 @@ pub extern "C" fn dm_run_indexed(
     druthmoy::dm_run_indexed(n, list, script, work, index, starts, answer);
 }
 
-// Writes the easy script of a list. Values: the number of its steps, and 1 where no pair is left, else 0.
+/// Writes the easy script of a list. Values: the number of its steps, and 1 where no pair is left, else 0.
 #[unsafe(no_mangle)]
 pub extern "C" fn dm_write_script(
     n: u64,
@@ -205,7 +205,7 @@ pub extern "C" fn dm_write_script(
     druthmoy::dm_write_script(n, list, work, script, answer);
 }
 
-// Compacts a script, for lists of so many products. Values: the number of steps left.
+/// Compacts a script, for lists of so many products. Values: the number of steps left.
 #[unsafe(no_mangle)]
 pub extern "C" fn dm_compact(
     n: u64,
@@ -220,7 +220,7 @@ pub extern "C" fn dm_compact(
     druthmoy::dm_compact(n, count, script, out, answer);
 }
 
-// Settles a map. Values: given, peak, the script's count, the best polarity and its size (both all ones above 8 variables), burned.
+/// Settles a map. Values: given, peak, the script's count, the best polarity and its size (both all ones above 8 variables), burned.
 #[unsafe(no_mangle)]
 pub extern "C" fn dm_settle(
     n: u64,
@@ -237,7 +237,7 @@ pub extern "C" fn dm_settle(
     druthmoy::dm_settle(n, list, script, work, out, answer);
 }
 
-// Wide from narrow: an old list of 4-byte records as a list of 8-byte records. Values: its count.
+/// Wide from narrow: an old list of 4-byte records as a list of 8-byte records. Values: its count.
 #[unsafe(no_mangle)]
 pub extern "C" fn dm_wide_from_narrow(n: u64, list: &[u8], out: &mut [u8], answer: &mut [u64; 8])
     ensures answer_after { answer.new ≡ words (wide_outcome n list.now (length out.old)) }
@@ -246,7 +246,7 @@ pub extern "C" fn dm_wide_from_narrow(n: u64, list: &[u8], out: &mut [u8], answe
     druthmoy::dm_wide_from_narrow(n, list, out, answer);
 }
 
-// Narrow from wide: a list of at most 16 variables as a list of 4-byte records. Values: its count.
+/// Narrow from wide: a list of at most 16 variables as a list of 4-byte records. Values: its count.
 #[unsafe(no_mangle)]
 pub extern "C" fn dm_narrow_from_wide(n: u64, list: &[u8], out: &mut [u8], answer: &mut [u64; 8])
     ensures answer_after { answer.new ≡ words (narrow_outcome n list.now (length out.old)) }
@@ -255,7 +255,7 @@ pub extern "C" fn dm_narrow_from_wide(n: u64, list: &[u8], out: &mut [u8], answe
     druthmoy::dm_narrow_from_wide(n, list, out, answer);
 }
 
-// Checking a list of shared products. Values: its count.
+/// Checking a list of shared products. Values: its count.
 #[unsafe(no_mangle)]
 pub extern "C" fn dm_shared_check(n: u64, list: &[u8], answer: &mut [u64; 8])
     ensures { answer.new ≡ words (check_shared n list.now) }
@@ -263,7 +263,7 @@ pub extern "C" fn dm_shared_check(n: u64, list: &[u8], answer: &mut [u64; 8])
     druthmoy::dm_shared_check(n, list, answer);
 }
 
-// The values of all outputs of a list of shared products at the assignment a. Values: one word, bit k for output k.
+/// The values of all outputs of a list of shared products at the assignment a. Values: one word, bit k for output k.
 #[unsafe(no_mangle)]
 pub extern "C" fn dm_shared_value(n: u64, list: &[u8], a: u64, answer: &mut [u64; 8])
     ensures { answer.new ≡ words (word_outcome n list.now a) }
@@ -271,7 +271,7 @@ pub extern "C" fn dm_shared_value(n: u64, list: &[u8], a: u64, answer: &mut [u64
     druthmoy::dm_shared_value(n, list, a, answer);
 }
 
-// Runs a script on a list of shared products. Values: the count and the peak.
+/// Runs a script on a list of shared products. Values: the count and the peak.
 #[unsafe(no_mangle)]
 pub extern "C" fn dm_shared_run(
     n: u64,
@@ -286,7 +286,7 @@ pub extern "C" fn dm_shared_run(
     druthmoy::dm_shared_run(n, list, script, work, answer);
 }
 
-// Settles a list of shared products. Values: given, peak, the script's count, burned.
+/// Settles a list of shared products. Values: given, peak, the script's count, burned.
 #[unsafe(no_mangle)]
 pub extern "C" fn dm_shared_settle(
     n: u64,

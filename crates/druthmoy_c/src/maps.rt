@@ -1,11 +1,11 @@
-// The calls on a map, exported for C and Rust: the twelve numbers of its lists are lent, and written like the buffers.
+//! The calls on a map, exported for C and Rust: the twelve numbers of its lists are lent, and written like the buffers.
 ghost use Rattle.std.specs.Prelude.{◌≡◌, length};
 ghost use Rattle.selector.specs.Calls.{slot_outcome, job};
 ghost use Rattle.druthmoy.specs.Faces.{map_words, SettleFaced, ReasonsFaced};
 
 use selector::MOST_LISTS;
 
-// The slot of a label in a map. Values: the slot number.
+/// The slot of a label in a map. Values: the slot number.
 #[unsafe(no_mangle)]
 pub extern "C" fn dm_slot(n: u64, lists: &[u8], lengths: &[u64], a: u64, answer: &mut [u64; 8])
     ensures { answer.new ≡ map_words (slot_outcome n lists.now lengths.now a) }
@@ -13,7 +13,7 @@ pub extern "C" fn dm_slot(n: u64, lists: &[u8], lengths: &[u64], a: u64, answer:
     druthmoy::maps::dm_slot(n, lists, lengths, a, answer);
 }
 
-// Settles a map, each list with its own script. Values: the total cost. The lengths of the burned lists are written like the buffers.
+/// Settles a map, each list with its own script. Values: the total cost. The lengths of the burned lists are written like the buffers.
 #[unsafe(no_mangle)]
 pub extern "C" fn dm_settle_map(
     n: u64,
@@ -41,7 +41,7 @@ pub extern "C" fn dm_settle_map(
     );
 }
 
-// The reasons of a map at a label. Values: the slot number. The number of true products of each list is written like the output.
+/// The reasons of a map at a label. Values: the slot number. The number of true products of each list is written like the output.
 #[unsafe(no_mangle)]
 pub extern "C" fn dm_map_reasons(
     n: u64,

@@ -4,9 +4,9 @@ use mathlib.Core.Path.{◌≡◌, sym, ◌∙◌}
 use mathlib.Core.List.{List, [], ◌∷◌}
 use Prim.Native.Nat.{ℕ}
 use lib.ListN.{length}
+use Rattle.std.specs.Prelude.{Ok}
 use Rattle.records.specs.Records.{zeros}
 use Rattle.records.specs.Answers.{accepted}
-use Rattle.settling.specs.declared.Settled.TheVariants as settled_is
 use Rattle.settling.specs.declared.Settlement.{Settlement}
 use Rattle.settling.specs.Calls.{settle_out, settled}
 use Rattle.settling.proofs.Outcomes.{Ended, settlement_of, same_settlement, settle_ended, settle_counts, work_cleared}
@@ -30,7 +30,7 @@ pub out_of : {a b x y : List ℕ} → ◌≡◌ {A = List (List ℕ)} (a ∷ b �
 out_of e = cc
 
 pub called_accepted : (n : ℕ) (list script work out work' out' : List ℕ) (s : Settlement)
-    → Called (settle n list script work out) (settled (settled_is.Burned s)) (work' ∷ out' ∷ []) → Accepting n list script work out s work' out'
+    → Called (settle n list script work out) (settled (Ok s)) (work' ∷ out' ∷ []) → Accepting n list script work out s work' out'
 unfolding answers leaves
 called_accepted n list script work out work' out' s c =
     let e = settle_ended n list script (length work) (length out) _ (sym c.answer) in
@@ -42,7 +42,7 @@ called_accepted n list script work out work' out' s c =
     }
 
 pub accepted_settled : (n : ℕ) (list script work out v : List ℕ) (buffers : List (List ℕ)) → Called (settle n list script work out) (accepted v) buffers
-    → (s : Settlement) × Called (settle n list script work out) (settled (settled_is.Burned s)) buffers
+    → (s : Settlement) × Called (settle n list script work out) (settled (Ok s)) buffers
 unfolding answers
 accepted_settled n list script work out v buffers c =
     let e = settle_ended n list script (length work) (length out) v (sym c.answer) in

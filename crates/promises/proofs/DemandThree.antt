@@ -10,6 +10,7 @@ use Prim.Native.Nat.{ℕ, ◌-◌, ◌*◌, ◌/◌, ◌^◌, ◌≤◌, ◌<◌
 use native.Mathlib.Nat.{le_trans}
 use native.Mathlib.Omega.{arith}
 use lib.ListN.{length, drop}
+use Rattle.std.specs.Prelude.{Ok}
 use Rattle.bits.specs.Bits.{bit}
 use Rattle.bits.specs.Sums.{All}
 use Rattle.records.specs.Records.{records, zeros}
@@ -25,7 +26,6 @@ use Rattle.script.specs.Scripts.{steps_of, step_width, most_steps}
 use Rattle.script.specs.Calls.{run_of}
 use Rattle.script.proofs.Runs.{ended_list}
 use Rattle.trees.specs.Trees.{Tree, list_of}
-use Rattle.settling.specs.declared.Settled.TheVariants as settled_is
 use Rattle.settling.specs.declared.Settlement.{Settlement}
 use Rattle.settling.specs.Candidates.{burned_list}
 use Rattle.settling.specs.Calls.{settled}
@@ -42,7 +42,7 @@ use Rattle.promises.proofs.DemandOne.{not_wrong_accepted}
 -- There are such calls: one of which nothing is wrong, and whose script ends, is not refused.
 pub not_wrong_settles : (n : ℕ) (list script work out : List ℕ) (o : Outcome) (buffers : List (List ℕ)) → NoneWrong (faults (settle n list script work out))
     → EndOfScript n list script work → Called (settle n list script work out) o buffers
-    → (s : Settlement) × Called (settle n list script work out) (settled (settled_is.Burned s)) buffers
+    → (s : Settlement) × Called (settle n list script work out) (settled (Ok s)) buffers
 unfolding ScriptEnds
 not_wrong_settles n list script work out o buffers fine end c =
     let a = not_wrong_accepted (settle n list script work out) o buffers c fine end in
@@ -50,7 +50,7 @@ not_wrong_settles n list script work out o buffers fine end c =
 
 -- a call that was not refused
 module _ (n : ℕ) (list script work out : List ℕ) (s : Settlement) (work' out' : List ℕ)
-    (c : Called (settle n list script work out) (settled (settled_is.Burned s)) (work' ∷ out' ∷ [])) where
+    (c : Called (settle n list script work out) (settled (Ok s)) (work' ∷ out' ∷ [])) where
   acc : Accepting n list script work out s work' out'
   acc = called_accepted n list script work out work' out' s c
 

@@ -12,6 +12,7 @@ use borrow.Author.Tests.{le-leb, lt-leb}
 use lib.Bits.{bit_and}
 use lib.Dec.{eqb}
 use lib.ListN.{length, get_or}
+use Rattle.std.specs.Prelude.{Ok}
 use Rattle.bits.specs.Bits.{bit}
 use Rattle.bits.specs.Sums.{sum, one_if, All}
 use Rattle.bits.specs.Below.{LeastThen}
@@ -39,7 +40,6 @@ use Rattle.polarity.specs.Vectors.{byte_at, Vector, coefficient_vector, vector_b
 use Rattle.polarity.proofs.Theorems as theorems
 use Rattle.polarity.proofs.Uniqueness as uniqueness
 use Rattle.settling.specs.declared.Fixed.TheVariants as fixed_is
-use Rattle.settling.specs.declared.Settled.TheVariants as settled_is
 use Rattle.settling.specs.declared.Settlement.{Settlement}
 use Rattle.settling.specs.Candidates.{best_form, fixed_of}
 use Rattle.settling.specs.Calls.{settled}
@@ -220,7 +220,7 @@ script_result = counting.run_result
 -- ---- the counts that settle answers, of a call that was not refused
 
 module _ (n : ℕ) (list script work out : List ℕ) (s : Settlement) (work' out' : List ℕ)
-    (c : Called (settle n list script work out) (settled (settled_is.Burned s)) (work' ∷ out' ∷ [])) where
+    (c : Called (settle n list script work out) (settled (Ok s)) (work' ∷ out' ∷ [])) where
   acc : Accepting n list script work out s work' out'
   acc = called_accepted n list script work out work' out' s c
 

@@ -10,6 +10,7 @@ use Prim.Native.Nat.{ℕ, suc, ◌+◌, ◌*◌, ◌/◌, ◌≤◌, ◌<◌}
 use native.Mathlib.Omega.{arith}
 use borrow.Author.Tests.{le-leb}
 use lib.ListN.{length, get_or, drop}
+use Rattle.std.specs.Prelude.{Ok}
 use Rattle.bits.specs.Sums.{one_if}
 use Rattle.records.specs.Records.{image, written}
 use Rattle.records.specs.Answers.{Outcome, accepted}
@@ -34,7 +35,6 @@ use Rattle.writer.proofs.Pairs as pairs
 use Rattle.writer.proofs.Easy.{easy_accepted, easy_fewer, easy_count, easy_fit, easy_run, easy_short}
 use Rattle.writer.proofs.Replaying.{easy_passes, easy_replays, easy_room, easy_lists}
 use Rattle.writer.proofs.Calls.{AcceptedWrite, write_accepts}
-use Rattle.settling.specs.declared.Settled.TheVariants as settled_is
 use Rattle.settling.specs.declared.Settlement.{Settlement}
 use Rattle.settling.specs.Calls.{settled, ran_settled, settle_outcome, check_settle}
 use Rattle.promises.specs.Calls.{run, write_script, settle, answers, leaves, Called}
@@ -176,13 +176,13 @@ module _ (n : ℕ) (list work script : List ℕ) (steps which : ℕ) (work' scri
     unfolding answers settle_outcome run_of
     settle_ends = burned.answer ∙ and_then_lem _ _ _ settle_checks ∙ ap (ran_settled n (cubes_of list)) (written_runs (cube_capacity (length w)))
 
-    pub written_settles : (s : Settlement) × Called (settle n list (written_in steps script') w out) (settled (settled_is.Burned s)) buffers
+    pub written_settles : (s : Settlement) × Called (settle n list (written_in steps script') w out) (settled (Ok s)) buffers
     written_settles =
         accepted_settled n list (written_in steps script') w out _ buffers (record { answer = sym settle_ends ∙ burned.answer; left = burned.left })
 
   -- .. and what it burns has no more products than the end list.
   pub burns_no_more : (w out : List ℕ) (s : Settlement) (w' out' : List ℕ)
-      → Called (settle n list (written_in steps script') w out) (settled (settled_is.Burned s)) (w' ∷ out' ∷ []) → length (burned_in s out') ≤ length (end_list n list)
+      → Called (settle n list (written_in steps script') w out) (settled (Ok s)) (w' ∷ out' ∷ []) → length (burned_in s out') ≤ length (end_list n list)
   burns_no_more w out s w' out' burned =
       three.no_more_than_script n list (written_in steps script') w out s w' out' burned (end_list n list) (length (cubes_of list))
       (written_runs (cube_capacity (length w)))

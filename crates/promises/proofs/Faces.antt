@@ -6,11 +6,11 @@ use mathlib.Core.List.{List, [], ◌∷◌}
 use Prim.Native.Nat.{ℕ, ◌≤◌}
 use native.Mathlib.Omega.{arith}
 use lib.ListN.{get_or}
+use Rattle.std.specs.Prelude.{Ok}
 use Rattle.records.specs.declared.Refusal.{Refusal}
 use Rattle.records.specs.Answers.{Outcome, accepted, refused}
 use Rattle.settling.specs.declared.Fixed.{Fixed}
 use Rattle.settling.specs.declared.Fixed.TheVariants as fixed_is
-use Rattle.settling.specs.declared.Settled.TheVariants as settled_is
 use Rattle.settling.specs.declared.Settlement.{Settlement}
 use Rattle.settling.specs.Calls.{settled}
 use Rattle.druthmoy.specs.Faces.{eight, words, settled_words, with_start}
@@ -79,7 +79,7 @@ module _ (c : Call) (answer : List ℕ) (buffers : List (List ℕ)) (F : Faced c
 -- ---- settle
 
 settled_counts : (s : Settlement) (f : Fixed) → s.fixed ≡ f
-    → settled_words (settled (settled_is.Burned s)) ≡ 0 ∷ 0 ∷ s.given ∷ s.peak ∷ s.script ∷ polarity_word f ∷ size_word f ∷ s.burned ∷ []
+    → settled_words (settled (Ok s)) ≡ 0 ∷ 0 ∷ s.given ∷ s.peak ∷ s.script ∷ polarity_word f ∷ size_word f ∷ s.burned ∷ []
 unfolding settled_words words
 settled_counts s (fixed_is.Polarity p size) e = rw e
 settled_counts s fixed_is.Absent e = rw e

@@ -14,6 +14,7 @@ use native.Mathlib.Decide.{ℕ_discrete}
 use native.Mathlib.Omega.{arith}
 use lib.ListN.{length, get_or, take, drop, length-replicate, length-set}
 use lib.Seq.{get_or-take}
+use Rattle.std.specs.Prelude.{Ok}
 use Rattle.bits.specs.Bits.{bit}
 use Rattle.bits.proofs.Below.{sum_cong}
 use Rattle.records.specs.declared.Refusal.{Refusal}
@@ -28,7 +29,6 @@ use Rattle.polarity.specs.Cost.{cost}
 use Rattle.script.specs.Run.{Ran, ended, run}
 use Rattle.script.specs.Scripts.{steps_of}
 use Rattle.script.specs.Calls.{run_of}
-use Rattle.settling.specs.declared.Settled.TheVariants as settled_is
 use Rattle.settling.specs.declared.Settlement.{Settlement}
 use Rattle.settling.specs.Calls.{settled, settle_outcome, settle_out}
 use Rattle.settling.proofs.Outcomes.{BurnedBy}
@@ -411,7 +411,7 @@ module _ (n : ℕ) (lists lengths scripts script_lengths work out before work' o
     module _ (work₁ alone : List ℕ) (as_long : length work₁ ≡ length work) (as_many : length alone ≡ get_or lengths k 0) where
       -- That call is accepted; ..
       pub settles_alone : (o : Outcome) (left : List (List ℕ)) → Called (settle n (list_of k) (script_of k) work₁ alone) o left
-          → (t : Settlement) × Called (settle n (list_of k) (script_of k) work₁ alone) (settled (settled_is.Burned t)) left
+          → (t : Settlement) × Called (settle n (list_of k) (script_of k) work₁ alone) (settled (Ok t)) left
       unfolding answers settle_at
       settles_alone o left c =
           let v = burned.settle_accepts settling fit.lists_are total passed.1 k h in
@@ -419,7 +419,7 @@ module _ (n : ℕ) (lists lengths scripts script_lengths work out before work' o
           (record { answer = sym (ap₂ (settle_outcome n (list_of k) (script_of k)) as_long as_many ∙ v.is); left = c.left })
 
       module _ (t : Settlement) (work₁' alone' : List ℕ)
-          (c : Called (settle n (list_of k) (script_of k) work₁ alone) (settled (settled_is.Burned t)) (work₁' ∷ alone' ∷ [])) where
+          (c : Called (settle n (list_of k) (script_of k) work₁ alone) (settled (Ok t)) (work₁' ∷ alone' ∷ [])) where
         left_alone : alone' ≡ settle_out n (list_of k) (script_of k) (length work) alone
         left_alone =
             (called_accepted n (list_of k) (script_of k) work₁ alone work₁' alone' t c).out_is ∙ ap (λ (w : ℕ). settle_out n (list_of k) (script_of k) w alone) as_long

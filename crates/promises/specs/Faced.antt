@@ -1,10 +1,9 @@
 -- The eight words that a caller from C or Rust reads of a map that was settled.
 -- Assumes nothing.
-use Rattle.std.specs.Prelude.{◌≡◌, List, [], ◌∷◌, ℕ}
+use Rattle.std.specs.Prelude.{◌≡◌, List, [], ◌∷◌, ℕ, Ok}
 use Rattle.druthmoy.specs.Faces.{all_ones}
 use Rattle.settling.specs.declared.Fixed.{Fixed}
 use Rattle.settling.specs.declared.Fixed.TheVariants as fixed_is
-use Rattle.settling.specs.declared.Settled.TheVariants as settled_is
 use Rattle.settling.specs.declared.Settlement.{Settlement}
 use Rattle.settling.specs.Calls.{settled}
 use Rattle.promises.specs.Calls.{settle, Called}
@@ -21,6 +20,6 @@ size_word fixed_is.Absent = all_ones
 -- an accepted call of settle, of which the demands speak, and its counts in the words 2 to 7
 pub record SettledFace (n : ℕ) (list script work out : List ℕ) (answer work' out' : List ℕ) : Type 0 where
   pub settlement : Settlement
-  pub called : Called (settle n list script work out) (settled (settled_is.Burned settlement)) (work' ∷ out' ∷ [])
+  pub called : Called (settle n list script work out) (settled (Ok settlement)) (work' ∷ out' ∷ [])
   pub counts : answer
       ≡ 0 ∷ 0 ∷ settlement.given ∷ settlement.peak ∷ settlement.script ∷ polarity_word settlement.fixed ∷ size_word settlement.fixed ∷ settlement.burned ∷ []

@@ -1,3 +1,3 @@
-// What the library promises: definitions and theorems only, over the contracts of the crates below.
+//! What the library promises: definitions and theorems only, over the contracts of the crates below.
 
 #![tactic(auto)]

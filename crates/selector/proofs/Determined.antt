@@ -3,12 +3,14 @@
 use mathlib.Core.Path.{◌≡◌, refl, ap, ap₂}
 use mathlib.Core.List.{List}
 use Prim.Native.Nat.{ℕ}
+use Rattle.std.specs.Prelude.{Option, Some, None, Result, Ok, Err}
 use Rattle.bits.specs.Outcomes.{Determined}
 use Rattle.bits.proofs.Determined.{same, same_told}
-use Rattle.selector.specs.declared.MapAnswer.{MapAnswer}
-use Rattle.selector.specs.declared.MapAnswer.TheVariants as answer_is
+use Rattle.records.specs.declared.Refusal.{Refusal}
+use Rattle.selector.specs.declared.MapRefusal.{MapRefusal}
+use Rattle.selector.specs.Refusals.{of_map, of_list}
 use Rattle.selector.specs.declared.ByList.{ByList}
-use Rattle.selector.specs.Answers.{MapOutcome, map_accepted, map_refused, list_refused, map_told}
+use Rattle.selector.specs.Answers.{MapOutcome, map_accepted, map_refused, list_refused, refused_at, map_told}
 use Rattle.selector.proofs.slot.slot.Kinds as slot_kinds
 use Rattle.selector.proofs.slot.slot.Reads as slot_reads
 use Rattle.selector.proofs.map_reasons.reasons_into.Kinds as reasons_into_kinds
@@ -19,16 +21,19 @@ use Rattle.selector.proofs.settle_map.settle_map.Kinds as settle_map_kinds
 use Rattle.selector.proofs.settle_map.settle_map.Reads as settle_map_reads
 
 -- the answer, read back
-pub map_back : MapOutcome → MapAnswer
-map_back (map_accepted x) = answer_is.Number x
-map_back (map_refused r) = answer_is.Refused r
-map_back (list_refused r k) = answer_is.ListRefused r k
+pub map_back : MapOutcome → Result ℕ MapRefusal
+map_back (map_accepted x) = Ok x
+map_back (map_refused r) = Err (of_map r)
+map_back (list_refused r k) = Err (of_list r k)
 
-pub map_known : (a : MapAnswer) → map_back (map_told a) ≡ a
+pub map_known : (a : Result ℕ MapRefusal) → map_back (map_told a) ≡ a
 unfolding map_back
-map_known (answer_is.Number x) = refl
-map_known (answer_is.Refused r) = refl
-map_known (answer_is.ListRefused r k) = refl
+map_known (Ok x) = refl
+map_known (Err e) = same_refusal e.refusal e.list
+  where
+    same_refusal : (r : Refusal) (l : Option ℕ) → map_back (refused_at r l) ≡ Err (record { refusal = r; list = l })
+    same_refusal r None = refl
+    same_refusal r (Some k) = refl
 
 pub slot_determined : Determined 2 slot_kinds.ps slot_kinds.r slot_reads.Learnt
 slot_determined κs a z z' ws ws' p q = (same_told map_told map_back map_known p q, refl)
@@ -39,7 +44,7 @@ reasons_into_determined κs a z z' ws ws' p q = (
   ap₂ (λ (o e : List ℕ). (tt, (tt, (tt, (tt, (o, (e, tt))))))) (same p.out_is q.out_is) (same p.numbers q.numbers),
 )
 
-made : MapAnswer → List ℕ → ByList
+made : Result ℕ MapRefusal → List ℕ → ByList
 made a l = record { answer = a; each = l }
 
 pub map_reasons_determined : Determined 3 map_reasons_kinds.ps map_reasons_kinds.r map_reasons_reads.Learnt

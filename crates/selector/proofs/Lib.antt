@@ -1,4 +1,6 @@
 pub mod Parts
+pub mod Left
+pub mod Handing
 pub mod Turning
 pub mod Checks
 pub mod Determined

@@ -1,13 +1,12 @@
 -- What a call on a map answers, and what it leaves in a buffer. Document 02, Thirteen: "A refused list or script refuses the map, with the list's number, and every buffer that
 -- the call writes ends all zero, even where no script has started; only the first three below write nothing."
 -- Assumes nothing.
-use Rattle.std.specs.Prelude.{ℕ, zero, suc, List, length}
+use Rattle.std.specs.Prelude.{ℕ, zero, suc, List, length, Option, Some, None, Result, Ok, Err}
 use Rattle.records.specs.declared.Refusal.{Refusal}
 use Rattle.records.specs.Records.{zeros}
 use Rattle.records.specs.Answers.{Outcome, accepted, refused}
 use Rattle.selector.specs.Maps.{most_lists}
-use Rattle.selector.specs.declared.MapAnswer.{MapAnswer}
-use Rattle.selector.specs.declared.MapAnswer.TheVariants as answer_is
+use Rattle.selector.specs.declared.MapRefusal.{MapRefusal}
 
 -- accepted, with the number that was asked for; or a refusal of the map; or of a list, "with the list's number"
 pub data MapOutcome : Type 0 where
@@ -43,7 +42,10 @@ after_each (map_refused r) new old = old
 after_each (list_refused r k) new old = zeros most_lists
 
 -- the number and values for each case of the answer
-abbrev pub map_told : MapAnswer → MapOutcome
-map_told (answer_is.Number x) = map_accepted x
-map_told (answer_is.Refused r) = map_refused r
-map_told (answer_is.ListRefused r k) = list_refused r k
+abbrev pub refused_at : Refusal → Option ℕ → MapOutcome
+refused_at r None = map_refused r
+refused_at r (Some k) = list_refused r k
+
+abbrev pub map_told : Result ℕ MapRefusal → MapOutcome
+map_told (Ok x) = map_accepted x
+map_told (Err e) = refused_at e.refusal e.list

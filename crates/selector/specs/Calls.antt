@@ -2,7 +2,7 @@
 -- up to the lent buffers or not one script a list, then 5 for an output shorter than the lists (reasons: 2 bytes a record); then the lists in turn, each in the order of the call
 -- on it."
 -- Assumes nothing.
-use Rattle.std.specs.Prelude.{◌≡◌, ℕ, ◌*◌, List, [], ◌∷◌, leb, eqb, length, get_or}
+use Rattle.std.specs.Prelude.{◌≡◌, ℕ, ◌*◌, List, [], ◌∷◌, leb, eqb, length, get_or, Result}
 use Rattle.records.specs.Records.{image, written, zeros}
 use Rattle.records.specs.Places.{place_width, places}
 use Rattle.records.specs.Answers.{Outcome, accepted, unless, and_then}
@@ -15,7 +15,7 @@ use Rattle.script.specs.Calls.{run_of}
 use Rattle.settling.specs.Candidates.{burned_list}
 use Rattle.settling.specs.Calls.{settle_outcome}
 use Rattle.selector.specs.declared.ByList.{ByList}
-use Rattle.selector.specs.declared.MapAnswer.{MapAnswer}
+use Rattle.selector.specs.declared.MapRefusal.{MapRefusal}
 use Rattle.selector.specs.Maps.{most_lists, part, add_up, cubes_at, slot_of, records_of, join_below, total_cost, each_of}
 use Rattle.selector.specs.Answers.{MapOutcome, map_accepted, after_check, in_turn, after_map, after_each, map_told}
 
@@ -73,7 +73,7 @@ unfoldable pub shown_bytes : ℕ → List ℕ → List ℕ → ℕ → List ℕ 
 shown_bytes n lists lengths a out = written places 0 (join_below (length lengths) (places_at n lists lengths a)) out
 
 -- reasons_into was called with n, a map, a label, an output and twelve numbers; it answered r, and left out' and each'
-pub record ReasonsInto (n : ℕ) (lists lengths : List ℕ) (a : ℕ) (out each : List ℕ) (r : MapAnswer) (out' each' : List ℕ) : Type 0 where
+pub record ReasonsInto (n : ℕ) (lists lengths : List ℕ) (a : ℕ) (out each : List ℕ) (r : Result ℕ MapRefusal) (out' each' : List ℕ) : Type 0 where
   pub answer : map_told r ≡ map_reasons_outcome n lists lengths a (length out)
   pub numbers : each' ≡ after_each (map_reasons_outcome n lists lengths a (length out)) (true_numbers n lists lengths a) each
   pub out_is : out' ≡ after_map (map_reasons_outcome n lists lengths a (length out)) (shown_bytes n lists lengths a out) out

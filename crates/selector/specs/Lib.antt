@@ -1,4 +1,6 @@
 pub mod Maps
+pub mod Parts
+pub mod Refusals
 pub mod Answers
 pub mod Calls
 pub mod Turns

@@ -1,6 +1,7 @@
 -- Inside: what the functions within the calls on a map promise one another. None of it is needed to read the calls.
 -- Assumes nothing.
-use Rattle.std.specs.Prelude.{◌≡◌, List, ℕ, ◌*◌, ◌≤◌, length}
+use Rattle.std.specs.Prelude.{◌≡◌, List, ℕ, ◌*◌, ◌≤◌, length, Result, Ok, Err}
+use Rattle.records.specs.declared.Refusal.{Refusal}
 use Rattle.records.specs.Records.{zeros}
 use Rattle.records.specs.Places.{place_width}
 use Rattle.records.specs.Answers.{Accepts, refused}
@@ -9,9 +10,8 @@ use Rattle.polarity.specs.Cost.{cost}
 use Rattle.script.specs.Calls.{run_of}
 use Rattle.settling.specs.Calls.{settle_outcome}
 use Rattle.selector.specs.declared.ByList.{ByList}
-use Rattle.selector.specs.declared.MapAnswer.{MapAnswer}
-use Rattle.selector.specs.declared.settle_map.Part.{Part}
-use Rattle.selector.specs.declared.settle_map.Part.TheVariants as part_is
+use Rattle.selector.specs.declared.MapRefusal.{MapRefusal}
+use Rattle.selector.specs.declared.settle_map.Burned.{Burned}
 use Rattle.selector.specs.Maps.{most_lists, starts, records_of}
 use Rattle.selector.specs.Answers.{after_map, after_each, map_told}
 use Rattle.selector.specs.Calls.{true_numbers, shown_bytes, reasons_turns, Job, list_count, ran_burnt, settle_turns, burned_lengths, burned_bytes}
@@ -30,7 +30,7 @@ pub record Showable (lists lengths : List ℕ) (out : ℕ) : Type 0 where
   pub room : place_width * records_of lists lengths ≤ out
 
 -- the reasons of the lists have been written in turn, with their numbers
-pub record ShownTurns (n : ℕ) (lists lengths : List ℕ) (a : ℕ) (out each : List ℕ) (r : MapAnswer) (out' each' : List ℕ) : Type 0 where
+pub record ShownTurns (n : ℕ) (lists lengths : List ℕ) (a : ℕ) (out each : List ℕ) (r : Result ℕ MapRefusal) (out' each' : List ℕ) : Type 0 where
   pub answer : map_told r ≡ reasons_turns n lists lengths a
   pub numbers : each' ≡ after_each (reasons_turns n lists lengths a) (true_numbers n lists lengths a) each
   pub out_is : out' ≡ after_map (reasons_turns n lists lengths a) (shown_bytes n lists lengths a out) out
@@ -50,9 +50,9 @@ pub record PartBurned (n : ℕ) (list script : List ℕ) (work room bytes price 
   pub bytes_are : bytes ≡ record_width * length (ran_burnt n (cubes_of list) (run_of n list script work))
   pub price_is : price ≡ cost (ran_burnt n (cubes_of list) (run_of n list script work))
 
-abbrev pub PartTold : (n : ℕ) (list script : List ℕ) (work room : ℕ) → Part → Type 0
-PartTold n list script work room (part_is.Burned bytes price) = PartBurned n list script work room bytes price
-PartTold n list script work room (part_is.Refused r) = settle_outcome n list script work room ≡ refused r
+abbrev pub PartTold : (n : ℕ) (list script : List ℕ) (work room : ℕ) → Result Burned Refusal → Type 0
+PartTold n list script work room (Ok b) = PartBurned n list script work room b.bytes b.cost
+PartTold n list script work room (Err r) = settle_outcome n list script work room ≡ refused r
 
 -- the lists have been settled in turn
 pub record SettledTurns (j : Job) (out : List ℕ) (r : ByList) (out' : List ℕ) : Type 0 where

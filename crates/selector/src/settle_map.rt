@@ -1,4 +1,4 @@
-// Settling a map, list by list.
+//! Settling a map, list by list.
 ghost use Rattle.std.specs.Prelude.{◌≡◌, ◌++◌, ◌-◌, ◌≤◌, length, take, drop};
 ghost use Rattle.cube.specs.Lists.{cubes_of, most_records};
 ghost use Rattle.polarity.specs.Cost.{cost};
@@ -7,18 +7,19 @@ ghost use Rattle.selector.specs.Calls.{job, SettleCalled};
 ghost use Rattle.selector.specs.Turns.{PartTold, Settleable, SettledTurns};
 
 use crate::lengths::check_job;
-use crate::{ByList, MOST_LISTS, MapAnswer, refused_map};
-use records::{Counted, Refusal};
-use settling::Settled;
+use crate::lists::Lists;
+use crate::{ByList, MOST_LISTS, MapRefusal};
+use records::Refusal;
+use settling::Settlement;
 
-// What is told of one list of a map: how many bytes its burned list has and what it costs, or why it is refused.
-#[derive(Clone, Copy)]
-pub(crate) enum Part {
-    Burned(usize, usize),
-    Refused(Refusal),
+/// What is burned of one list of a map: how many bytes its list has, and what it costs.
+#[derive(Clone, Copy, Debug, PartialEq, Eq)]
+pub(crate) struct Burned {
+    bytes: usize,
+    cost: usize,
 }
 
-// What a list costs.
+/// What a list costs.
 fn list_cost(list: &[u8]) -> usize
     requires { length (cubes_of list.now) ≤ most_records }
     ensures { result ≡ cost (cubes_of list.now) }
@@ -28,7 +29,7 @@ fn list_cost(list: &[u8]) -> usize
     products - counts.constant as usize
 }
 
-// Settles a list into the bytes from..end of the output.
+/// Settles a list into the bytes from..end of the output.
 fn burn_part(
     n: usize,
     list: &[u8],
@@ -37,7 +38,7 @@ fn burn_part(
     out: &mut [u8],
     from: usize,
     end: usize,
-) -> Settled
+) -> Result<Settlement, Refusal>
     requires { (from ≤ end) × (end ≤ length out.old) }
     ensures result_value { settled result ≡ settle_outcome n list.now script.now (length work.old) (end - from) }
     ensures out_after { out.new ≡ take from out.old ++ (settle_out n list.now script.now (length work.old) (take (end - from) (drop from out.old)) ++ drop end out.old) }
@@ -45,7 +46,7 @@ fn burn_part(
     settling::settle::settle(n, list, script, work, &mut out[from..end])
 }
 
-// The same, with what the burned list costs.
+/// The same, with what the burned list costs.
 fn settle_part(
     n: usize,
     list: &[u8],
@@ -54,78 +55,55 @@ fn settle_part(
     out: &mut [u8],
     from: usize,
     end: usize,
-) -> Part
+) -> Result<Burned, Refusal>
     requires { (from ≤ end) × (end ≤ length out.old) }
     ensures part_told { PartTold n list.now script.now (length work.old) (end - from) result }
     ensures out_after { out.new ≡ take from out.old ++ (settle_out n list.now script.now (length work.old) (take (end - from) (drop from out.old)) ++ drop end out.old) }
 {
-    match burn_part(n, list, script, work, out, from, end) {
-        Settled::Refused(r) => Part::Refused(r),
-        Settled::Burned(s) => {
-            let bytes = cube::list::RECORD_WIDTH * s.burned;
-            let to = from + bytes;
-            let cost = list_cost(&out[from..to]);
-            Part::Burned(bytes, cost)
-        }
-    }
+    let settled = burn_part(n, list, script, work, out, from, end)?;
+    let bytes = cube::list::RECORD_WIDTH * settled.burned;
+    let to = from + bytes;
+    let cost = list_cost(&out[from..to]);
+    Ok(Burned { bytes, cost })
 }
 
-// Settles the lists in turn, one after the other in the output, and zeros after them; where one is refused, the output is cleared.
+/// Settles the lists in turn, one after the other in the output, and zeros after them; where one is refused, the output is cleared.
 fn settle_lists(
     n: usize,
-    lists: &[u8],
-    lengths: &[u64],
-    scripts: &[u8],
-    script_lengths: &[u64],
+    lists: Lists<'_>,
+    scripts: Lists<'_>,
     work: &mut [u8],
     out: &mut [u8],
 ) -> ByList
-    requires { Settleable (job n lists.now lengths.now scripts.now script_lengths.now (length work.old)) (length out.old) }
-    ensures { SettledTurns (job n lists.now lengths.now scripts.now script_lengths.now (length work.old)) out.old result out.new }
+    requires { Settleable (job n lists.bytes.now lists.lengths.now scripts.bytes.now scripts.lengths.now (length work.old)) (length out.old) }
+    ensures { SettledTurns (job n lists.entry.bytes.now lists.entry.lengths.now scripts.entry.bytes.now scripts.entry.lengths.now (length work.old)) out.old result out.new }
 {
     let mut sizes = [0u64; MOST_LISTS];
     let mut total: usize = 0;
-    let mut at: usize = 0;
-    let mut script_at: usize = 0;
     let mut to: usize = 0;
-    let mut k: usize = 0;
-    while k < lengths.len() {
-        let size = lengths[k] as usize;
-        let end = at + size;
-        let script_end = script_at + script_lengths[k] as usize;
-        let room = to + size;
-        match settle_part(
-            n,
-            &lists[at..end],
-            &scripts[script_at..script_end],
-            work,
-            out,
-            to,
-            room,
-        ) {
-            Part::Refused(r) => {
+    for (k, (list, script)) in lists.zip(scripts).enumerate() {
+        let room = to + list.len();
+        match settle_part(n, list, script, work, out, to, room) {
+            Err(why) => {
                 records::clear(out);
-                return refused_map(MapAnswer::ListRefused(r, k));
+                return ByList::refused(MapRefusal::of_list(why, k));
             }
-            Part::Burned(bytes, price) => {
-                sizes[k] = bytes as u64;
-                total += price;
-                to += bytes;
-                at = end;
-                script_at = script_end;
-                k += 1;
+            Ok(burned) => {
+                sizes[k] = burned.bytes as u64;
+                total += burned.cost;
+                to += burned.bytes;
             }
         }
     }
     records::clear(&mut out[to..]);
     ByList {
-        answer: MapAnswer::Number(total),
+        answer: Ok(total),
         each: sizes,
     }
 }
 
-// Settles a map: refusals 24, 26 and 5, then those of settle on the lists in turn; or the total cost and the lengths of the burned lists, which fill the front
-// of the output.
+/// Settles a map: refusals 24, 26 and 5, then those of settle on the lists in turn; or the total cost and the lengths of the burned lists, which fill the front
+/// of the output.
 pub fn settle_map(
     n: usize,
     lists: &[u8],
@@ -138,11 +116,19 @@ pub fn settle_map(
     ensures { SettleCalled (job n lists.now lengths.now scripts.now script_lengths.now (length work.old)) work.old out.old result work.new out.new }
 {
     match check_job(lists, lengths, scripts, script_lengths, out.len()) {
-        Counted::Refused(r) => refused_map(MapAnswer::Refused(r)),
-        Counted::Count(_) => {
-            let r = settle_lists(n, lists, lengths, scripts, script_lengths, work, out);
+        Err(why) => ByList::refused(why.into()),
+        Ok(_) => {
+            let lists = Lists {
+                bytes: lists,
+                lengths,
+            };
+            let scripts = Lists {
+                bytes: scripts,
+                lengths: script_lengths,
+            };
+            let settled = settle_lists(n, lists, scripts, work, out);
             records::clear(work);
-            r
+            settled
         }
     }
 }

@@ -3,6 +3,8 @@
 -- Assumes nothing.
 use Rattle.std.specs.Prelude.{ℕ, cond, List, [], ◌∷◌, ◌++◌, eqb, length, take, drop, get_or}
 use Rattle.records.specs.Answers.{Outcome, accepted, refused}
+use Rattle.settling.specs.declared.Settlement.{Settlement}
+use Rattle.settling.specs.Calls.{fixed_values}
 use Rattle.selector.specs.Answers.{MapOutcome, map_accepted, map_refused, list_refused}
 pub use Rattle.selector.specs.Answers.{after_each}
 
@@ -10,6 +12,10 @@ pub use Rattle.selector.specs.Answers.{after_each}
 abbrev pub eight : ℕ → ℕ → List ℕ → List ℕ
 eight number place v =
     number ∷ place ∷ get_or v 0 0 ∷ get_or v 1 0 ∷ get_or v 2 0 ∷ get_or v 3 0 ∷ get_or v 4 0 ∷ get_or v 5 0 ∷ []
+
+-- the values of an answer, 0 for each that is missing
+abbrev pub six : List ℕ → List ℕ
+six v = get_or v 0 0 ∷ get_or v 1 0 ∷ get_or v 2 0 ∷ get_or v 3 0 ∷ get_or v 4 0 ∷ get_or v 5 0 ∷ []
 
 unfoldable pub words : Outcome → List ℕ
 words (accepted values) = eight 0 0 values
@@ -22,6 +28,9 @@ all_ones = 18446744073709551615
 -- settle answers six values, and four above 8 variables, where it has no best polarity: then both of its words are all ones
 abbrev pub with_absent : List ℕ → List ℕ
 with_absent v = cond (eqb (length v) 4) (take 3 v ++ (all_ones ∷ all_ones ∷ drop 3 v)) v
+
+abbrev pub settlement_values : Settlement → List ℕ
+settlement_values s = with_absent (s.given ∷ s.peak ∷ s.script ∷ (fixed_values s.fixed ++ (s.burned ∷ [])))
 
 unfoldable pub settled_words : Outcome → List ℕ
 settled_words (accepted values) = words (accepted (with_absent values))

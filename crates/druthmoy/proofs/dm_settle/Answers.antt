@@ -1,9 +1,9 @@
 -- `dm_settle` meets its contract.
 -- Assumes nothing.
+use mathlib.Core.Path.{◌∙◌}
 use Rattle.druthmoy.specs.Faces.{settled_words}
-use Rattle.words.proofs.Words.{words_of}
-use borrow.Author.Rules.{rules}
+use Rattle.words.proofs.Words.{words_of, settled_put}
 use Rattle.druthmoy.proofs.dm_settle.Goals as goal
 
-pub returns : goal.returns
-returns c = record { answer_after = search (words_of settled_words); work_after = search rules; out_after = search rules }
+pub returns-clause-answer_after : goal.returns-clause-answer_after
+returns-clause-answer_after c = words_of settled_words (c.put_answer.ensures ∙ settled_put _) c.settle-settled.ensures.result_value

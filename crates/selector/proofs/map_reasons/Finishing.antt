@@ -7,26 +7,29 @@ use lib.ListN.{length}
 use Rattle.records.specs.declared.Refusal.{Refusal}
 use Rattle.records.specs.Records.{zeros}
 use Rattle.records.specs.Answers.{Outcome, accepted, refused}
-use Rattle.selector.specs.declared.MapAnswer.{MapAnswer}
-use Rattle.selector.specs.declared.MapAnswer.TheVariants as answer_is
+use Rattle.selector.specs.declared.MapRefusal.{MapRefusal}
+use Rattle.std.specs.Prelude.{Result, IsErr, IsErrAnd}
+use Rattle.selector.specs.Refusals.{of_map}
 use Rattle.selector.specs.declared.ByList.{ByList}
 use Rattle.selector.specs.Maps.{most_lists}
 use Rattle.selector.specs.Answers.{MapOutcome, map_accepted, map_refused, list_refused, after_check, after_map, after_each}
 use Rattle.selector.specs.Calls.{check_map_reasons, reasons_turns, map_reasons_outcome, true_numbers, shown_bytes, ReasonsInto, ReasonsCalled}
+use Rattle.selector.proofs.Handing.{handed_map}
 use Rattle.selector.specs.Turns.{ShownTurns}
 
 module _ (n : ℕ) (lists lengths : List ℕ) (a : ℕ) (out each : List ℕ) where
-  pub reasons_refused : (q : Refusal) → check_map_reasons lists lengths (length out) ≡ refused q → ReasonsInto n lists lengths a out each (answer_is.Refused q) out each
+  pub reasons_refused : (q : Refusal) → check_map_reasons lists lengths (length out) ≡ refused q → (r : Result ℕ MapRefusal)
+      → IsErr r × IsErrAnd r (λ (f : MapRefusal). f ≡ of_map q) → ReasonsInto n lists lengths a out each r out each
   unfolding map_reasons_outcome
-  reasons_refused q e =
+  reasons_refused q e r er =
       let is : map_reasons_outcome n lists lengths a (length out) ≡ map_refused q = ap (λ (o : Outcome). after_check o (reasons_turns n lists lengths a)) e in
       record {
-        answer = sym is;
+        answer = handed_map r (of_map q) _ er (sym is);
         numbers = ap (λ (o : MapOutcome). after_each o (true_numbers n lists lengths a) each) (sym is);
         out_is = ap (λ (o : MapOutcome). after_map o (shown_bytes n lists lengths a out) out) (sym is);
       }
 
-  pub reasons_shown : (v : List ℕ) → check_map_reasons lists lengths (length out) ≡ accepted v → (r : MapAnswer) (out' each' : List ℕ)
+  pub reasons_shown : (v : List ℕ) → check_map_reasons lists lengths (length out) ≡ accepted v → (r : Result ℕ MapRefusal) (out' each' : List ℕ)
       → ShownTurns n lists lengths a out each r out' each' → ReasonsInto n lists lengths a out each r out' each'
   unfolding map_reasons_outcome
   reasons_shown v e r out' each' t =

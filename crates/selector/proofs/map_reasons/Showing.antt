@@ -3,7 +3,6 @@
 use mathlib.Core.Path.{◌≡◌, refl, sym, ap, ap₂, ◌∙◌, subst}
 use mathlib.Core.List.{List, [], ◌∷◌, ◌++◌}
 use Prim.Native.Nat.{ℕ, ◌+◌, ◌-◌, ◌*◌, ◌/◌, ◌%◌, ◌^◌, ◌≤◌, ◌<◌}
-use native.Mathlib.Nat.{mul-add}
 use native.Mathlib.Omega.{arith}
 use lib.ListN.{length, get_or, take, drop, set, length-append}
 use Rattle.bits.specs.Below.{sum_below}
@@ -21,12 +20,13 @@ use Rattle.cube.specs.Lists.{cubes, cubes_of, record_width, list_value}
 use Rattle.reasons.specs.Calls.{true_places, reasons_outcome, reasons_after}
 use Rattle.reasons.proofs.Calls.{AcceptedReasons, reasons_accepts, shown_fits}
 use Rattle.reasons.proofs.Showing.{places_trues}
-use Rattle.selector.specs.declared.MapAnswer.TheVariants as answer_is
-use Rattle.selector.specs.Maps.{most_lists, starts, part, cubes_at, records_of, slot_of, join_below, each_of}
+use Rattle.std.specs.Prelude.{Ok, Err}
+use Rattle.selector.specs.Refusals.{of_list}
+use Rattle.selector.specs.Maps.{most_lists, part, cubes_at, records_of, slot_of, join_below, each_of}
 use Rattle.selector.specs.Answers.{MapOutcome, map_accepted, list_refused, after_map, after_each}
 use Rattle.selector.specs.Calls.{reasons_at, places_at, reasons_turns, true_numbers, shown_bytes}
-use Rattle.selector.specs.Turns.{Mapped, Showable, ShownTurns}
-use Rattle.selector.proofs.Parts.{sum_zero, sum_next, start_next, start_before, part_is, part_length, join_zero, join_next, each_is, lent_size, written_next}
+use Rattle.selector.specs.Turns.{Showable, ShownTurns}
+use Rattle.selector.proofs.Parts.{sum_zero, sum_next, join_next, each_is, lent_size, written_next}
 use Rattle.selector.proofs.Turning.{Passing, passing_none, passing_more, passing_refused, passing_all}
 use Rattle.selector.proofs.slot.Slotting.{bit_at, bit_small, slot_below, slot_small, slot_next}
 
@@ -35,9 +35,7 @@ abbrev records_below : List ℕ → List ℕ → ℕ → ℕ
 records_below lists lengths k = sum_below k (λ i. length (cubes_at lists lengths i))
 
 -- the reasons of the first k lists stand end to end at the front of the output, and the first k bits of the slot are known
-pub record Showing (n : ℕ) (lists lengths : List ℕ) (a : ℕ) (out₀ out numbers : List ℕ) (slot at to k : ℕ) : Type 0 where
-  pub within : k ≤ length lengths
-  pub at_is : at ≡ starts lengths k
+pub record Showing (n : ℕ) (lists lengths : List ℕ) (a : ℕ) (out₀ out numbers : List ℕ) (slot to k : ℕ) : Type 0 where
   pub to_is : to ≡ place_width * length (join_below k (places_at n lists lengths a))
   pub to_le : to ≤ place_width * records_below lists lengths k
   pub slot_is : slot ≡ slot_below n lists lengths a k
@@ -47,11 +45,9 @@ pub record Showing (n : ℕ) (lists lengths : List ℕ) (a : ℕ) (out₀ out nu
   pub passing : Passing (reasons_at n lists lengths a) k
 
 module _ (n : ℕ) (lists lengths : List ℕ) (a : ℕ) (out₀ : List ℕ) where
-  pub showing_none : Showing n lists lengths a out₀ out₀ (zeros most_lists) 0 0 0 0
+  pub showing_none : (k : ℕ) → k ≡ 0 → Showing n lists lengths a out₀ out₀ (zeros most_lists) 0 0 k
   unfolding join_below written
-  showing_none = record {
-    within = omega arith;
-    at_is = sym (sum_zero (λ i. get_or lengths i 0));
+  showing_none k ek = subst (Showing n lists lengths a out₀ out₀ (zeros most_lists) 0 0) (sym ek) (record {
     to_is = refl;
     to_le = omega arith;
     slot_is = sym (sum_zero (λ i. bit_at n lists lengths a i * 2 ^ i));
@@ -59,19 +55,15 @@ module _ (n : ℕ) (lists lengths : List ℕ) (a : ℕ) (out₀ : List ℕ) wher
     out_long = refl;
     numbers_are = front_none (λ i. length (places_at n lists lengths a i)) (zeros most_lists);
     passing = passing_none (reasons_at n lists lengths a);
-  }
+  })
 
-  module _ (m : Showable lists lengths (length out₀)) (out numbers : List ℕ) (slot at to k : ℕ) (r : Showing n lists lengths a out₀ out numbers slot at to k) where
-    module _ (h : k < length lengths) where
-      -- the list that is lent
-      pub showing_end : at + get_or lengths k 0 ≤ length lists
-      showing_end = omega (arith, start_before lengths k (length lengths) h, r.at_is, m.lists_are.adds)
-
-      count_is : length (cubes_at lists lengths k) ≡ get_or lengths k 0 / record_width
-      count_is = length_list cubes (part lists lengths k) ∙ ap (λ (x : ℕ). x / record_width) (part_length lengths lists k h m.lists_are.adds)
+  module _ (m : Showable lists lengths (length out₀)) (out numbers : List ℕ) (slot to k : ℕ) (r : Showing n lists lengths a out₀ out numbers slot to k) where
+    module _ (h : k < length lengths) (list : List ℕ) (part_is : list ≡ part lists lengths k) where
+      count_is : length (cubes_at lists lengths k) ≡ length list / record_width
+      count_is = length_list cubes (part lists lengths k) ∙ ap (λ (b : List ℕ). length b / record_width) (sym part_is)
 
       -- the part of the output that is lent
-      pub showing_room : to + place_width * (get_or lengths k 0 / record_width) ≤ length out
+      pub showing_room : to + place_width * (length list / record_width) ≤ length out
       unfolding records_of
       showing_room =
           omega (
@@ -87,17 +79,16 @@ module _ (n : ℕ) (lists lengths : List ℕ) (a : ℕ) (out₀ : List ℕ) wher
       pub showing_index : k < most_lists
       showing_index = omega (arith, m.lists_are.few)
 
-      module _ (end room : ℕ) (ee : end ≡ at + get_or lengths k 0) (er : room ≡ to + place_width * (get_or lengths k 0 / record_width)) (o : Outcome)
-          (eo : o ≡ reasons_outcome n (take (end - at) (drop at lists)) a (room - to)) where
+      module _ (room : ℕ) (er : room ≡ to + place_width * (length list / record_width)) (o : Outcome) (eo : o ≡ reasons_outcome n list a (room - to)) where
         room_is : room - to ≡ place_width * length (cubes_at lists lengths k)
         room_is = omega (arith, count_is)
 
         lent : o ≡ reasons_at n lists lengths a k
         unfolding reasons_at
-        lent = eo ∙ ap₂ (λ (b : List ℕ) (x : ℕ). reasons_outcome n b a x) (part_is lengths lists k at end r.at_is ee) room_is
+        lent = eo ∙ ap₂ (λ (b : List ℕ) (x : ℕ). reasons_outcome n b a x) part_is room_is
 
         pub showing_refused : (q : Refusal) → o ≡ refused q → (out' : List ℕ) (z : ℕ) → out' ≡ zeros z → z ≡ length out₀ → (each : List ℕ)
-            → ShownTurns n lists lengths a out₀ each (answer_is.ListRefused q k) out' (zeros most_lists)
+            → ShownTurns n lists lengths a out₀ each (Err (of_list q k)) out' (zeros most_lists)
         unfolding reasons_turns
         showing_refused q e out' z ez el each =
             let is : reasons_turns n lists lengths a ≡ list_refused q k =
@@ -135,26 +126,23 @@ module _ (n : ℕ) (lists lengths : List ℕ) (a : ℕ) (out₀ : List ℕ) wher
             (omega (arith, m.lists_are.few), subst (λ (x : ℕ). x < 2) (sym parity_is) (bit_small n lists lengths a k)),
           )
 
-          module _ (out' : List ℕ) (ew : out' ≡ take to out ++ (reasons_after n (take (end - at) (drop at lists)) a (take (room - to) (drop to out)) ++ drop room out)) where
+          module _ (out' : List ℕ) (ew : out' ≡ take to out ++ (reasons_after n list a (take (room - to) (drop to out)) ++ drop room out)) where
             written_more : out' ≡ written places 0 (join_below (k + 1) (places_at n lists lengths a)) out₀
             unfolding reasons_after
             written_more =
                 let P : List ℕ = take (room - to) (drop to out) in
-                let list : List ℕ = take (end - at) (drop at lists) in
                 let el : length P ≡ room - to = lent_size out to room (omega arith, omega (arith, showing_room)) in
                 let done : reasons_after n list a P ≡ written places 0 (places_at n lists lengths a k) P =
                 after_accepted (reasons_outcome n list a (length P)) _ P (number ∷ b ∷ []) (ap (reasons_outcome n list a) el ∙ sym eo ∙ e)
-                ∙ ap (λ (c : List ℕ). written places 0 (true_places n (cubes_of c) a) P) (part_is lengths lists k at end r.at_is ee) in
+                ∙ ap (λ (c : List ℕ). written places 0 (true_places n (cubes_of c) a) P) part_is in
                 ew ∙ ap (λ (x : List ℕ). take to out ++ (x ++ drop room out)) done
                 ∙ written_next places places_lawful (join_below k (places_at n lists lengths a)) (places_at n lists lengths a k) out₀ out r.out_is to room r.to_is
                 (omega arith) (omega (arith, showing_room)) (omega (arith, number_fits, number_is))
                 ∙ ap (λ (l : List ℕ). written places 0 l out₀) (sym (join_next (places_at n lists lengths a) k))
 
-            pub showing_more : (slot' : ℕ) → slot' ≡ slot + number % 2 * 2 ^ k
-                → Showing n lists lengths a out₀ out' (set numbers k number) slot' end (to + place_width * number) (k + 1)
-            showing_more slot' es = record {
-              within = omega arith;
-              at_is = omega (arith, ee, r.at_is, start_next lengths k);
+            pub showing_more : (slot' : ℕ) → slot' ≡ slot + number % 2 * 2 ^ k → (next : ℕ) → next ≡ k + 1
+                → Showing n lists lengths a out₀ out' (set numbers k number) slot' (to + place_width * number) next
+            showing_more slot' es next en = subst (Showing n lists lengths a out₀ out' (set numbers k number) slot' (to + place_width * number)) (sym en) (record {
               to_is =
                   omega (
                     arith,
@@ -169,14 +157,14 @@ module _ (n : ℕ) (lists lengths : List ℕ) (a : ℕ) (out₀ : List ℕ) wher
               out_long = ap length written_more ∙ length_written places 0 (join_below (k + 1) (places_at n lists lengths a)) out₀;
               numbers_are = front_more (λ i. length (places_at n lists lengths a i)) (zeros most_lists) numbers k r.numbers_are number (omega (arith, showing_index, r.numbers_are.long, length_zeros most_lists)) number_is;
               passing = passing_more (reasons_at n lists lengths a) k r.passing (record { values = number ∷ b ∷ []; is = sym lent ∙ e });
-            }
+            })
 
-    pub showing_done : length lengths ≤ k → (each : List ℕ) → ShownTurns n lists lengths a out₀ each (answer_is.Number slot) out numbers
+    pub showing_done : k ≤ length lengths → length lengths ≤ k → (each : List ℕ) → ShownTurns n lists lengths a out₀ each (Ok slot) out numbers
     unfolding reasons_turns slot_of true_numbers shown_bytes
-    showing_done h each =
-        let e : k ≡ length lengths = omega (arith, r.within) in
+    showing_done w h each =
+        let e : k ≡ length lengths = omega arith in
         let is : reasons_turns n lists lengths a ≡ map_accepted (slot_of n lists lengths a) =
-        passing_all (reasons_at n lists lengths a) (length lengths) k _ r.passing r.within h in
+        passing_all (reasons_at n lists lengths a) (length lengths) k _ r.passing w h in
         record {
           answer = ap map_accepted (r.slot_is ∙ ap (slot_below n lists lengths a) e) ∙ sym is;
           numbers =

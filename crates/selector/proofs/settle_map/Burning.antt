@@ -7,6 +7,8 @@ use native.Mathlib.Nat.{le_trans}
 use native.Mathlib.Omega.{arith}
 use lib.ListN.{length, take, drop, replicate}
 use lib.Seq.{take_at, drop_at, length-take-le}
+use Rattle.std.specs.Prelude.{Result, Ok}
+use Rattle.records.specs.declared.Refusal.{Refusal}
 use Rattle.records.specs.Answers.{Accepts}
 use Rattle.records.specs.Records.{image, filled, flat}
 use Rattle.records.proofs.Images.{length_flat}
@@ -15,8 +17,6 @@ use Rattle.cube.specs.declared.Cube.{Cube}
 use Rattle.cube.specs.Lists.{record_width, most_records, cubes, cubes_of}
 use Rattle.cube.proofs.Lists.{lawful, cubes_flat}
 use Rattle.script.specs.Calls.{run_of}
-use Rattle.settling.specs.declared.Settled.{Settled}
-use Rattle.settling.specs.declared.Settled.TheVariants as settled_is
 use Rattle.settling.specs.declared.Settlement.{Settlement}
 use Rattle.settling.specs.Candidates.{burned_list}
 use Rattle.settling.specs.Calls.{settle_outcome, settle_out, settled}
@@ -54,7 +54,7 @@ module _ (n : ℕ) (list script : List ℕ) (work : ℕ) (out : List ℕ) (a : A
       (subst (λ (k : ℕ). k ≤ most_records) (sym (length_list cubes list)) (settle_checked n list script work (length out) end.values end.checked).list_is.short)
 
   -- it has as many products as settle answers
-  pub burnt_count : (s : Settlement) → settled (settled_is.Burned s) ≡ settle_outcome n list script work (length out) → s.burned ≡ length (burnt n list script work)
+  pub burnt_count : (s : Settlement) → settled (Ok s) ≡ settle_outcome n list script work (length out) → s.burned ≡ length (burnt n list script work)
   burnt_count s e =
       ap (λ (t : Settlement). t.burned) (same_settlement s (settlement_of n list script work (length out) end) (e ∙ settle_counts n list script work (length out) end))
       ∙ ap length (sym burnt_is)
@@ -62,11 +62,11 @@ module _ (n : ℕ) (list script : List ℕ) (work : ℕ) (out : List ℕ) (a : A
 -- ---- the part from..end of the output
 
 module _ (n : ℕ) (list script : List ℕ) (work : ℕ) (out : List ℕ) (from end : ℕ) (h : (from ≤ end) × (end ≤ length out))
-    (x : Settled) (ex : settled x ≡ settle_outcome n list script work (end - from)) (s : Settlement) (es : x ≡ settled_is.Burned s) where
+    (x : Result Settlement Refusal) (ex : settled x ≡ settle_outcome n list script work (end - from)) (s : Settlement) (es : x ≡ Ok s) where
   lent : List ℕ
   lent = take (end - from) (drop from out)
 
-  here : settled (settled_is.Burned s) ≡ settle_outcome n list script work (length lent)
+  here : settled (Ok s) ≡ settle_outcome n list script work (length lent)
   unfolding lent
   here = sym (ap settled es) ∙ ex ∙ ap (settle_outcome n list script work) (sym (lent_size out from end h))
 

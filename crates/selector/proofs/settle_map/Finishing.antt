@@ -7,7 +7,8 @@ use lib.ListN.{length}
 use Rattle.records.specs.declared.Refusal.{Refusal}
 use Rattle.records.specs.Records.{zeros}
 use Rattle.records.specs.Answers.{Outcome, accepted, refused}
-use Rattle.selector.specs.declared.MapAnswer.TheVariants as answer_is
+use Rattle.std.specs.Prelude.{Err}
+use Rattle.selector.specs.Refusals.{of_map}
 use Rattle.selector.specs.declared.ByList.{ByList}
 use Rattle.selector.specs.Maps.{most_lists}
 use Rattle.selector.specs.Answers.{MapOutcome, map_refused, after_check, after_map, map_told}
@@ -17,7 +18,7 @@ use Rattle.selector.proofs.Turning.{turns_zero}
 
 module _ (j : Job) (work out : List ℕ) where
   pub map_refused_lem : (q : Refusal) → check_job j (length out) ≡ refused q → (s : ByList)
-      → (s.answer ≡ answer_is.Refused q) × (s.each ≡ zeros most_lists) → SettleCalled j work out s work out
+      → (s.answer ≡ Err (of_map q)) × (s.each ≡ zeros most_lists) → SettleCalled j work out s work out
   unfolding settle_map_outcome
   map_refused_lem q e s w =
       let is : settle_map_outcome j (length out) ≡ map_refused q = ap (λ (o : Outcome). after_check o (settle_turns j)) e in

@@ -1,9 +1,8 @@
 -- What a list costs, by what is counted of it.
 -- Assumes nothing.
-use mathlib.Core.Path.{◌≡◌, ap, ◌∙◌, subst, sym}
+use mathlib.Core.Path.{◌≡◌, ap, subst, sym}
 use mathlib.Core.List.{List}
-use Prim.Native.Nat.{ℕ, ◌-◌, ◌≤◌}
-use lib.ListN.{length}
+use Prim.Native.Nat.{◌-◌, ◌≤◌}
 use Rattle.bits.specs.Sums.{one_if}
 use Rattle.cube.specs.declared.Cube.{Cube}
 use Rattle.polarity.specs.declared.Counts.{Counts}

@@ -2,10 +2,10 @@
 -- Assumes nothing.
 use mathlib.Core.Path.{◌≡◌, sym, ap, ap₂, ◌∙◌, subst}
 use mathlib.Core.List.{List, [], ◌∷◌}
-use Prim.Native.Nat.{ℕ, zero, suc, ◌+◌, ◌-◌, ◌*◌, ◌%◌, ◌^◌, ◌≤◌, ◌<◌}
+use Prim.Native.Nat.{ℕ, zero, suc, ◌+◌, ◌*◌, ◌%◌, ◌^◌, ◌≤◌, ◌<◌}
 use native.Mathlib.Nat.{mod-lt, zero-lt-suc, pow-suc}
 use native.Mathlib.Omega.{arith}
-use lib.ListN.{length, get_or, take, drop}
+use lib.ListN.{length, get_or}
 use lib.Pow.{pow_mono}
 use Rattle.bits.specs.Below.{sum_below}
 use Rattle.bits.proofs.Bits.{shl_bit}
@@ -15,11 +15,11 @@ use Rattle.records.specs.Answers.{Outcome, accepted, refused}
 use Rattle.cube.specs.Lists.{list_value, trues}
 use Rattle.cube.specs.Calls.{value_outcome}
 use Rattle.cube.proofs.Calls.{value_accepts}
-use Rattle.selector.specs.Maps.{most_lists, starts, part, cubes_at, slot_of}
+use Rattle.selector.specs.Maps.{most_lists, part, cubes_at, slot_of}
 use Rattle.selector.specs.Answers.{map_accepted, list_refused}
 use Rattle.selector.specs.Calls.{slot_turns}
 use Rattle.selector.specs.Turns.{Mapped}
-use Rattle.selector.proofs.Parts.{sum_zero, sum_next, start_next, start_before, part_is}
+use Rattle.selector.proofs.Parts.{sum_zero, sum_next}
 use Rattle.selector.proofs.Turning.{Passing, passing_none, passing_more, passing_refused, passing_all}
 
 -- ---- one bit above a number
@@ -68,39 +68,30 @@ abbrev pub value_at : ℕ → List ℕ → List ℕ → ℕ → ℕ → Outcome
 value_at n lists lengths a k = value_outcome n (part lists lengths k) a
 
 -- the first k bits of the slot are known, and their lists are accepted
-pub record Slotting (n : ℕ) (lists lengths : List ℕ) (a slot at k : ℕ) : Type 0 where
-  pub within : k ≤ length lengths
-  pub at_is : at ≡ starts lengths k
+pub record Slotting (n : ℕ) (lists lengths : List ℕ) (a slot k : ℕ) : Type 0 where
   pub slot_is : slot ≡ slot_below n lists lengths a k
   pub passing : Passing (value_at n lists lengths a) k
 
 module _ (n : ℕ) (lists lengths : List ℕ) (a : ℕ) where
-  pub slotting_none : Slotting n lists lengths a 0 0 0
-  slotting_none = record {
-    within = omega arith;
-    at_is = sym (sum_zero (λ i. get_or lengths i 0));
+  pub slotting_none : (k : ℕ) → k ≡ 0 → Slotting n lists lengths a 0 k
+  slotting_none k ek = subst (Slotting n lists lengths a 0) (sym ek) (record {
     slot_is = sym (sum_zero (λ i. bit_at n lists lengths a i * 2 ^ i));
     passing = passing_none (value_at n lists lengths a);
-  }
+  })
 
-  module _ (m : Mapped lists lengths) (slot at k : ℕ) (r : Slotting n lists lengths a slot at k) where
-    -- the list that is lent
-    pub slotting_end : k < length lengths → at + get_or lengths k 0 ≤ length lists
-    slotting_end h = omega (arith, start_before lengths k (length lengths) h, r.at_is, m.adds)
-
-    module _ (h : k < length lengths) (end : ℕ) (ee : end ≡ at + get_or lengths k 0) (o : Outcome)
-        (eo : o ≡ value_outcome n (take (end - at) (drop at lists)) a) where
-      lent : o ≡ value_at n lists lengths a k
-      lent = eo ∙ ap (λ (b : List ℕ). value_outcome n b a) (part_is lengths lists k at end r.at_is ee)
+  module _ (m : Mapped lists lengths) (slot k : ℕ) (r : Slotting n lists lengths a slot k) where
+    module _ (h : k < length lengths) (list : List ℕ) (part_is : list ≡ part lists lengths k) (o : Outcome) (eo : o ≡ value_outcome n list a) where
+      found : o ≡ value_at n lists lengths a k
+      found = eo ∙ ap (λ (b : List ℕ). value_outcome n b a) part_is
 
       pub slotting_refused : (q : Refusal) → o ≡ refused q → list_refused q k ≡ slot_turns n lists lengths a
       unfolding slot_turns
       slotting_refused q e =
-          sym (passing_refused (value_at n lists lengths a) (length lengths) k q (map_accepted (slot_of n lists lengths a)) r.passing h (sym lent ∙ e))
+          sym (passing_refused (value_at n lists lengths a) (length lengths) k q (map_accepted (slot_of n lists lengths a)) r.passing h (sym found ∙ e))
 
       module _ (b t : ℕ) (e : o ≡ accepted (b ∷ t ∷ [])) where
         bit_is : b ≡ bit_at n lists lengths a k
-        bit_is = ap (λ (v : List ℕ). get_or v 0 0) (value_accepts n (part lists lengths k) a (b ∷ t ∷ []) (sym lent ∙ e)).value
+        bit_is = ap (λ (v : List ℕ). get_or v 0 0) (value_accepts n (part lists lengths k) a (b ∷ t ∷ []) (sym found ∙ e)).value
 
         -- what with_bit needs
         pub slotting_bit : (slot < 2 ^ k) × ((k < most_lists) × (b < 2))
@@ -109,17 +100,15 @@ module _ (n : ℕ) (lists lengths : List ℕ) (a : ℕ) where
           (omega (arith, m.few), subst (λ (x : ℕ). x < 2) (sym bit_is) (bit_small n lists lengths a k)),
         )
 
-        pub slotting_more : (slot' : ℕ) → slot' ≡ slot + b * 2 ^ k → Slotting n lists lengths a slot' end (k + 1)
-        slotting_more slot' es = record {
-          within = omega arith;
-          at_is = omega (arith, ee, r.at_is, start_next lengths k);
+        pub slotting_more : (slot' : ℕ) → slot' ≡ slot + b * 2 ^ k → (next : ℕ) → next ≡ k + 1 → Slotting n lists lengths a slot' next
+        slotting_more slot' es next en = subst (Slotting n lists lengths a slot') (sym en) (record {
           slot_is = slot_next n lists lengths a k slot b slot' r.slot_is bit_is es;
-          passing = passing_more (value_at n lists lengths a) k r.passing (record { values = b ∷ t ∷ []; is = sym lent ∙ e });
-        }
+          passing = passing_more (value_at n lists lengths a) k r.passing (record { values = b ∷ t ∷ []; is = sym found ∙ e });
+        })
 
-    pub slotting_done : length lengths ≤ k → map_accepted slot ≡ slot_turns n lists lengths a
+    pub slotting_done : k ≤ length lengths → length lengths ≤ k → map_accepted slot ≡ slot_turns n lists lengths a
     unfolding slot_turns slot_of
-    slotting_done h =
-        let e : k ≡ length lengths = omega (arith, r.within) in
+    slotting_done w h =
+        let e : k ≡ length lengths = omega arith in
         ap map_accepted (r.slot_is ∙ ap (slot_below n lists lengths a) e)
-        ∙ sym (passing_all (value_at n lists lengths a) (length lengths) k _ r.passing r.within h)
+        ∙ sym (passing_all (value_at n lists lengths a) (length lengths) k _ r.passing w h)

@@ -3,14 +3,14 @@
 use Rattle.selector.proofs.lengths.Adding.{adding_none, adding_more, adding_short, adding_done}
 use Rattle.selector.proofs.lengths.add_up.Goals as goal
 
-pub loop-k-init : goal.loop-k-init
-loop-k-init c = adding_none _ _
+pub loop-length-init : goal.loop-length-init
+loop-length-init c = adding_none _ _
 
 pub returns-then-left-length : goal.returns-then-left-length
-returns-then-left-length c = search adding_short
+returns-then-left-length c = adding_short _ _ _ _ c.loop-length.invariant c.loop-length-test.true c.if-left-length.true
 
-pub loop-k-preserved : goal.loop-k-preserved
-loop-k-preserved c = search adding_more
+pub loop-length-preserved : goal.loop-length-preserved
+loop-length-preserved c = adding_more _ _ _ _ c.loop-length.invariant c.loop-length-test.true c.if-left-length.false
 
 pub returns : goal.returns
-returns c = search adding_done
+returns c = adding_done _ _ _ _ c.loop-length.invariant c.loop-length-test.false

@@ -1,15 +1,14 @@
 -- `settle_map::settle_lists` meets its contract: the loop keeps `Settling`.
 -- Assumes nothing.
-use Prim.Native.Nat.{◌-◌}
 use lib.ListN.{length}
 use Rattle.selector.specs.Calls.{job}
+use Rattle.selector.specs.Parts.{parts_of}
+use Rattle.selector.proofs.Left.{Left}
 use Rattle.selector.proofs.settle_map.Settling.{Settling}
 use Rattle.selector.proofs.settle_map.settle_lists.Given as goal
 
 abbrev pub invariant-loop-k : goal.invariant-loop-k
 invariant-loop-k l =
-    Settling (job l.n l.lists l.lengths l.scripts l.script_lengths (length l.initial.work)) l.initial.out l.work l.out l.sizes l.total l.at l.script_at l.to l.k
-
-abbrev pub decreases-loop-k : goal.decreases-loop-k
-decreases-loop-k l =
-    length l.lengths - l.k
+    Settling (job l.fn.n l.fn.lists.bytes.now l.fn.lists.lengths.now l.fn.scripts.bytes.now l.fn.scripts.lengths.now (length l.fn.work)) l.fn.out l.work l.out l.sizes l.total l.to l.k-iterator.count
+    × Left l.fn.lists.bytes.now l.fn.lists.lengths.now (parts_of l.k-iterator.iter.a.lengths.now l.k-iterator.iter.a.bytes.now) l.k-iterator.count
+    × Left l.fn.scripts.bytes.now l.fn.scripts.lengths.now (parts_of l.k-iterator.iter.b.lengths.now l.k-iterator.iter.b.bytes.now) l.k-iterator.count

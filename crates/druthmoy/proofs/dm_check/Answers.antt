@@ -1,8 +1,0 @@
--- `dm_check` meets its contract.
--- Assumes nothing.
-use Rattle.druthmoy.specs.Faces.{words}
-use Rattle.words.proofs.Words.{words_of}
-use Rattle.druthmoy.proofs.dm_check.Goals as goal
-
-pub returns : goal.returns
-returns c = search (words_of words)

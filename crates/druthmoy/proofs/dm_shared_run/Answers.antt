@@ -1,9 +1,0 @@
--- `dm_shared_run` meets its contract.
--- Assumes nothing.
-use Rattle.druthmoy.specs.Faces.{words}
-use Rattle.words.proofs.Words.{words_of}
-use borrow.Author.Rules.{rules}
-use Rattle.druthmoy.proofs.dm_shared_run.Goals as goal
-
-pub returns : goal.returns
-returns c = record { answer_after = search (words_of words); work_after = search rules }
