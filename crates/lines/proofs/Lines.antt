@@ -31,22 +31,6 @@ counts_index b l {r} e =
     let h : r ≤ length l = omega (arith, index_le b l) in
     (h, sym (length-take-le r l h))
 
--- ---- a search from a place to the end of the text
-
-whole_slice : (at : ℕ) (t : List ℕ) → slice at (length t) t ≡ drop at t
-unfolding slice
-whole_slice at t = ap (drop at) (take-length t)
-
-pub found_from : (b at : ℕ) (t : List ℕ) {r : ℕ} → r ≡ at + index_of b (slice at (length t) t) → r ≡ at + index_of b (drop at t)
-found_from b at t e = e ∙ ap (λ (s : List ℕ). at + index_of b s) (whole_slice at t)
-
-pub found_first : (b : ℕ) (t : List ℕ) {r : ℕ} → r ≡ 0 + index_of b (slice 0 (length t) t) → r ≡ index_of b t
-found_first b t e = omega (arith, found_from b 0 t e)
-
-pub none_past : (b : ℕ) {at : ℕ} (t : List ℕ) → length t ≤ at → at ≡ at + index_of b (drop at t)
-unfolding index_of
-none_past b {at} t h = rw (drop_of_length-le t h) (sym (add-zero at))
-
 -- ---- the first line of a text
 
 by_byte : (b : ℕ) (s : Bool) (t : List ℕ) (k : ℕ) → begun b (lines t) ≡ (b ∷ take k t) ∷ lines (drop (suc k) t)

@@ -11,16 +11,15 @@ use lib.Dec.{eqb, ltb}
 use lib.ListN.{length, take, drop}
 use lib.Seq.{take-length, take-append_seam, drop-append_seam, drop-length}
 use borrow.Author.Tests.{eq-eqb, ne_eqb, not-true}
+use Rattle.std.specs.Prelude.{Some, None}
 use Rattle.bits.specs.Sums.{All}
 use Rattle.bits.proofs.Bools.{both_true}
 use Rattle.bits.proofs.Sums.{all_append, all_each}
 use Rattle.lines.specs.Bytes.{index_after, index_of}
-use Rattle.text.specs.declared.ReadNumber.TheVariants as number_is
 use Rattle.text.specs.Blanks.{blank, blanks, past_blanks}
 use Rattle.text.specs.Numbers.{decimal_by, decimal}
-use Rattle.text.specs.Reading.{number_in}
+use Rattle.text.specs.Reading.{number_in, read_to}
 use Rattle.text.proofs.ReadBack.{number_back}
-use Rattle.lines.specs.declared.Said.TheVariants as said_is
 use Rattle.lines.specs.Lines.{newline, hash, lines, content}
 use Rattle.lines.specs.Lines as line_of
 use Rattle.lines.specs.Words.{letters, first_word, after_word, blank_from, alone, only_number}
@@ -139,14 +138,14 @@ unfolding blanks
 blanks_number [] s = refl
 blanks_number (b ∷ w) s = ap suc (blanks_word b w s.0)
 
-pub number_alone : (most x : ℕ) → x ≤ most → only_number most (32 ∷ decimal x) ≡ said_is.Number x
+pub number_alone : (most x : ℕ) → x ≤ most → only_number most (32 ∷ decimal x) ≡ Some x
 unfolding only_number blank_from blanks
 number_alone most x h =
     let l : List ℕ = 32 ∷ decimal x in
     let first : past_blanks l 0 ≡ 1 = ap (λ (k : ℕ). 0 + k) (blanks_number (decimal x) (decimal_solid x)) in
-    let read : number_in most l (past_blanks l 0) ≡ number_is.Read x (1 + length (decimal x)) =
+    let read : number_in most l (past_blanks l 0) ≡ read_to x (1 + length (decimal x)) =
     ap (number_in most l) first ∙ number_back most x h l [] 1 refl (sym (append-nil (decimal x))) in
     let none : drop (1 + length (decimal x)) l ≡ [] = ap (λ (k : ℕ). drop k l) (add_comm 1 (length (decimal x)) ∙ add-one (length (decimal x))) ∙ drop-length (decimal x) in
     let p : ℕ = 1 + length (decimal x) in
     let ends : eqb (past_blanks l p) (length l) ≡ true = eq-eqb (past_blanks l p) (length l) (omega (arith, ap blanks none)) in
-    ap (alone l) read ∙ ap (λ (t : Bool). cond t (said_is.Number x) said_is.Nothing) ends
+    ap (alone l) read ∙ ap (λ (t : Bool). cond t (Some x) None) ends

@@ -1,12 +1,9 @@
 -- The words of a line: bytes between blanks. docs/TEXTS.md, "Lines".
 -- Assumes nothing.
-use Rattle.std.specs.Prelude.{Bool, true, false, cond, ◌&&◌, List, [], ◌∷◌, ℕ, suc, ◌+◌, eqb, length, take, drop}
-use Rattle.text.specs.declared.ReadNumber.{ReadNumber}
-use Rattle.text.specs.declared.ReadNumber.TheVariants as number_is
+use Rattle.std.specs.Prelude.{Bool, true, false, cond, ◌&&◌, List, [], ◌∷◌, ℕ, suc, ◌+◌, eqb, length, take, drop, Ok, Err, Option, Some, None}
+use lib.Pointwise.{pointwise}
 use Rattle.text.specs.Blanks.{blank, blanks, past_blanks}
-use Rattle.text.specs.Reading.{number_in}
-use Rattle.lines.specs.declared.Said.{Said}
-use Rattle.lines.specs.declared.Said.TheVariants as said_is
+use Rattle.text.specs.Reading.{number_in, Reading}
 
 -- how many bytes stand before the first blank
 unfoldable pub letters : List ℕ → ℕ
@@ -30,19 +27,16 @@ unfoldable pub blank_from : List ℕ → ℕ → Bool
 blank_from l p = eqb (past_blanks l p) (length l)
 
 -- the same bytes
-unfoldable pub same : List ℕ → List ℕ → Bool
-same [] [] = true
-same [] (y ∷ t) = false
-same (x ∷ s) [] = false
-same (x ∷ s) (y ∷ t) = eqb x y && same s t
+abbrev pub same : List ℕ → List ℕ → Bool
+same = pointwise eqb
 
 -- what was read, where nothing but blanks follows
-abbrev pub alone : List ℕ → ReadNumber → Said
-alone l (number_is.Read x p) = cond (blank_from l p) (said_is.Number x) said_is.Nothing
-alone l (number_is.Wrong p) = said_is.Nothing
+abbrev pub alone : List ℕ → Reading ℕ → Option ℕ
+alone l (Ok a) = cond (blank_from l a.next) (Some a.value) None
+alone l (Err w) = None
 
 -- the number that a line says: one word, of digits, for a number of at most `most`
-unfoldable pub only_number : ℕ → List ℕ → Said
+unfoldable pub only_number : ℕ → List ℕ → Option ℕ
 only_number most l = alone l (number_in most l (past_blanks l 0))
 
 -- the line says this one word

@@ -1,15 +1,8 @@
-// A text as lines, and a line as words: what stands before a comment, and between blanks.
+//! A text as lines, and a line as words: what stands before a comment, and between blanks.
 #![tactic(auto)]
 
 pub mod line;
 pub mod word;
 
-// The most bytes of a text that is read.
+/// The most bytes of a text that is read.
 pub const MOST_TEXT: usize = 1048576;
-
-// What a line says that should say one number: the number, or none.
-#[derive(Clone, Copy)]
-pub enum Said {
-    Number(usize),
-    Nothing,
-}

@@ -3,3 +3,4 @@ pub mod Products
 pub mod Saying
 pub mod Reading
 pub mod Determined
+pub mod Reasons

@@ -9,8 +9,12 @@ use native.Mathlib.Omega.{arith}
 use lib.Dec.{eqb, leb}
 use lib.ListN.{length, get_or, take, drop, length-append}
 use borrow.Author.Tests.{eq-eqb, ne_eqb}
+use Rattle.std.specs.Prelude.{Result, Ok, Err, Option, Some, None}
 use Rattle.lines.specs.Bytes.{index_of}
+use Rattle.pla.specs.declared.MapSize.{MapSize}
 use Rattle.records.specs.declared.Refusal.{Refusal}
+use Rattle.records.specs.declared.reason.Reason.{Reason}
+use Rattle.records.specs.Reasons.{number_of}
 use Rattle.records.specs.Records.{image, filled, stored, zeros, Holds}
 use Rattle.records.specs.Answers.{Outcome, accepted, refused, refusal}
 use Rattle.records.proofs.Filling.{length_zeros}
@@ -22,8 +26,6 @@ use Rattle.shared.specs.SharedRecord.{shares, shared_width, shared_capacity}
 use Rattle.shared.proofs.SharedRecord.{shared_lawful}
 use Rattle.shared.specs.Outputs.{output_count}
 use Rattle.text.specs.Blanks.{blanks}
-use Rattle.lines.specs.declared.Said.{Said}
-use Rattle.lines.specs.declared.Said.TheVariants as said_is
 use Rattle.lines.specs.Lines.{newline, lines, content}
 use Rattle.lines.specs.Words.{only_number, only_word, blank_from, first_word, after_word}
 use Rattle.lines.specs.Gathering.{most_text, Says, knows, has, over, bad, Progress, before, ended, refused_by, through}
@@ -31,9 +33,6 @@ use Rattle.lines.proofs.Gathering.{Gathering, gathered_long, gathered_whole, gat
 use Rattle.pla.specs.declared.Header.{Header}
 use Rattle.pla.specs.declared.Line.{Line}
 use Rattle.pla.specs.declared.Line.TheVariants as line_variants
-use Rattle.pla.specs.declared.ReadPla.{ReadPla}
-use Rattle.pla.specs.declared.Spelt.{Spelt}
-use Rattle.pla.specs.declared.Spelt.TheVariants as spelt_is
 use Rattle.pla.specs.Header.{unsaid, nothing_said, inputs_said, outputs_said, type_said, products_said, end_said, most_stated, named}
 use Rattle.pla.specs.Names.{dot, esop_word, name_of}
 use Rattle.pla.specs.Products.{product_said, lacking, product, spelt}
@@ -57,21 +56,21 @@ module _ (h : Header) where
   abbrev Next : Says Header Shared → Type 0
   Next s = Upto (h.products + 1) s
 
-  inputs_next : (x : Said) → Next (inputs_said h x)
-  inputs_next (said_is.Number v) = either Next (eqb h.inputs unsaid) (omega arith) tt
-  inputs_next said_is.Nothing = tt
+  inputs_next : (x : Option ℕ) → Next (inputs_said h x)
+  inputs_next (Some v) = either Next (eqb h.inputs unsaid) (omega arith) tt
+  inputs_next None = tt
 
-  outputs_next : (x : Said) → Next (outputs_said h x)
-  outputs_next (said_is.Number v) = either Next (leb 1 v && eqb h.outputs unsaid) (omega arith) tt
-  outputs_next said_is.Nothing = tt
+  outputs_next : (x : Option ℕ) → Next (outputs_said h x)
+  outputs_next (Some v) = either Next (leb 1 v && eqb h.outputs unsaid) (omega arith) tt
+  outputs_next None = tt
 
   type_next : (t : Bool) → Next (type_said h t)
   type_next true = omega arith
   type_next false = tt
 
-  products_next : (k : ℕ) (x : Said) → Next (products_said k h x)
-  products_next k (said_is.Number v) = either Next (eqb h.stated unsaid) (omega arith) tt
-  products_next k said_is.Nothing = tt
+  products_next : (k : ℕ) (x : Option ℕ) → Next (products_said k h x)
+  products_next k (Some v) = either Next (eqb h.stated unsaid) (omega arith) tt
+  products_next k None = tt
 
   end_next : (t : Bool) → Next (end_said t)
   end_next true = tt
@@ -87,9 +86,9 @@ module _ (h : Header) where
       (either Next (eqb name 5) (omega arith)
       (either Next (eqb name 6) (end_next (blank_from l 0)) tt)))))
 
-  spelt_next : (s : Spelt) → Next (product_said h s)
-  spelt_next (spelt_is.Product s) = omega arith
-  spelt_next spelt_is.Wrong = tt
+  spelt_next : (s : Option Shared) → Next (product_said h s)
+  spelt_next (Some s) = omega arith
+  spelt_next None = tt
 
   product_next : (l : List ℕ) → Next (product h l)
   unfolding product
@@ -189,29 +188,31 @@ module _ {t : List ℕ} {bytes : ℕ} {h : Header} {count at line : ℕ} {b : Li
     reading_place = room_place 12 (length b) count shared_lawful.wide fits
 
   -- the text is at its end
-  pub reading_end : length t ≤ most_text → length t ≤ at → (r : ReadPla) → ((l : List Shared) → length l ≡ count → read_pla r ≡ told_of (finished h l (line + 1)))
+  pub reading_end : length t ≤ most_text → length t ≤ at → (r : Result MapSize Refusal) → ((l : List Shared) → length l ≡ count → read_pla r ≡ told_of (finished h l (line + 1)))
       → Ends t bytes (read_pla r) b
   reading_end short o r f =
       ending t bytes short b (before h g.items (line + 1)) (gathering_end line_says in_some 31 (shared_capacity bytes) g.gathering o) (f g.items g.counted)
       (kept_finished h g.items (line + 1) bytes b image_is g.long)
 
   -- the line at the place
-  module _ (o : at < length t) {end : ℕ} (e : end ≡ at + index_of newline (drop at t)) (said : Line) (d : line_is said ≡ line_says (line + 1) h (take (end - at) (drop at t))) where
-    says : {s : Line} → said ≡ s → line_says (line + 1) h (take (end - at) (drop at t)) ≡ line_is s
+  module _ (o : at < length t) {end : ℕ} (e : end ≡ at + index_of newline (drop at t)) (said : Result Line Reason) (d : line_is said ≡ line_says (line + 1) h (take (end - at) (drop at t))) where
+    says : {s : Result Line Reason} → said ≡ s → line_says (line + 1) h (take (end - at) (drop at t)) ≡ line_is s
     says y = sym d ∙ ap line_is y
 
-    pub reading_bad : length t ≤ most_text → {number : ℕ} → said ≡ line_variants.Bad number → {r : Refusal} → r ≡ refusal number (line + 1) → Ends t bytes (refused r) b
-    reading_bad short {number} y f =
-        ending t bytes short b (refused_by number (line + 1)) (gathering_bad line_says in_some 31 (shared_capacity bytes) g.gathering o e (says y)) (ap refused f) g.long
+    pub reading_bad : length t ≤ most_text → {why : Reason} → said ≡ Err why → {r : Refusal} → r ≡ refusal (number_of why) (line + 1) → Ends t bytes (refused r) b
+    reading_bad short {why} y f =
+        ending t bytes short b (refused_by (number_of why) (line + 1)) (gathering_bad line_says in_some 31 (shared_capacity bytes) g.gathering o e (says y)) (ap refused f) g.long
 
-    pub reading_over : length t ≤ most_text → said ≡ line_variants.Over → (r : ReadPla)
+    pub reading_over : length t ≤ most_text → {x : Line} → said ≡ Ok x → x ≡ line_variants.Over → (r : Result MapSize Refusal)
         → ((l : List Shared) → length l ≡ count → read_pla r ≡ told_of (finished h l (line + 1))) → Ends t bytes (read_pla r) b
-    reading_over short y r f =
+    reading_over short v w r f =
+        let y : said ≡ Ok line_variants.Over = v ∙ ap Ok w in
         ending t bytes short b (ended h g.items (line + 1)) (gathering_over line_says in_some 31 (shared_capacity bytes) g.gathering o e (says y)) (f g.items g.counted)
         (kept_finished h g.items (line + 1) bytes b image_is g.long)
 
-    pub reading_knows : {h' : Header} → said ≡ line_variants.Knows h' → Reading t bytes h' count (end + 1) (line + 1) b
-    reading_knows {h'} y =
+    pub reading_knows : {x : Line} {h' : Header} → said ≡ Ok x → x ≡ line_variants.Knows h' → Reading t bytes h' count (end + 1) (line + 1) b
+    reading_knows {h' = h'} v w =
+        let y : said ≡ Ok (line_variants.Knows h') = v ∙ ap Ok w in
         let next : h'.products ≤ h.products + 1 = subst (λ (s : Says Header Shared). Upto (h.products + 1) s) (says y) (line_next h (line + 1) (take (end - at) (drop at t))) in
         record {
           items = g.items;
@@ -222,7 +223,10 @@ module _ {t : List ℕ} {bytes : ℕ} {h : Header} {count at line : ℕ} {b : Li
           few = omega (arith, g.few);
         }
 
-    module _ {h' : Header} {s : Shared} (y : said ≡ line_variants.Has h' s) where
+    module _ {x : Line} {h' : Header} {s : Shared} (v : said ≡ Ok x) (w : x ≡ line_variants.Has h' s) where
+      y : said ≡ Ok (line_variants.Has h' s)
+      y = v ∙ ap Ok w
+
       next : h'.products ≤ line + 1
       next = omega (arith, g.few, subst (λ (z : Says Header Shared). Upto (h.products + 1) z) (says y) (line_next h (line + 1) (take (end - at) (drop at t))))
 

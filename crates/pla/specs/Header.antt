@@ -1,13 +1,11 @@
 -- What the lines of a map as text say before its products, and what is refused of them. docs/TEXTS.md, "A map: ESOP-PLA". Refusals of a text have numbers of their own, after 26, and a line.
 -- Assumes nothing.
-use Rattle.std.specs.Prelude.{Bool, true, false, cond, ◌&&◌, List, [], ◌∷◌, ℕ, ◌+◌, eqb, leb}
+use Rattle.std.specs.Prelude.{Bool, true, false, cond, ◌&&◌, List, ℕ, eqb, leb, Option, Some, None}
 use Rattle.cube.specs.Lists.{most_variables}
 use Rattle.shared.specs.declared.Shared.{Shared}
 use Rattle.shared.specs.Outputs.{output_count}
-use Rattle.lines.specs.declared.Said.{Said}
-use Rattle.lines.specs.declared.Said.TheVariants as said_is
 use Rattle.lines.specs.Words.{only_number, only_word, blank_from}
-use Rattle.lines.specs.Gathering.{Says, knows, has, over, bad}
+use Rattle.lines.specs.Gathering.{Says, knows, over, bad}
 use Rattle.pla.specs.declared.Header.{Header}
 use Rattle.pla.specs.Names.{esop_word}
 
@@ -20,16 +18,16 @@ abbrev pub nothing_said : Header
 nothing_said = record { inputs = unsaid; outputs = unsaid; esop = false; stated = unsaid; line = 0; products = 0 }
 
 -- "`.i n`": a number of at most 32, once; else 27
-abbrev pub inputs_said : Header → Said → Says Header Shared
-inputs_said h (said_is.Number x) = cond (eqb h.inputs unsaid)
+abbrev pub inputs_said : Header → Option ℕ → Says Header Shared
+inputs_said h (Some x) = cond (eqb h.inputs unsaid)
     (knows (record { inputs = x; outputs = h.outputs; esop = h.esop; stated = h.stated; line = h.line; products = h.products })) (bad 27)
-inputs_said h said_is.Nothing = bad 27
+inputs_said h None = bad 27
 
 -- "`.o m`": a number from 1 to 32, once; else 28
-abbrev pub outputs_said : Header → Said → Says Header Shared
-outputs_said h (said_is.Number x) = cond (leb 1 x && eqb h.outputs unsaid)
+abbrev pub outputs_said : Header → Option ℕ → Says Header Shared
+outputs_said h (Some x) = cond (leb 1 x && eqb h.outputs unsaid)
     (knows (record { inputs = h.inputs; outputs = x; esop = h.esop; stated = h.stated; line = h.line; products = h.products })) (bad 28)
-outputs_said h said_is.Nothing = bad 28
+outputs_said h None = bad 28
 
 -- "`.type esop`"; "A PLA of another type […] is refused: it means OR", by 29
 abbrev pub type_said : Header → Bool → Says Header Shared
@@ -37,10 +35,10 @@ type_said h true = knows (record { inputs = h.inputs; outputs = h.outputs; esop 
 type_said h false = bad 29
 
 -- "`.p`": a number, once; else 32. Whether it is the number of products is known at the end, and refused at this line
-abbrev pub products_said : ℕ → Header → Said → Says Header Shared
-products_said k h (said_is.Number x) = cond (eqb h.stated unsaid)
+abbrev pub products_said : ℕ → Header → Option ℕ → Says Header Shared
+products_said k h (Some x) = cond (eqb h.stated unsaid)
     (knows (record { inputs = h.inputs; outputs = h.outputs; esop = h.esop; stated = x; line = k; products = h.products })) (bad 32)
-products_said k h said_is.Nothing = bad 32
+products_said k h None = bad 32
 
 -- "`.e` or `.end`", alone; else 33
 abbrev pub end_said : Bool → Says Header Shared

@@ -1,7 +1,10 @@
 -- The words of ESOP-PLA. docs/TEXTS.md, "A map: ESOP-PLA": "`.i n`, `.o m`, `.type esop`, `.p` […], `.ilb`/`.ob` read over, […] `.e` or `.end`".
 -- Assumes nothing.
-use Rattle.std.specs.Prelude.{cond, ◌||◌, List, [], ◌∷◌, ℕ}
+use Rattle.std.specs.Prelude.{cond, ◌||◌, List, [], ◌∷◌, ℕ, ◌≡◌, Result, Ok, Err, Option, Some, None, ◌⊎◌, ◌<◌}
 use Rattle.lines.specs.Words.{same}
+use Rattle.pla.specs.declared.names.Name.{Name}
+use Rattle.pla.specs.declared.names.Name.TheVariants.{Inputs, Outputs, Kind, Products, Passed, End}
+use Rattle.pla.specs.declared.names.UnknownName.{UnknownName}
 
 abbrev pub dot : ℕ
 dot = 46
@@ -43,3 +46,22 @@ name_of w =
     (cond (same w p_name) 4
     (cond (same w ilb_name || same w ob_name) 5
     (cond (same w e_name || same w end_name) 6 0)))))
+
+-- the number of a name
+abbrev pub name_number : Name → ℕ
+name_number Inputs = 1
+name_number Outputs = 2
+name_number Kind = 3
+name_number Products = 4
+name_number Passed = 5
+name_number End = 6
+
+-- and of a word that may be none
+abbrev pub number_or_0 : Option Name → ℕ
+number_or_0 (Some name) = name_number name
+number_or_0 None = 0
+
+-- what a number is read as: the name that has it
+abbrev pub IsNameOf : ℕ → Result Name UnknownName → Type 0
+IsNameOf n (Ok name) = name_number name ≡ n
+IsNameOf n (Err e) = (e.number ≡ n) × ((n ≡ 0) ⊎ (6 < n))

@@ -1,8 +1,12 @@
 -- A map as text: ESOP-PLA. What it is read as, what is answered, and what is left in the buffer. docs/TEXTS.md.
 -- Assumes nothing.
-use Rattle.std.specs.Prelude.{Bool, cond, not, ◌||◌, List, [], ◌∷◌, ℕ, eqb, length, get_or}
+use Rattle.std.specs.Prelude.{Bool, cond, not, ◌||◌, List, [], ◌∷◌, ℕ, eqb, length, get_or, Result, Ok, Err}
+use Rattle.pla.specs.declared.MapSize.{MapSize}
+use Rattle.records.specs.declared.Refusal.{Refusal}
+use Rattle.records.specs.declared.reason.Reason.{Reason}
+use Rattle.records.specs.Reasons.{number_of}
 use Rattle.records.specs.Records.{image}
-use Rattle.records.specs.Answers.{Outcome, accepted, refused, refusal}
+use Rattle.records.specs.Answers.{Outcome, accepted, refused, refusal, outcome_of}
 use Rattle.shared.specs.declared.Shared.{Shared}
 use Rattle.shared.specs.SharedRecord.{shares, shared_capacity}
 use Rattle.text.specs.Blanks.{blanks}
@@ -13,8 +17,6 @@ use Rattle.lines.specs.Gathering as progress_is
 use Rattle.pla.specs.declared.Header.{Header}
 use Rattle.pla.specs.declared.Line.{Line}
 use Rattle.pla.specs.declared.Line.TheVariants as line_variants
-use Rattle.pla.specs.declared.ReadPla.{ReadPla}
-use Rattle.pla.specs.declared.ReadPla.TheVariants as read_is
 use Rattle.pla.specs.Names.{dot, name_of}
 use Rattle.pla.specs.Header.{unsaid, nothing_said, named}
 use Rattle.pla.specs.Products.{lacking, product}
@@ -75,13 +77,12 @@ unfoldable pub pla_after : List ℕ → ℕ → List ℕ
 pla_after t bytes = image shares bytes (products_of (pla_of (shared_capacity bytes) t))
 
 -- what the code's answer for a line stands for
-abbrev pub line_is : Line → Says Header Shared
-line_is (line_variants.Knows h) = knows h
-line_is (line_variants.Has h s) = has h s
-line_is line_variants.Over = over
-line_is (line_variants.Bad number) = bad number
+abbrev pub line_is : Result Line Reason → Says Header Shared
+line_is (Ok (line_variants.Knows h)) = knows h
+line_is (Ok (line_variants.Has h s)) = has h s
+line_is (Ok line_variants.Over) = over
+line_is (Err why) = bad (number_of why)
 
 -- the numbers of each case of the call's answer
-abbrev pub read_pla : ReadPla → Outcome
-read_pla (read_is.Read n m count) = accepted (n ∷ m ∷ count ∷ [])
-read_pla (read_is.Refused r) = refused r
+abbrev pub read_pla : Result MapSize Refusal → Outcome
+read_pla = outcome_of (λ a. a.inputs ∷ a.outputs ∷ a.products ∷ [])

@@ -1,16 +1,16 @@
-// Maps as text, in ESOP-PLA: read as a list of shared products.
+//! Maps as text, in ESOP-PLA: read as a list of shared products.
 #![tactic(auto)]
 
 pub mod names;
 pub mod product;
 pub mod read;
 
-use records::Refusal;
 use shared::Shared;
 
-// What the lines of a text have said so far: the number of inputs, of outputs and of products, each UNSAID until it is said; whether the type is; at which line the number of
-// products was stated; and how many products there were.
-#[derive(Clone, Copy)]
+/// What the lines of a text have said so far: the number of inputs, of outputs and of products, each UNSAID until it is said; whether the type is; at which line the number of
+/// products was stated; and how many products there were.
+// Stays: a number that no line can say, in place of an Option: `names::named` and `product::lacking`, which the documents name, answer for every header.
+#[derive(Clone, Copy, Debug, PartialEq, Eq)]
 pub struct Header {
     pub inputs: usize,
     pub outputs: usize,
@@ -20,25 +20,18 @@ pub struct Header {
     pub products: usize,
 }
 
-// What a line says: something to know, or nothing; a product; that the text ends; or it is refused, by a number.
+/// What a line says: something to know, or nothing; a product; or that the text ends.
 #[derive(Clone, Copy)]
 pub enum Line {
     Knows(Header),
     Has(Header, Shared),
     Over,
-    Bad(u8),
 }
 
-// A product as its line spells it, or a line that is none.
-#[derive(Clone, Copy)]
-pub enum Spelt {
-    Product(Shared),
-    Wrong,
-}
-
-// What the reader answers: the inputs, the outputs and how many products are in some output; or a refusal, whose place is the line.
-#[derive(Clone, Copy)]
-pub enum ReadPla {
-    Read(usize, usize, usize),
-    Refused(Refusal),
+/// The inputs and outputs of a map, and how many products are in some output.
+#[derive(Clone, Copy, Debug, PartialEq, Eq)]
+pub struct MapSize {
+    pub inputs: usize,
+    pub outputs: usize,
+    pub products: usize,
 }

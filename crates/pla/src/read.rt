@@ -1,4 +1,4 @@
-// A whole text.
+//! A whole text.
 ghost use Rattle.std.specs.Prelude.{◌≡◌, List, ◌<◌, ◌≤◌, length};
 ghost use Rattle.records.specs.Records.{zeros};
 ghost use Rattle.shared.specs.declared.Shared.{Shared};
@@ -7,28 +7,32 @@ ghost use Rattle.pla.specs.Header.{unsaid};
 ghost use Rattle.pla.specs.Reading.{Kept};
 ghost use Rattle.pla.specs.Pla.{says_before, line_says, line_is, finished as pla_finished, told_of, pla_outcome, pla_after, read_pla};
 
-use crate::{Header, Line, ReadPla, names, product};
-use records::Refusal;
+use crate::names::Name;
+use crate::{Header, Line, MapSize, names, product};
+use records::{Reason, Refusal};
 use shared::list;
 
-// What line k says before its comment.
-fn says_before(k: usize, h: Header, c: &[u8]) -> Line
+/// What line k says before its comment.
+fn says_before(k: usize, h: Header, c: &[u8]) -> Result<Line, Reason>
     requires { h.products < unsaid }
     ensures { line_is result ≡ says_before k h c.now }
 {
     let from = text::place::past_blanks(c, 0);
     if from == c.len() {
-        return Line::Knows(h);
+        return Ok(Line::Knows(h));
     }
     if text::place::byte_at(c, from) != b'.' {
         return product::product(h, c);
     }
     let end = lines::word::past_word(c, from);
-    names::named(k, h, names::name_of(&c[from..end]), &c[end..])
+    match Name::of(&c[from..end]) {
+        Some(name) => name.says(k, h, &c[end..]),
+        None => Err(Reason::UnknownLine),
+    }
 }
 
-// What line k says.
-fn line_says(k: usize, h: Header, line: &[u8]) -> Line
+/// What line k says.
+fn line_says(k: usize, h: Header, line: &[u8]) -> Result<Line, Reason>
     requires { h.products < unsaid }
     ensures { line_is result ≡ line_says k h line.now }
 {
@@ -36,24 +40,23 @@ fn line_says(k: usize, h: Header, line: &[u8]) -> Line
     says_before(k, h, &line[..end])
 }
 
-// What is answered at the end, at line k, where `count` products are in some output.
-fn finished(h: Header, count: usize, k: usize) -> ReadPla
+/// What is answered at the end, at line k, where `count` products are in some output.
+fn finished(h: Header, count: usize, k: usize) -> Result<MapSize, Refusal>
     ensures { (l : List Shared) → length l ≡ count → read_pla result ≡ told_of (pla_finished h l k) }
 {
-    let lacks = product::lacking(h);
-    if lacks != 0 {
-        return ReadPla::Refused(Refusal::new(lacks, k));
+    product::lacking(h).map_err(|why| why.at(k))?;
+    if h.stated != names::UNSAID && h.stated != h.products {
+        return Err(Reason::OtherCount.at(h.line));
     }
-    if h.stated != names::UNSAID {
-        if h.stated != h.products {
-            return ReadPla::Refused(Refusal::new(32, h.line));
-        }
-    }
-    ReadPla::Read(h.inputs, h.outputs, count)
+    Ok(MapSize {
+        inputs: h.inputs,
+        outputs: h.outputs,
+        products: count,
+    })
 }
 
-// The lines of a text in turn, with the products stored in a cleared buffer; `line` is how many are read.
-fn gathered(text: &[u8], out: &mut [u8]) -> ReadPla
+/// The lines of a text in turn, with the products stored in a cleared buffer; `line` is how many are read.
+fn gathered(text: &[u8], out: &mut [u8]) -> Result<MapSize, Refusal>
     requires text_len_bound { length text.now ≤ most_text }
     requires out_value { out.old ≡ zeros (length out.old) }
     ensures result_value { read_pla result ≡ pla_outcome text.now (length out.old) }
@@ -67,10 +70,12 @@ fn gathered(text: &[u8], out: &mut [u8]) -> ReadPla
     while at < text.len() {
         let end = lines::line::line_end(text, at);
         line += 1;
-        let said = line_says(line, h, &text[at..end]);
+        let said = match line_says(line, h, &text[at..end]) {
+            Ok(said) => said,
+            Err(why) => return Err(why.at(line)),
+        };
         at = end + 1;
         match said {
-            Line::Bad(number) => return ReadPla::Refused(Refusal::new(number, line)),
             Line::Over => return finished(h, count, line),
             Line::Knows(g) => {
                 h = g;
@@ -79,7 +84,7 @@ fn gathered(text: &[u8], out: &mut [u8]) -> ReadPla
                 h = g;
                 if s.outputs != 0 {
                     if room <= count {
-                        return ReadPla::Refused(Refusal::new(31, line));
+                        return Err(Reason::TooManyProducts.at(line));
                     }
                     list::put_record(out, count, s);
                     count += 1;
@@ -90,21 +95,21 @@ fn gathered(text: &[u8], out: &mut [u8]) -> ReadPla
     finished(h, count, line + 1)
 }
 
-// A map as text: its inputs, its outputs and how many products it has in some output, whose records, of 12 bytes, are at the front of the buffer, with zeros after them; or a
-// refusal, by 27 to 33 or 36 at a line, and zeros alone.
-pub fn read(text: &[u8], out: &mut [u8]) -> ReadPla
+/// A map as text: its inputs, its outputs and how many products it has in some output, whose records, of 12 bytes, are at the front of the buffer, with zeros after them; or a
+/// refusal, by 27 to 33 or 36 at a line, and zeros alone.
+pub fn read(text: &[u8], out: &mut [u8]) -> Result<MapSize, Refusal>
     ensures result_value { read_pla result ≡ pla_outcome text.now (length out.old) }
     ensures out_after { out.new ≡ pla_after text.now (length out.old) }
 {
     records::clear(out);
     if lines::MOST_TEXT < text.len() {
-        return ReadPla::Refused(Refusal::new(36, 0));
+        return Err(Reason::TextTooLong.at(0));
     }
     match gathered(text, out) {
-        ReadPla::Refused(r) => {
+        Err(r) => {
             records::clear(out);
-            ReadPla::Refused(r)
+            Err(r)
         }
-        ReadPla::Read(inputs, outputs, count) => ReadPla::Read(inputs, outputs, count),
+        Ok(size) => Ok(size),
     }
 }

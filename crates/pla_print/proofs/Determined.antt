@@ -1,6 +1,6 @@
 -- Two outcomes that satisfy the contract of the public function of this crate are equal.
 -- Assumes nothing.
-use mathlib.Core.Path.{◌≡◌, ap}
+use mathlib.Core.Path.{ap}
 use mathlib.Core.List.{List}
 use Prim.Native.Nat.{ℕ}
 use Rattle.bits.specs.Outcomes.{Determined}

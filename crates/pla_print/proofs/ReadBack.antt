@@ -11,6 +11,7 @@ use native.Mathlib.Omega.{arith}
 use lib.Dec.{eqb}
 use lib.ListN.{length, get_or, length-append}
 use borrow.Author.Tests.{lt-ltb, le-ltb, le-leb, eq-eqb, ne_eqb}
+use Rattle.std.specs.Prelude.{Some}
 use Rattle.bits.specs.Bits.{bit}
 use Rattle.bits.specs.Below.{sum_below}
 use Rattle.bits.specs.Sums.{All}
@@ -30,12 +31,11 @@ use Rattle.text.specs.Blanks.{blank, blanks}
 use Rattle.text.specs.Numbers.{decimal}
 use Rattle.text.specs.Cubes.{glyph, code_of_glyph, cube_text}
 use Rattle.lines.specs.Lines.{lines}
-use Rattle.lines.specs.Words.{letters, blank_from, first_word, after_word, only_word, same}
+use Rattle.lines.specs.Words.{letters, blank_from, first_word, after_word, only_word}
 use Rattle.lines.specs.Gathering.{Says, knows, has, over, Progress, through, gathered, most_text}
 use Rattle.lines.specs.Gathering as progress_is
 use Rattle.lines.proofs.Printed.{solid, Plain, Solid, solid_plain, plain_append, solid_append, lines_on, content_all, no_letters, no_letters_space, blanks_word, not_blank, first_word_lem, after_word_lem, decimal_solid, number_alone}
 use Rattle.pla.specs.declared.Header.{Header}
-use Rattle.pla.specs.declared.Spelt.TheVariants as spelt_is
 use Rattle.pla.specs.Names.{dot, i_name, o_name, type_name, p_name, e_name, esop_word, name_of}
 use Rattle.pla.specs.Header.{unsaid, nothing_said, named, inputs_said, outputs_said, products_said, most_stated}
 use Rattle.pla.specs.Products.{output_of, spelt, product_said, lacking, product}
@@ -153,11 +153,11 @@ module _ (n m : ℕ) (few : n ≤ mask_bits) where
   unfolding spelt
   space_on c r = refl
 
-  spelt_end : (c : Cube) (o : ℕ) → spelt n m (n + m) c o [] ≡ spelt_is.Product (sharing o c)
+  spelt_end : (c : Cube) (o : ℕ) → spelt n m (n + m) c o [] ≡ Some (sharing o c)
   unfolding spelt
   spelt_end c o = simp (eq-eqb (n + m) (n + m) refl)
 
-  pub product_back : (c : Cube) (o : ℕ) → Good n c → o < 2 ^ m → spelt n m 0 one 0 (cube_text n c ++ (32 ∷ outputs_text m o)) ≡ spelt_is.Product (sharing o c)
+  pub product_back : (c : Cube) (o : ℕ) → Good n c → o < 2 ^ m → spelt n m 0 one 0 (cube_text n c ++ (32 ∷ outputs_text m o)) ≡ Some (sharing o c)
   product_back c o g h =
       cube_read c g (32 ∷ outputs_text m o)
       ∙ space_on c (outputs_text m o)
@@ -273,32 +273,32 @@ number_rest x = (refl, solid_plain (decimal x) (decimal_solid x))
 
 module _ (n m count : ℕ) where
   inputs_say : n ≤ most_variables → line_says 1 nothing_said (line_of i_name (decimal n)) ≡ knows (partly n unsaid false)
-  unfolding named name_of same
+  unfolding named name_of
   inputs_say h =
       named_says 1 nothing_said (105 ∷ []) (32 ∷ decimal n) (refl, tt) (number_rest n) (no_letters_space (decimal n))
       ∙ ap (inputs_said nothing_said) (number_alone most_variables n h)
 
   outputs_say : 1 ≤ m → m ≤ output_count → line_says 2 (partly n unsaid false) (line_of o_name (decimal m)) ≡ knows (partly n m false)
-  unfolding named name_of same
+  unfolding named name_of
   outputs_say some h =
       named_says 2 (partly n unsaid false) (111 ∷ []) (32 ∷ decimal m) (refl, tt) (number_rest m) (no_letters_space (decimal m))
       ∙ ap (outputs_said (partly n unsaid false)) (number_alone output_count m h)
       ∙ simp (le-leb 1 m some)
 
   type_says : line_says 3 (partly n m false) (line_of type_name esop_word) ≡ knows (partly n m true)
-  unfolding named name_of same only_word first_word after_word letters blanks blank_from
+  unfolding named name_of only_word first_word after_word letters blanks blank_from
   type_says =
       named_says 3 (partly n m false) (116 ∷ 121 ∷ 112 ∷ 101 ∷ []) (32 ∷ esop_word) (refl, (refl, (refl, (refl, tt)))) (refl, (refl, (refl, (refl, (refl, tt)))))
       (no_letters_space esop_word)
 
   products_say : count ≤ most_stated → line_says 4 (partly n m true) (line_of p_name (decimal count)) ≡ knows (known n m count 0)
-  unfolding named name_of same
+  unfolding named name_of
   products_say h =
       named_says 4 (partly n m true) (112 ∷ []) (32 ∷ decimal count) (refl, tt) (number_rest count) (no_letters_space (decimal count))
       ∙ ap (products_said 4 (partly n m true)) (number_alone most_stated count h)
 
 end_says : (k : ℕ) (h : Header) → line_says k h e_name ≡ over
-unfolding named name_of same blank_from blanks
+unfolding named name_of blank_from blanks
 end_says k h = named_says k h (101 ∷ []) [] (refl, tt) tt no_letters
 
 -- ---- the lines in turn

@@ -1,4 +1,4 @@
-// A map written out.
+//! A map written out.
 #![tactic(auto)]
 
 ghost use Rattle.std.specs.Prelude.{◌≡◌, cond, eqb};
@@ -11,7 +11,7 @@ ghost use Rattle.pla_print.specs.Printing.{name_line, head_text, outputs_text, p
 use shared::{Shared, list};
 use text::{cubes, number, place};
 
-// A line with a name and its number at a place of a buffer, and the next place.
+/// A line with a name and its number at a place of a buffer, and the next place.
 fn put_named(out: &mut [u8], at: usize, name: &[u8], x: usize) -> usize
     ensures { Laid out.old at (name_line name.now (decimal x)) result out.new }
 {
@@ -21,7 +21,7 @@ fn put_named(out: &mut [u8], at: usize, name: &[u8], x: usize) -> usize
     place::put_byte(out, end, b'\n')
 }
 
-// The lines before the products, of which there are `count`.
+/// The lines before the products, of which there are `count`.
 fn put_head(out: &mut [u8], at: usize, n: u32, m: u32, count: usize) -> usize
     ensures { Laid out.old at (head_text n m count) result out.new }
 {
@@ -31,31 +31,26 @@ fn put_head(out: &mut [u8], at: usize, n: u32, m: u32, count: usize) -> usize
     put_named(out, last, b".p", count)
 }
 
-// The character of an output's bit.
+/// The character of an output's bit.
 fn mark(b: u32) -> u8
     ensures { result ≡ cond (eqb b 1) 49 48 }
 {
-    if b == 1 {
-        return b'1';
-    }
-    b'0'
+    if b == 1 { b'1' } else { b'0' }
 }
 
-// The characters of the outputs below m, output 0 first.
+/// The characters of the outputs below m, output 0 first.
+// Stays: a loop like that of `put_cube`; one over a closure would be no shorter than the two.
 fn put_outputs(out: &mut [u8], at: usize, m: u32, outputs: u32) -> usize
     ensures { Laid out.old at (outputs_text m outputs) result out.new }
 {
     let mut p = at;
-    let mut k: u32 = 0;
-    while k < m {
-        let next = place::put_byte(out, p, mark(bits::bit(outputs, k)));
-        p = next;
-        k += 1;
+    for k in 0..m {
+        p = place::put_byte(out, p, mark(bits::bit(outputs, k)));
     }
     p
 }
 
-// A line with a product.
+/// A line with a product.
 fn put_product(out: &mut [u8], at: usize, n: u32, m: u32, s: Shared) -> usize
     ensures { Laid out.old at (product_text n m s) result out.new }
 {
@@ -66,22 +61,19 @@ fn put_product(out: &mut [u8], at: usize, n: u32, m: u32, s: Shared) -> usize
     place::put_byte(out, last, b'\n')
 }
 
-// The lines of all products of a list.
+/// The lines of all products of a list.
 fn put_products(out: &mut [u8], at: usize, n: u32, m: u32, list: &[u8]) -> usize
     ensures { Laid out.old at (flat (product_text n m) (shares_of list.now)) result out.new }
 {
     let count = list.len() / list::SHARED_WIDTH;
     let mut p = at;
-    let mut i: usize = 0;
-    while i < count {
-        let next = put_product(out, p, n, m, list::record_at(list, i));
-        p = next;
-        i += 1;
+    for i in 0..count {
+        p = put_product(out, p, n, m, list::record_at(list, i));
     }
     p
 }
 
-// The text of a map of n inputs and m outputs, whose products are records of 12 bytes, laid to the front of a buffer, and the place after it.
+/// The text of a map of n inputs and m outputs, whose products are records of 12 bytes, laid to the front of a buffer, and the place after it.
 pub fn print(n: u32, m: u32, list: &[u8], out: &mut [u8]) -> usize
     ensures { Laid out.old 0 (pla_text n m (shares_of list.now)) result out.new }
 {

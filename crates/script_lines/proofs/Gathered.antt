@@ -9,7 +9,10 @@ use lib.Dec.{ltb}
 use lib.ListN.{length, take, drop, length-append, length-replicate}
 use borrow.Author.Tests.{ltb-true, ltb-false}
 use Rattle.lines.specs.Bytes.{index_of}
+use Rattle.std.specs.Prelude.{Result, Ok, Err}
 use Rattle.records.specs.declared.Refusal.{Refusal}
+use Rattle.records.specs.declared.reason.Reason.{Reason}
+use Rattle.records.specs.Reasons.{number_of}
 use Rattle.records.specs.Answers.{Outcome, accepted, refused, refusal}
 use Rattle.records.specs.Records.{Holds, image, filled, stored, zeros}
 use Rattle.records.proofs.Records.{holds_push, length_stored, capacity_fits}
@@ -20,10 +23,8 @@ use Rattle.lines.specs.Lines.{newline, content}
 use Rattle.lines.specs.Gathering.{most_text, Says, knows, has, over, bad, Progress}
 use Rattle.lines.specs.Gathering as progress_is
 use Rattle.lines.proofs.Gathering.{Gathering, gathering_none, gathering_end, gathering_knows, gathering_bad, gathering_takes, gathering_full, gathered_long, gathered_whole}
-use Rattle.script_lines.specs.declared.Reached.{Reached}
-use Rattle.script_lines.specs.declared.Reached.TheVariants as reached_is
 use Rattle.script_lines.specs.Scripts.{step_before, line_says, each, read_through, at_end, script_of, step_capacity, told_of, steps_of, script_outcome, script_after}
-use Rattle.script_lines.specs.Inside.{reached_by, stored_by, whole_of}
+use Rattle.script_lines.specs.Inside.{numbered, reached_by, stored_by, whole_of}
 use Rattle.script_lines.proofs.Saying.{Sayable, says_sayable}
 
 -- a clear buffer holds no step
@@ -107,7 +108,7 @@ module _ {t : List ℕ} {bytes : ℕ} {out : List ℕ} {at n k : ℕ} (g : Readi
           gathering = gathering_takes line_says each 35 (step_capacity bytes) g.gathering o e (said d) refl (omega (arith, g.count));
         }
 
-    on_says : (s : Says (Unit {0}) StepRecord) → step_before (content line) ≡ s → Sayable s → {m : ℕ} {out' : List ℕ} → reached_by room n s ≡ reached_is.Steps m
+    on_says : (s : Says (Unit {0}) StepRecord) → step_before (content line) ≡ s → Sayable s → {m : ℕ} {out' : List ℕ} → reached_by room n s ≡ Ok m
         → out' ≡ stored_by room n out s → Reading t bytes out' (end + 1) m (k + 1)
     on_says (knows u) d w {m} em eo =
         let same : n ≡ m = cc in
@@ -120,7 +121,7 @@ module _ {t : List ℕ} {bytes : ℕ} {out : List ℕ} {at n k : ℕ} (g : Readi
         })
     on_says (has u x) d w {m} {out'} em eo = go (ltb n room) refl em eo
       where
-        go : (z : Bool) → ltb n room ≡ z → cond z (reached_is.Steps (n + 1)) (reached_is.Refused 35) ≡ reached_is.Steps m
+        go : (z : Bool) → ltb n room ≡ z → cond {A = Result ℕ ℕ} z (Ok (n + 1)) (Err 35) ≡ Ok m
             → out' ≡ cond z (stored step_records out n (narrow_step x)) out → Reading t bytes out' (end + 1) m (k + 1)
         go true h f i =
             let same : n + 1 ≡ m = cc in
@@ -129,16 +130,16 @@ module _ {t : List ℕ} {bytes : ℕ} {out : List ℕ} {at n k : ℕ} (g : Readi
     on_says over d w em eo = absurd w
     on_says (bad number) d w em eo = let z : ◌≡◌ {A = ℕ} 0 1 = cc in absurd (omega arith)
 
-    pub reading_more : {r : Reached} {out' : List ℕ} → r ≡ reached_by room n (step_before (content line)) → out' ≡ stored_by room n out (step_before (content line))
-        → {m : ℕ} → r ≡ reached_is.Steps m → Reading t bytes out' (end + 1) m (k + 1)
-    reading_more er' eo em = on_says (step_before (content line)) refl (says_sayable (content line)) (sym er' ∙ em) eo
+    pub reading_more : {r : Result ℕ Reason} {out' : List ℕ} → numbered r ≡ reached_by room n (step_before (content line)) → out' ≡ stored_by room n out (step_before (content line))
+        → {m : ℕ} → r ≡ Ok m → Reading t bytes out' (end + 1) m (k + 1)
+    reading_more er' eo em = on_says (step_before (content line)) refl (says_sayable (content line)) (sym er' ∙ ap numbered em) eo
 
-    off_says : (s : Says (Unit {0}) StepRecord) → step_before (content line) ≡ s → Sayable s → {number : ℕ} → reached_by room n s ≡ reached_is.Refused number
+    off_says : (s : Says (Unit {0}) StepRecord) → step_before (content line) ≡ s → Sayable s → {number : ℕ} → reached_by room n s ≡ Err number
         → whole_of bytes t ≡ progress_is.refused_by number k
     off_says (knows u) d w em = let z : ◌≡◌ {A = ℕ} 0 1 = cc in absurd (omega arith)
     off_says (has u x) d w {number} em = go (ltb n room) refl em
       where
-        go : (z : Bool) → ltb n room ≡ z → cond z (reached_is.Steps (n + 1)) (reached_is.Refused 35) ≡ reached_is.Refused number
+        go : (z : Bool) → ltb n room ≡ z → cond {A = Result ℕ ℕ} z (Ok (n + 1)) (Err 35) ≡ Err number
             → whole_of bytes t ≡ progress_is.refused_by number k
         go true h f = let z : ◌≡◌ {A = ℕ} 0 1 = cc in absurd (omega arith)
         go false h f =
@@ -151,11 +152,11 @@ module _ {t : List ℕ} {bytes : ℕ} {out : List ℕ} {at n k : ℕ} (g : Readi
         gathering_bad line_says each 35 (step_capacity bytes) g.gathering o e (said d) ∙ ap (λ (m : ℕ). progress_is.refused_by m k) same
 
     -- a refusal, and the buffer cleared
-    module _ {r : Reached} (er' : r ≡ reached_by room n (step_before (content line))) {number : ℕ} (em : r ≡ reached_is.Refused number) where
-      refused_here : whole_of bytes t ≡ progress_is.refused_by number k
-      refused_here = off_says (step_before (content line)) refl (says_sayable (content line)) (sym er' ∙ em)
+    module _ {r : Result ℕ Reason} (er' : numbered r ≡ reached_by room n (step_before (content line))) {why : Reason} (em : r ≡ Err why) where
+      refused_here : whole_of bytes t ≡ progress_is.refused_by (number_of why) k
+      refused_here = off_says (step_before (content line)) refl (says_sayable (content line)) (sym er' ∙ ap numbered em)
 
-      pub line_told : {x : Refusal} → x ≡ refusal number k → refused x ≡ told_of (at_end (whole_of bytes t))
+      pub line_told : {x : Refusal} → x ≡ refusal (number_of why) k → refused x ≡ told_of (at_end (whole_of bytes t))
       line_told ex = ap refused ex ∙ sym (ap (λ (p : Progress (Unit {0}) StepRecord). told_of (at_end p)) refused_here)
 
       pub line_cleared : {b b' : List ℕ} → b' ≡ stored_by room n out (step_before (content line)) → b ≡ zeros (length b')

@@ -17,7 +17,6 @@ use Rattle.steps.specs.Steps.{Step, meaning}
 use Rattle.steps.specs.Steps as step_of
 use Rattle.script.specs.Scripts.{fits, record_of, field, uses_v, uses_literal, most_steps}
 use Rattle.script.proofs.Scripts.{Fitting, fits_parts, record_meaning, same_record}
-use Rattle.text.specs.declared.ReadStep.TheVariants as step_is
 use Rattle.text.specs.Blanks.{blanks, past_blanks}
 use Rattle.text.specs.Numbers.{decimal}
 use Rattle.text.specs.Steps.{drop_word, join_word, split_word, turn_word, l_word, variable_lead, field_text, step_text}
@@ -31,6 +30,7 @@ use Rattle.lines.proofs.Printed.{solid, Plain, solid_plain, plain_append, lines_
 use Rattle.script_lines.specs.Scripts.{merge_operation, merge_word, line_text, script_text, any_step_in, step_before, line_says, each, read_through, made, at_end, script_of}
 use Rattle.script_lines.specs.Inside.{any_step_text}
 use Rattle.script_lines.proofs.Printing.{text_short}
+use Rattle.text.specs.Reading.{read_to}
 use Rattle.script_lines.proofs.Saying.{reads_merge, reads_plain, says_step, merge_read}
 
 -- ---- what a line can hold: a merge, or a step that passes rule 9 over 256 variables, whose places have two bytes each
@@ -96,7 +96,7 @@ no_m (step_of.L v b) e = omega arith
 record Backed (r : StepRecord) : Type 0 where
   begun : Begun (any_step_text r)
   plain : Plain (any_step_text r)
-  back : any_step_in (any_step_text r) 0 ≡ step_is.Read r (length (any_step_text r))
+  back : any_step_in (any_step_text r) 0 ≡ read_to r (length (any_step_text r))
   bytes : Bytes r
 
 -- a field that is used passes its test, and one that is not is zero: either way it is within its bytes
@@ -124,14 +124,14 @@ module _ (r : StepRecord) (wi : r.i ≤ 65535) (wj : r.j ≤ 65535) where
           literal_byte = byte_of (uses_literal r.op) (leb r.literal 1) r.literal 255 (λ e. omega (arith, leb-true r.literal 1 e)) p.literal_fits;
         }
 
-    plain_read : any_step_in (step_text (meaning r)) 0 ≡ step_is.Read r (length (step_text (meaning r)))
+    plain_read : any_step_in (step_text (meaning r)) 0 ≡ read_to r (length (step_text (meaning r)))
     plain_read =
         let s : Step = meaning r in
         let end : 0 + length (step_text s) ≡ length (step_text s) = omega arith in
         sym (reads_plain (step_text s) 0 refl (no_m s) refl)
         ∙ step_back s (subst Bytes (sym same) bytes) (step_text s) [] 0 refl (sym (append-nil (step_text s)))
-        ∙ ap (λ (x : StepRecord). step_is.Read x (0 + length (step_text s))) same
-        ∙ ap (step_is.Read r) end
+        ∙ ap (λ (x : StepRecord). read_to x (0 + length (step_text s))) same
+        ∙ ap (read_to r) end
 
     plain_backed : Backed r
     plain_backed =
@@ -139,7 +139,7 @@ module _ (r : StepRecord) (wi : r.i ≤ 65535) (wj : r.j ≤ 65535) where
         record {
           begun = subst Begun e (step_begun (meaning r));
           plain = subst Plain e (step_plain (meaning r));
-          back = subst (λ (c : List ℕ). any_step_in c 0 ≡ step_is.Read r (length c)) e plain_read;
+          back = subst (λ (c : List ℕ). any_step_in c 0 ≡ read_to r (length c)) e plain_read;
           bytes = bytes;
         }
 
@@ -159,14 +159,14 @@ module _ (r : StepRecord) (wi : r.i ≤ 65535) (wj : r.j ≤ 65535) where
         same_record _ r (sym (eqb-true r.op merge_operation h)) (sym (eqb-true r.v 0 a.0)) refl refl
         (sym (eqb-true r.literal 0 b.0)) (sym (eqb-true r.zero 0 b.1))
 
-    merge_back : any_step_in (merge_word ++ places) 0 ≡ step_is.Read r (length (merge_word ++ places))
+    merge_back : any_step_in (merge_word ++ places) 0 ≡ read_to r (length (merge_word ++ places))
     merge_back =
         let c : List ℕ = merge_word ++ places in
         let at : drop 5 c ≡ places ++ [] = sym (append-nil places) in
         let two : Two [] [] 65535 65535 c 5 r.i r.j (length c) =
         two_back [] [] refl refl 65535 65535 r.i r.j wi wj c [] 5 (length c) refl (omega arith) at in
         sym (reads_merge c 0 refl refl (merge_read c 0 refl (word_back merge_operation merge_word c places 0 5 refl refl) refl two.first refl two.second))
-        ∙ ap (λ (x : StepRecord). step_is.Read x (length c)) is_merge
+        ∙ ap (λ (x : StepRecord). read_to x (length c)) is_merge
 
     merge_backed : Backed r
     merge_backed =
@@ -176,7 +176,7 @@ module _ (r : StepRecord) (wi : r.i ≤ 65535) (wj : r.j ≤ 65535) where
         record {
           begun = subst Begun e begun_merge;
           plain = subst Plain e plain_merge;
-          back = subst (λ (c : List ℕ). any_step_in c 0 ≡ step_is.Read r (length c)) e merge_back;
+          back = subst (λ (c : List ℕ). any_step_in c 0 ≡ read_to r (length c)) e merge_back;
           bytes = subst Bytes is_merge (record { v_byte = omega arith; i_word = wi; j_word = wj; literal_byte = omega arith });
         }
 

@@ -3,75 +3,53 @@
 use mathlib.Core.Path.{◌≡◌, refl, sym, ap, ◌∙◌}
 use mathlib.Core.Bool.{Bool, true, false, cond, ◌&&◌}
 use mathlib.Core.List.{List, [], ◌∷◌}
-use Prim.Native.Nat.{ℕ, zero, ◌+◌, ◌%◌, ◌≤◌, ◌<◌}
+use Prim.Native.Nat.{ℕ, ◌+◌, ◌%◌, ◌≤◌}
 use native.Mathlib.Omega.{arith}
 use lib.Dec.{eqb, ltb}
 use lib.ListN.{length, get_or, take}
-use borrow.Author.Tests.{eq-eqb, ne_eqb, lt-ltb, le-ltb}
+use borrow.Author.Tests.{eq-eqb, ne_eqb}
+use Rattle.std.specs.Prelude.{Ok, Err}
 use Rattle.lines.specs.Bytes.{index_of}
-use Rattle.records.specs.Records.{stored}
 use Rattle.steps.specs.declared.StepRecord.{StepRecord}
-use Rattle.script.specs.Scripts.{step_records, place_size, narrow_step, uses_v, uses_i, uses_j, uses_literal}
+use Rattle.script.specs.Scripts.{place_size, narrow_step, uses_v, uses_i, uses_j, uses_literal}
 use Rattle.script.proofs.Scripts.{same_record}
-use Rattle.text.specs.declared.ReadNumber.{ReadNumber}
-use Rattle.text.specs.declared.ReadNumber.TheVariants as number_is
-use Rattle.text.specs.declared.ReadStep.{ReadStep}
-use Rattle.text.specs.declared.ReadStep.TheVariants as step_is
 use Rattle.text.specs.Blanks.{past_blanks}
 use Rattle.text.specs.Steps.{variable_lead}
-use Rattle.text.specs.Reading.{word_in, on_field, field_at, operation_at, fields_at, step_in}
+use Rattle.text.specs.Reading.{word_in, on_read, field_at, operation_at, fields_at, step_in, Reading, read_to, wrong_at}
 use Rattle.text.proofs.Fields.{AtMost, field_most}
 use Rattle.lines.specs.Lines.{hash, content}
 use Rattle.lines.specs.Words.{blank_from}
 use Rattle.lines.specs.Gathering.{Says, knows, has, over, bad}
-use Rattle.script_lines.specs.declared.Line.{Line}
-use Rattle.script_lines.specs.declared.Line.TheVariants as line_variants
-use Rattle.script_lines.specs.declared.Reached.TheVariants as reached_is
 use Rattle.script_lines.specs.Scripts.{merge_operation, merge_word, merge_in, any_step_in, alone, step_before}
-use Rattle.script_lines.specs.Inside.{said_by, reached_by, stored_by}
 
 -- ---- a word that was read stands for its number
 
-abbrev Stands : ℕ → ReadNumber → Type 0
-Stands number (number_is.Read x p) = x ≡ number
-Stands number (number_is.Wrong p) = Unit {0}
+abbrev Stands : ℕ → Reading ℕ → Type 0
+Stands number (Ok a) = a.value ≡ number
+Stands number (Err w) = Unit {0}
 
 word_stands : (number : ℕ) (w t : List ℕ) (p : ℕ) → Stands number (word_in number w t p)
 unfolding word_in
 word_stands number [] t p = refl
 word_stands number (x ∷ w) t p = go (ltb p (length t) && eqb (get_or t p 0) x) (word_in number w t (p + 1)) (word_stands number w t (p + 1))
   where
-    go : (s : Bool) (r : ReadNumber) → Stands number r → Stands number (cond s r (number_is.Wrong p))
+    go : (s : Bool) (r : Reading ℕ) → Stands number r → Stands number (cond s r (wrong_at p))
     go true r h = h
     go false r h = tt
 
 -- ---- a merge: its word, and its two places
 
-module _ (t : List ℕ) (p : ℕ) {f : ReadNumber} (e : f ≡ word_in merge_operation merge_word t p) where
-  pub no_merge : {q : ℕ} → f ≡ number_is.Wrong q → step_is.Wrong q ≡ merge_in t p
+module _ (t : List ℕ) (p : ℕ) {f : Reading ℕ} (e : f ≡ word_in merge_operation merge_word t p) {x a : ℕ} (w : f ≡ read_to x a)
+    {g : Reading ℕ} (ei : g ≡ field_at true [] 65535 t a) {i b : ℕ} (ri : g ≡ read_to i b) {h : Reading ℕ} (ej : h ≡ field_at true [] 65535 t b) where
+  pub merge_read : {j z : ℕ} → h ≡ read_to j z → read_to (record { op = merge_operation; v = 0; i = i; j = j; literal = 0; zero = 0 }) z ≡ merge_in t p
   unfolding merge_in
-  no_merge d = rw (sym e ∙ d)
-
-  module _ {x a : ℕ} (w : f ≡ number_is.Read x a) {g : ReadNumber} (ei : g ≡ field_at true [] 65535 t a) where
-    pub no_first : {q : ℕ} → g ≡ number_is.Wrong q → step_is.Wrong q ≡ merge_in t p
-    unfolding merge_in
-    no_first d = rw (sym e ∙ w, sym ei ∙ d)
-
-    module _ {i b : ℕ} (ri : g ≡ number_is.Read i b) {h : ReadNumber} (ej : h ≡ field_at true [] 65535 t b) where
-      pub no_second : {q : ℕ} → h ≡ number_is.Wrong q → step_is.Wrong q ≡ merge_in t p
-      unfolding merge_in
-      no_second d = rw (sym e ∙ w, sym ei ∙ ri, sym ej ∙ d)
-
-      pub merge_read : {j z : ℕ} → h ≡ number_is.Read j z
-          → step_is.Read (record { op = merge_operation; v = 0; i = i; j = j; literal = 0; zero = 0 }) z ≡ merge_in t p
-      unfolding merge_in
-      merge_read d =
-          let six : merge_operation ≡ x = sym (rw (sym e ∙ w) at (word_stands merge_operation merge_word t p)) in
-          rw (sym e ∙ w, sym ei ∙ ri, sym ej ∙ d, six)
+  merge_read d =
+      let six : merge_operation ≡ x = sym (rw (sym e ∙ w) at (word_stands merge_operation merge_word t p)) in
+      rw (sym e ∙ w, sym ei ∙ ri, sym ej ∙ d, six)
 
 -- ---- any step, by its first letter
 
-module _ (t : List ℕ) (p : ℕ) {b : ℕ} (e : b ≡ get_or t p 0) {r : ReadStep} where
+module _ (t : List ℕ) (p : ℕ) {b : ℕ} (e : b ≡ get_or t p 0) {r : Reading StepRecord} where
   pub reads_merge : b ≡ 109 → r ≡ merge_in t p → r ≡ any_step_in t p
   unfolding any_step_in
   reads_merge h d = d ∙ sym (rw (← e, eq-eqb b 109 h))
@@ -87,12 +65,12 @@ module _ (c : List ℕ) {s : Bool} (d : s ≡ blank_from c 0) where
   unfolding step_before
   says_nothing h = rw (sym d ∙ h)
 
-  module _ (h : s ≡ false) {p : ℕ} (g : p ≡ past_blanks c 0) {r : ReadStep} (e : r ≡ any_step_in c p) where
-    pub says_wrong : {q : ℕ} → r ≡ step_is.Wrong q → bad 34 ≡ step_before c
+  module _ (h : s ≡ false) {p : ℕ} (g : p ≡ past_blanks c 0) {r : Reading StepRecord} (e : r ≡ any_step_in c p) where
+    pub says_wrong : {q : ℕ} → r ≡ wrong_at q → bad 34 ≡ step_before c
     unfolding step_before
     says_wrong k = rw (sym d ∙ h, ← g, sym e ∙ k)
 
-    module _ {x : StepRecord} {q : ℕ} (k : r ≡ step_is.Read x q) {u : Bool} (f : u ≡ blank_from c q) where
+    module _ {x : StepRecord} {q : ℕ} (k : r ≡ read_to x q) {u : Bool} (f : u ≡ blank_from c q) where
       pub says_step : u ≡ true → has tt x ≡ step_before c
       unfolding step_before
       says_step l = rw (sym d ∙ h, ← g, sym e ∙ k, sym f ∙ l)
@@ -107,56 +85,24 @@ content_said l e d = d ∙ ap (λ (k : ℕ). step_before (take k l)) e
 
 -- ---- one line of the script, in the buffer
 
-module _ (room n : ℕ) (b : List ℕ) {m : Line} {s : Says (Unit {0}) StepRecord} (e : said_by m ≡ s) where
-  said_as : {m' : Line} → m ≡ m' → said_by m' ≡ s
-  said_as d = sym (ap said_by d) ∙ e
-
-  pub nothing_reached : m ≡ line_variants.Nothing → reached_is.Steps n ≡ reached_by room n s
-  nothing_reached d = ap (reached_by room n) (said_as d)
-
-  pub nothing_stored : m ≡ line_variants.Nothing → b ≡ stored_by room n b s
-  nothing_stored d = ap (stored_by room n b) (said_as d)
-
-  pub wrong_reached : m ≡ line_variants.Wrong → reached_is.Refused 34 ≡ reached_by room n s
-  wrong_reached d = ap (reached_by room n) (said_as d)
-
-  pub wrong_stored : m ≡ line_variants.Wrong → b ≡ stored_by room n b s
-  wrong_stored d = ap (stored_by room n b) (said_as d)
-
-  module _ {x : StepRecord} (d : m ≡ line_variants.Step x) where
-    says_x : has tt x ≡ s
-    says_x = said_as d
-
-    pub full_reached : room ≤ n → reached_is.Refused 35 ≡ reached_by room n s
-    full_reached h = rw (← says_x, le-ltb n room h)
-
-    pub full_stored : room ≤ n → b ≡ stored_by room n b s
-    full_stored h = rw (← says_x, le-ltb n room h)
-
-    pub step_reached : n < room → reached_is.Steps (n + 1) ≡ reached_by room n s
-    step_reached h = rw (← says_x, lt-ltb n room h)
-
-    pub step_stored : n < room → {b' : List ℕ} → b' ≡ stored step_records b n (narrow_step x) → b' ≡ stored_by room n b s
-    step_stored h k = k ∙ rw (← says_x, lt-ltb n room h)
-
 -- ---- a step that was read has places of at most 65535, so that nothing of it is cut
 
-abbrev Uncut : ReadStep → Type 0
-Uncut (step_is.Read r p) = narrow_step r ≡ r
-Uncut (step_is.Wrong p) = Unit {0}
+abbrev Uncut : Reading StepRecord → Type 0
+Uncut (Ok a) = narrow_step a.value ≡ a.value
+Uncut (Err w) = Unit {0}
 
-record Whole (r : ReadStep) : Type 0 where
+record Whole (r : Reading StepRecord) : Type 0 where
   uncut : Uncut r
 
-on_any : (r : ReadNumber) {k : ℕ → ℕ → ReadStep} → ((x p : ℕ) → Whole (k x p)) → Whole (on_field r k)
-on_any (number_is.Read x p) f = f x p
-on_any (number_is.Wrong p) f = record { uncut = tt }
+on_any : (r : Reading ℕ) {k : ℕ → ℕ → Reading StepRecord} → ((x p : ℕ) → Whole (k x p)) → Whole (on_read r k)
+on_any (Ok a) f = f a.value a.next
+on_any (Err w) f = record { uncut = tt }
 
-on_most : (most : ℕ) (r : ReadNumber) → AtMost most r → {k : ℕ → ℕ → ReadStep} → ((x p : ℕ) → x ≤ most → Whole (k x p)) → Whole (on_field r k)
-on_most most (number_is.Read x p) h f = f x p h
-on_most most (number_is.Wrong p) h f = record { uncut = tt }
+on_most : (most : ℕ) (r : Reading ℕ) → AtMost most r → {k : ℕ → ℕ → Reading StepRecord} → ((x p : ℕ) → x ≤ most → Whole (k x p)) → Whole (on_read r k)
+on_most most (Ok a) h f = f a.value a.next h
+on_most most (Err w) h f = record { uncut = tt }
 
-places_whole : (op v i j literal p : ℕ) → i ≤ 65535 → j ≤ 65535 → Whole (step_is.Read (record { op = op; v = v; i = i; j = j; literal = literal; zero = 0 }) p)
+places_whole : (op v i j literal p : ℕ) → i ≤ 65535 → j ≤ 65535 → Whole (read_to (record { op = op; v = v; i = i; j = j; literal = literal; zero = 0 }) p)
 places_whole op v i j literal p f g =
     let ei : i % place_size ≡ i = omega arith in
     let ej : j % place_size ≡ j = omega arith in
@@ -195,13 +141,13 @@ Sayable (has u r) = narrow_step r ≡ r
 Sayable over = ⊥
 Sayable (bad number) = Unit {0}
 
-alone_sayable : (c : List ℕ) (r : ReadStep) → Uncut r → Sayable (alone c r)
-alone_sayable c (step_is.Read r p) h = go (blank_from c p)
+alone_sayable : (c : List ℕ) (r : Reading StepRecord) → Uncut r → Sayable (alone c r)
+alone_sayable c (Ok a) h = go (blank_from c a.next)
   where
-    go : (s : Bool) → Sayable (cond s (has tt r) (bad 34))
+    go : (s : Bool) → Sayable (cond s (has tt a.value) (bad 34))
     go true = h
     go false = tt
-alone_sayable c (step_is.Wrong p) h = tt
+alone_sayable c (Err w) h = tt
 
 pub says_sayable : (c : List ℕ) → Sayable (step_before c)
 unfolding step_before

@@ -1,16 +1,14 @@
 -- Scripts as text. docs/TEXTS.md, "A script": "one step a line: `drop 0 1`, `join 1 2`, `split x2 0`, `turn x0 0 1`, `L x0 1`, `merge 0 1`; comments, blank lines".
 -- Assumes nothing.
-use Rattle.std.specs.Prelude.{Bool, true, cond, List, [], ◌∷◌, ◌++◌, ℕ, eqb, length, get_or}
+use Rattle.std.specs.Prelude.{Bool, true, cond, List, [], ◌∷◌, ◌++◌, ℕ, eqb, length, get_or, Ok, Err}
 use Rattle.records.specs.Records.{flat, capacity_of, image}
 use Rattle.records.specs.Answers.{Outcome, accepted, refused, refusal}
 use Rattle.steps.specs.declared.StepRecord.{StepRecord}
 use Rattle.steps.specs.Steps.{meaning}
 use Rattle.script.specs.Scripts.{step_records, most_steps}
-use Rattle.text.specs.declared.ReadStep.{ReadStep}
-use Rattle.text.specs.declared.ReadStep.TheVariants as step_is
 use Rattle.text.specs.Blanks.{past_blanks}
 use Rattle.text.specs.Steps.{field_text, step_text}
-use Rattle.text.specs.Reading.{word_in, on_field, field_at, step_in}
+use Rattle.text.specs.Reading.{word_in, on_read, field_at, step_in, Reading, read_to}
 use Rattle.lines.specs.Lines.{content}
 use Rattle.lines.specs.Words.{blank_from}
 use Rattle.lines.specs.Gathering.{Says, knows, has, bad, Progress, gathered}
@@ -35,21 +33,21 @@ script_text l = flat line_text l
 -- ---- read
 
 -- a merge, of two places
-unfoldable pub merge_in : List ℕ → ℕ → ReadStep
+unfoldable pub merge_in : List ℕ → ℕ → Reading StepRecord
 merge_in t p =
-    on_field (word_in merge_operation merge_word t p) (λ op a.
-    on_field (field_at true [] 65535 t a) (λ i b.
-    on_field (field_at true [] 65535 t b) (λ j z.
-    step_is.Read (record { op = op; v = 0; i = i; j = j; literal = 0; zero = 0 }) z)))
+    on_read (word_in merge_operation merge_word t p) (λ op a.
+    on_read (field_at true [] 65535 t a) (λ i b.
+    on_read (field_at true [] 65535 t b) (λ j z.
+    read_to (record { op = op; v = 0; i = i; j = j; literal = 0; zero = 0 }) z)))
 
 -- a merge, or one of the five steps of a plain script
-unfoldable pub any_step_in : List ℕ → ℕ → ReadStep
+unfoldable pub any_step_in : List ℕ → ℕ → Reading StepRecord
 any_step_in t p = cond (eqb (get_or t p 0) 109) (merge_in t p) (step_in t p)
 
 -- a step with nothing but blanks after it; else 34
-abbrev pub alone : List ℕ → ReadStep → Says (Unit {0}) StepRecord
-alone c (step_is.Read r p) = cond (blank_from c p) (has tt r) (bad 34)
-alone c (step_is.Wrong p) = bad 34
+abbrev pub alone : List ℕ → Reading StepRecord → Says (Unit {0}) StepRecord
+alone c (Ok a) = cond (blank_from c a.next) (has tt a.value) (bad 34)
+alone c (Err w) = bad 34
 
 -- what a line says before its comment: nothing, or a step
 unfoldable pub step_before : List ℕ → Says (Unit {0}) StepRecord

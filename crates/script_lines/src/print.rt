@@ -1,4 +1,4 @@
-// A script written out.
+//! A script written out.
 ghost use Rattle.records.specs.Records.{list_of};
 ghost use Rattle.script.specs.Scripts.{step_records};
 ghost use Rattle.text.specs.Places.{Laid};
@@ -10,7 +10,7 @@ use script::record;
 use steps::StepRecord;
 use text::{place, step};
 
-// A step at a place of a buffer, and the next place.
+/// A step at a place of a buffer, and the next place.
 fn put_any_step(out: &mut [u8], at: usize, x: StepRecord) -> usize
     ensures { Laid out.old at (any_step_text x) result out.new }
 {
@@ -22,7 +22,7 @@ fn put_any_step(out: &mut [u8], at: usize, x: StepRecord) -> usize
     step::put_step(out, at, x)
 }
 
-// A step and the end of its line.
+/// A step and the end of its line.
 fn put_line(out: &mut [u8], at: usize, x: StepRecord) -> usize
     ensures { Laid out.old at (line_text x) result out.new }
 {
@@ -30,17 +30,14 @@ fn put_line(out: &mut [u8], at: usize, x: StepRecord) -> usize
     place::put_byte(out, end, b'\n')
 }
 
-// The text of a script, whose steps are records of 8 bytes, laid to the front of a buffer, and the place after it.
+/// The text of a script, whose steps are records of 8 bytes, laid to the front of a buffer, and the place after it.
 pub fn print(script: &[u8], out: &mut [u8]) -> usize
     ensures { Laid out.old 0 (script_text (list_of step_records script.now)) result out.new }
 {
     let count = script.len() / record::STEP_WIDTH;
-    let mut p: usize = 0;
-    let mut k: usize = 0;
-    while k < count {
-        let next = put_line(out, p, record::step_at(script, k));
-        p = next;
-        k += 1;
+    let mut p = 0;
+    for k in 0..count {
+        p = put_line(out, p, record::step_at(script, k));
     }
     p
 }

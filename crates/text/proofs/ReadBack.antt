@@ -21,16 +21,12 @@ use Rattle.steps.specs.Steps.{Step, meaning}
 use Rattle.steps.specs.Steps as step_of
 use Rattle.script.specs.Scripts.{fits, record_of}
 use Rattle.script.proofs.Scripts.{record_meaning}
-use Rattle.text.specs.declared.ReadNumber.{ReadNumber}
-use Rattle.text.specs.declared.ReadNumber.TheVariants as number_is
-use Rattle.text.specs.declared.ReadCube.TheVariants as cube_is
-use Rattle.text.specs.declared.ReadStep.TheVariants as step_is
 use Rattle.text.specs.Places.{Laid}
 use Rattle.text.specs.Blanks.{blank, blanks, past_blanks}
 use Rattle.text.specs.Numbers.{is_digit, decimal_by, decimal}
 use Rattle.text.specs.Cubes.{glyph, code_of_glyph, cube_text}
 use Rattle.text.specs.Steps.{drop_word, join_word, split_word, turn_word, l_word, variable_lead, field_text, step_text}
-use Rattle.text.specs.Reading.{word_in, digits_from, number_in, codes_from, cube_in, gap_in, field_at, operation_at, step_in}
+use Rattle.text.specs.Reading.{word_in, digits_from, number_in, codes_from, cube_in, gap_in, field_at, operation_at, step_in, read_to, wrong_at}
 use Rattle.text.proofs.Laying.{Stands, stands, length_cube}
 use Rattle.text.proofs.Fields.{reads_drop, reads_join, reads_split, reads_turn, reads_l, gap_ends, field_unused, field_number, fields_read, step_read}
 
@@ -53,12 +49,12 @@ char t p x s e = record {
 
 -- ---- words
 
-pub word_back : (number : ℕ) (w t rest : List ℕ) (p q : ℕ) → q ≡ p + length w → drop p t ≡ w ++ rest → word_in number w t p ≡ number_is.Read number q
+pub word_back : (number : ℕ) (w t rest : List ℕ) (p q : ℕ) → q ≡ p + length w → drop p t ≡ w ++ rest → word_in number w t p ≡ read_to number q
 unfolding word_in
-word_back number [] t rest p q l e = let same : p ≡ q = omega arith in ap (number_is.Read number) same
+word_back number [] t rest p q l e = let same : p ≡ q = omega arith in ap (read_to number) same
 word_back number (x ∷ w) t rest p q l e =
     let c : Char t p x (w ++ rest) = char t p x (w ++ rest) e in
-    let on : word_in number w t (p + 1) ≡ number_is.Read number q = word_back number w t rest (p + 1) q (omega arith) c.rest in
+    let on : word_in number w t (p + 1) ≡ read_to number q = word_back number w t rest (p + 1) q (omega arith) c.rest in
     simp (lt-ltb p (length t) c.here, eq-eqb (get_or t p 0) x c.is) on
 
 -- what stands after a text
@@ -121,14 +117,14 @@ first_digit (suc turns) x h rest =
     ∙ first_digit turns (x / 10) (omega arith) ((48 + x % 10) ∷ rest)))
     (below_or x 10)
 
-number_ends : (most : ℕ) (rest : List ℕ) (q x : ℕ) → is_digit (get_or rest 0 0) ≡ false → digits_from most rest q x ≡ number_is.Read x q
+number_ends : (most : ℕ) (rest : List ℕ) (q x : ℕ) → is_digit (get_or rest 0 0) ≡ false → digits_from most rest q x ≡ read_to x q
 unfolding digits_from
 number_ends most [] q x h = refl
 number_ends most (b ∷ rest) q x h = simp h
 
 -- a number reads back, where no digit follows it
 module _ (most x : ℕ) (few : x ≤ most) (t rest : List ℕ) (p : ℕ) (none : is_digit (get_or rest 0 0) ≡ false) where
-  pub number_back : drop p t ≡ decimal x ++ rest → number_in most t p ≡ number_is.Read x (p + length (decimal x))
+  pub number_back : drop p t ≡ decimal x ++ rest → number_in most t p ≡ read_to x (p + length (decimal x))
   unfolding number_in
   number_back e =
       let first : is_digit (get_or t p 0) ≡ true = ap is_digit (first_of t p ∙ ap (λ (l : List ℕ). get_or l 0 0) e) ∙ first_digit x x (omega arith) rest in
@@ -155,7 +151,7 @@ blanks_none [] h = refl
 blanks_none (b ∷ s) h = simp h
 
 -- one space is a gap
-gap_back : (t s : List ℕ) (p : ℕ) → blank (get_or s 0 0) ≡ false → drop p t ≡ 32 ∷ s → gap_in t p ≡ number_is.Read 0 (p + 1)
+gap_back : (t s : List ℕ) (p : ℕ) → blank (get_or s 0 0) ≡ false → drop p t ≡ 32 ∷ s → gap_in t p ≡ read_to 0 (p + 1)
 unfolding blanks
 gap_back t s p none e =
     let one_more : blanks (drop p t) ≡ suc (blanks s) = rw e in
@@ -165,7 +161,7 @@ gap_back t s p none e =
 -- a field as it is printed: a space, a lead and a number
 module _ (lead : List ℕ) (plain : blank (get_or lead 0 0) ≡ false) where
   pub field_back : (most x : ℕ) → x ≤ most → (t rest : List ℕ) (p q : ℕ) → is_digit (get_or rest 0 0) ≡ false → q ≡ p + length (field_text lead x)
-      → drop p t ≡ field_text lead x ++ rest → field_at true lead most t p ≡ number_is.Read x q
+      → drop p t ≡ field_text lead x ++ rest → field_at true lead most t p ≡ read_to x q
   field_back most x few t rest p q none l e =
       let d : drop p t ≡ 32 ∷ (lead ++ (decimal x ++ rest)) = e ∙ ap (λ (s : List ℕ). 32 ∷ s) (append_assoc lead (decimal x) rest) in
       let at : drop (p + 1) t ≡ lead ++ (decimal x ++ rest) = (char t p 32 (lead ++ (decimal x ++ rest)) d).rest in
@@ -174,13 +170,13 @@ module _ (lead : List ℕ) (plain : blank (get_or lead 0 0) ≡ false) where
       let long : z + length (decimal x) ≡ q = omega (arith, length-append lead (decimal x)) in
       sym (field_number lead most t p true refl refl (gap_back t (lead ++ (decimal x ++ rest)) p (lead_no_blank lead plain x rest) d)
       refl (word_back 0 lead t (decimal x ++ rest) (p + 1) z refl at)
-      (sym (number_back most x few t rest z none then ∙ ap (number_is.Read x) long)))
+      (sym (number_back most x few t rest z none then ∙ ap (read_to x) long)))
 
 -- two fields
 pub record Two (lx ly : List ℕ) (mx my : ℕ) (t : List ℕ) (p x y q : ℕ) : Type 0 where
   pub between : ℕ
-  pub first : field_at true lx mx t p ≡ number_is.Read x between
-  pub second : field_at true ly my t between ≡ number_is.Read y q
+  pub first : field_at true lx mx t p ≡ read_to x between
+  pub second : field_at true ly my t between ≡ read_to y q
 
 module _ (lx ly : List ℕ) (px : blank (get_or lx 0 0) ≡ false) (py : blank (get_or ly 0 0) ≡ false) where
   pub two_back : (mx my x y : ℕ) → x ≤ mx → y ≤ my → (t rest : List ℕ) (p q : ℕ) → is_digit (get_or rest 0 0) ≡ false
@@ -227,20 +223,20 @@ glyph_code (suc (suc zero)) h = refl
 glyph_code (suc (suc (suc x))) h = absurd (omega arith)
 
 codes_back : (c : Cube) (left k p : ℕ) (t : List ℕ) → k + left ≤ mask_bits → ((i : ℕ) → i < left → get_or t (p + i) 0 ≡ glyph (code c (k + i)))
-    → codes_from t left k p (up_to k c) ≡ cube_is.Read (up_to (k + left) c) (p + left)
+    → codes_from t left k p (up_to k c) ≡ read_to (up_to (k + left) c) (p + left)
 unfolding codes_from up_to
-codes_back c zero k p t h f = ap₂ (λ (m r : ℕ). cube_is.Read (up_to m c) r) (sym (add-zero k)) (sym (add-zero p))
+codes_back c zero k p t h f = ap₂ (λ (m r : ℕ). read_to (up_to m c) r) (sym (add-zero k)) (sym (add-zero p))
 codes_back c (suc left) k p t h f =
     let here : get_or t p 0 ≡ glyph (code c k) = ap (λ (m : ℕ). get_or t m 0) (sym (add-zero p)) ∙ f 0 (omega arith) ∙ ap (λ (m : ℕ). glyph (code c m)) (add-zero k) in
     let is : code_of_glyph (get_or t p 0) ≡ code c k = ap code_of_glyph here ∙ glyph_code (code c k) (code_lt c k) in
     let next : with_code (up_to k c) k (code c k) ≡ up_to (k + 1) c = with_put (up_to k c) k (code c k) (omega arith) ∙ sym (ap (λ (m : ℕ). up_to m c) (add-one k)) in
     let shift : (m i : ℕ) → m + 1 + i ≡ m + suc i = λ m i. omega arith in
-    ap (λ (b : ℕ). cond (ltb b 3) (codes_from t left (k + 1) (p + 1) (with_code (up_to k c) k b)) (cube_is.Wrong p)) is
+    ap (λ (b : ℕ). cond (ltb b 3) (codes_from t left (k + 1) (p + 1) (with_code (up_to k c) k b)) (wrong_at p)) is
     ∙ simp (lt-ltb (code c k) 3 (code_lt c k))
     (ap (codes_from t left (k + 1) (p + 1)) next
     ∙ codes_back c left (k + 1) (p + 1) t (omega arith)
     (λ i l. ap (λ (m : ℕ). get_or t m 0) (shift p i) ∙ f (suc i) (omega arith) ∙ ap (λ (m : ℕ). glyph (code c m)) (sym (shift k i)))
-    ∙ ap₂ (λ (m r : ℕ). cube_is.Read (up_to m c) r) (shift k left) (shift p left))
+    ∙ ap₂ (λ (m r : ℕ). read_to (up_to m c) r) (shift k left) (shift p left))
 
 glyph_at : (n : ℕ) (c : Cube) (i : ℕ) → i < n → get_or (cube_text n c) i 0 ≡ glyph (code c i)
 unfolding cube_text
@@ -251,7 +247,7 @@ glyph_at (suc n) c i h =
     (λ l. let e : i ≡ n = omega arith in rw e (get_or_at (cube_text n c) (glyph (code c n)) [] 0 n (length_cube n c)))
     (below_or i n)
 
-pub cube_back : (n : ℕ) (c : Cube) → n ≤ mask_bits → Good n c → (t rest : List ℕ) (p : ℕ) → drop p t ≡ cube_text n c ++ rest → cube_in n t p ≡ cube_is.Read c (p + n)
+pub cube_back : (n : ℕ) (c : Cube) → n ≤ mask_bits → Good n c → (t rest : List ℕ) (p : ℕ) → drop p t ≡ cube_text n c ++ rest → cube_in n t p ≡ read_to c (p + n)
 unfolding up_to
 cube_back n c few g t rest p e =
     let none : 0 + n ≡ n = omega arith in
@@ -260,7 +256,7 @@ cube_back n c few g t rest p e =
     (λ i l.
     sym (get_or-drop p t i 0) ∙ ap (λ (s : List ℕ). get_or s i 0) e ∙ get_or-append (cube_text n c) rest 0 i (omega (arith, length_cube n c))
     ∙ glyph_at n c i l ∙ ap (λ (m : ℕ). glyph (code c m)) (zero_first i))
-    ∙ ap (λ (d : Cube). cube_is.Read d (p + n)) (ap (λ (m : ℕ). up_to m c) none ∙ up_all n c g)
+    ∙ ap (λ (d : Cube). read_to d (p + n)) (ap (λ (m : ℕ). up_to m c) none ∙ up_all n c g)
 
 -- ---- steps
 
@@ -271,7 +267,7 @@ pub record Bytes (r : StepRecord) : Type 0 where
   pub j_word : r.j ≤ 65535
   pub literal_byte : r.literal ≤ 255
 
-unused : (lead : List ℕ) (most : ℕ) (t : List ℕ) (p : ℕ) → field_at false lead most t p ≡ number_is.Read 0 p
+unused : (lead : List ℕ) (most : ℕ) (t : List ℕ) (p : ℕ) → field_at false lead most t p ≡ read_to 0 p
 unused lead most t p = sym (field_unused lead most t p false refl)
 
 -- the word of an operation, read by its first letter
@@ -279,26 +275,26 @@ module _ (t rest : List ℕ) (p : ℕ) where
   letter : (x : ℕ) (s : List ℕ) → drop p t ≡ x ∷ s → x ≡ get_or t p 0
   letter x s e = sym (char t p x s e).is
 
-  word_drop : drop p t ≡ drop_word ++ rest → operation_at t p ≡ number_is.Read 1 (p + 4)
+  word_drop : drop p t ≡ drop_word ++ rest → operation_at t p ≡ read_to 1 (p + 4)
   word_drop e = sym (reads_drop t p (letter 100 _ e) refl (sym (word_back 1 drop_word t rest p (p + 4) refl e)))
 
-  word_join : drop p t ≡ join_word ++ rest → operation_at t p ≡ number_is.Read 2 (p + 4)
+  word_join : drop p t ≡ join_word ++ rest → operation_at t p ≡ read_to 2 (p + 4)
   word_join e = sym (reads_join t p (letter 106 _ e) (λ z. omega arith) refl (sym (word_back 2 join_word t rest p (p + 4) refl e)))
 
-  word_split : drop p t ≡ split_word ++ rest → operation_at t p ≡ number_is.Read 3 (p + 5)
+  word_split : drop p t ≡ split_word ++ rest → operation_at t p ≡ read_to 3 (p + 5)
   word_split e = sym (reads_split t p (letter 115 _ e) (λ z. omega arith) (λ z. omega arith) refl (sym (word_back 3 split_word t rest p (p + 5) refl e)))
 
-  word_turn : drop p t ≡ turn_word ++ rest → operation_at t p ≡ number_is.Read 4 (p + 4)
+  word_turn : drop p t ≡ turn_word ++ rest → operation_at t p ≡ read_to 4 (p + 4)
   word_turn e =
       sym (reads_turn t p (letter 116 _ e) (λ z. omega arith) (λ z. omega arith) (λ z. omega arith) refl (sym (word_back 4 turn_word t rest p (p + 4) refl e)))
 
-  word_l : drop p t ≡ l_word ++ rest → operation_at t p ≡ number_is.Read 5 (p + 1)
+  word_l : drop p t ≡ l_word ++ rest → operation_at t p ≡ read_to 5 (p + 1)
   word_l e =
       sym (reads_l t p (letter 76 _ e) (λ z. omega arith) (λ z. omega arith) (λ z. omega arith) (λ z. omega arith) (sym (word_back 5 l_word t rest p (p + 1) refl e)))
 
 -- a step that its record can hold reads back as its record, where no digit follows it
 pub step_back : (s : Step) → Bytes (record_of s) → (t rest : List ℕ) (p : ℕ) → is_digit (get_or rest 0 0) ≡ false → drop p t ≡ step_text s ++ rest
-    → step_in t p ≡ step_is.Read (record_of s) (p + length (step_text s))
+    → step_in t p ≡ read_to (record_of s) (p + length (step_text s))
 unfolding record_of step_text
 step_back (step_of.drop i j) b t rest p none e =
     let at : drop (p + 4) t ≡ (field_text [] i ++ field_text [] j) ++ rest = after_text drop_word t ((field_text [] i ++ field_text [] j) ++ rest) p (p + 4) refl e in
@@ -339,18 +335,18 @@ step_back (step_of.L v x) b t rest p none e =
 -- ---- what a printer left in a buffer with room reads back from there
 
 module _ {b b' : List ℕ} {at next : ℕ} where
-  pub cube_reads_back : (n : ℕ) (c : Cube) → n ≤ mask_bits → Good n c → Laid b at (cube_text n c) next b' → at + n ≤ length b → cube_in n b' at ≡ cube_is.Read c next
+  pub cube_reads_back : (n : ℕ) (c : Cube) → n ≤ mask_bits → Good n c → Laid b at (cube_text n c) next b' → at + n ≤ length b → cube_in n b' at ≡ read_to c next
   cube_reads_back n c few g f room =
       let long : length (cube_text n c) ≡ n = length_cube n c in
       let st : Stands b at (cube_text n c) next b' = stands f (omega arith) in
       let end : at + n ≡ next = omega (arith, st.ends_at) in
-      cube_back n c few g b' (drop (at + length (cube_text n c)) b) at st.from ∙ ap (cube_is.Read c) end
+      cube_back n c few g b' (drop (at + length (cube_text n c)) b) at st.from ∙ ap (read_to c) end
 
   pub step_reads_back : (n : ℕ) (r : StepRecord) → fits n r ≡ true → Bytes r → Laid b at (step_text (meaning r)) next b'
       → at + length (step_text (meaning r)) ≤ length b → is_digit (get_or (drop (at + length (step_text (meaning r))) b) 0 0) ≡ false
-      → step_in b' at ≡ step_is.Read r next
+      → step_in b' at ≡ read_to r next
   step_reads_back n r fit bytes f room none =
       let st : Stands b at (step_text (meaning r)) next b' = stands f room in
       let same : record_of (meaning r) ≡ r = record_meaning n r fit in
       step_back (meaning r) (subst Bytes (sym same) bytes) b' (drop (at + length (step_text (meaning r))) b) at none st.from
-      ∙ ap₂ step_is.Read same (sym st.ends_at)
+      ∙ ap₂ read_to same (sym st.ends_at)

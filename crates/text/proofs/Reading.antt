@@ -1,26 +1,27 @@
 -- Reading, a character at a time: where it goes on, where it ends and where it is wrong.
 -- Assumes nothing.
 use mathlib.Core.Path.{◌≡◌, refl, sym, ap, ◌∙◌}
-use mathlib.Core.Bool.{Bool, true, false, cond, not}
+use mathlib.Core.Bool.{Bool, true, false, cond, not, true≢false}
+use mathlib.Core.Logic.{⊎_elim}
 use mathlib.Core.List.{List, [], ◌∷◌}
 use Prim.Native.Nat.{ℕ, zero, suc, ◌+◌, ◌*◌, ◌-◌, ◌≤◌, ◌<◌}
-use native.Mathlib.Nat.{add-zero}
+use native.Mathlib.Nat.{le_of_lt}
 use native.Mathlib.Numerals.{add-one}
 use native.Mathlib.Omega.{arith}
-use lib.Dec.{leb}
+use lib.Dec.{leb, ltb}
 use lib.ListN.{length, get_or, drop, drop_of_length-le, get_or-eq_default}
 use lib.Seq.{drop-cons}
 use borrow.Author.Tests.{not-true, not-false, lt-ltb, le-ltb, eq-eqb, ne_eqb, leb-true}
+use Rattle.std.specs.Prelude.{Option, Some, None}
+use Rattle.std.specs.List.{prefix_len}
+use Rattle.std.proofs.lemmas.Option.{none-some, cond_some}
+use Rattle.bits.proofs.Bools.{below_or}
 use Rattle.cube.specs.declared.Cube.{Cube}
 use Rattle.cube.specs.Cubes.{one, with_code}
-use Rattle.text.specs.declared.ReadNumber.{ReadNumber}
-use Rattle.text.specs.declared.ReadNumber.TheVariants as number_is
-use Rattle.text.specs.declared.ReadCube.{ReadCube}
-use Rattle.text.specs.declared.ReadCube.TheVariants as cube_is
 use Rattle.text.specs.Blanks.{blank, blanks, past_blanks}
-use Rattle.text.specs.Numbers.{is_digit}
-use Rattle.text.specs.Cubes.{code_of_glyph}
-use Rattle.text.specs.Reading.{word_in, digits_from, number_in, codes_from, cube_in}
+use Rattle.text.specs.Numbers.{is_digit, with_digit}
+use Rattle.text.specs.Cubes.{code_of_glyph, known}
+use Rattle.text.specs.Reading.{word_in, digits_from, number_in, codes_from, cube_in, Reading, read_to, wrong_at}
 
 -- ---- words: what is read from letter k on, at p, is what is read from the first on
 
@@ -34,11 +35,11 @@ module _ {number at p k : ℕ} {word t : List ℕ} (m : Matching number word t a
   on_letter : k < length word → word_in number (get_or word k 0 ∷ drop (suc k) word) t p ≡ word_in number word t at
   on_letter h = rw (drop-cons word k 0 h) at m.same
 
-  pub word_short : k < length word → length t ≤ p → number_is.Wrong p ≡ word_in number word t at
+  pub word_short : k < length word → length t ≤ p → wrong_at p ≡ word_in number word t at
   unfolding word_in
   word_short h l = simp (le-ltb p (length t) l) at (on_letter h)
 
-  pub word_other : k < length word → p < length t → (get_or t p 0 ≡ get_or word k 0 → ⊥) → number_is.Wrong p ≡ word_in number word t at
+  pub word_other : k < length word → p < length t → (get_or t p 0 ≡ get_or word k 0 → ⊥) → wrong_at p ≡ word_in number word t at
   unfolding word_in
   word_other h l e = simp (lt-ltb p (length t) l, ne_eqb (get_or t p 0) (get_or word k 0) e) at (on_letter h)
 
@@ -48,78 +49,75 @@ module _ {number at p k : ℕ} {word t : List ℕ} (m : Matching number word t a
     same = rw (add-one k) (simp (lt-ltb p (length t) l, eq-eqb (get_or t p 0) (get_or word k 0) e) at (on_letter h));
   }
 
-  pub word_end : length word ≤ k → number_is.Read number p ≡ word_in number word t at
+  pub word_end : length word ≤ k → read_to number p ≡ word_in number word t at
   unfolding word_in
   word_end h = rw (drop_of_length-le word h) at m.same
 
--- ---- blanks: where they end from p on is where they end from the first on
+-- ---- blanks
 
-pub record Skipped (t : List ℕ) (at p : ℕ) : Type 0 where
-  pub same : past_blanks t p ≡ past_blanks t at
+pub blanks_prefix : (l : List ℕ) → prefix_len blank l ≡ blanks l
+unfolding blanks
+blanks_prefix [] = refl
+blanks_prefix (b ∷ l) =
+    let more : 1 + prefix_len blank l ≡ suc (blanks l) = omega (arith, blanks_prefix l) in
+    ap (λ (n : ℕ). cond (blank b) n 0) more
 
-pub skipped_none : (t : List ℕ) (at : ℕ) → Skipped t at at
-skipped_none t at = record { same = refl }
+-- ---- what is not below, and what is
 
-module _ {t : List ℕ} {at p : ℕ} (m : Skipped t at p) where
-  pub skipped_end : length t ≤ p → p ≡ past_blanks t at
-  unfolding blanks
-  skipped_end h = sym (add-zero p) ∙ (rw (drop_of_length-le t h) at m.same)
-
-  module _ (h : p < length t) {s : Bool} (d : s ≡ blank (get_or t p 0)) where
-    on_byte : p + blanks (get_or t p 0 ∷ drop (suc p) t) ≡ past_blanks t at
-    on_byte = rw (drop-cons t p 0 h) at m.same
-
-    pub skipped_stop : not s ≡ true → p ≡ past_blanks t at
-    unfolding blanks
-    skipped_stop k = sym (add-zero p) ∙ (rw (sym d ∙ not-true s k) at on_byte)
-
-    pub skipped_more : not s ≡ false → Skipped t at (p + 1)
-    unfolding blanks
-    skipped_more k =
-        let shift : suc p + blanks (drop (suc p) t) ≡ p + suc (blanks (drop (suc p) t)) = omega arith in
-        record { same = rw (add-one p) (shift ∙ (rw (sym d ∙ not-false s k) at on_byte)) }
+pub above : (s : Bool) (x : ℕ) → cond s (Some x) None ≡ None → s ≡ false
+above true x e = absurd (none-some x (sym e))
+above false x e = refl
 
 -- ---- numbers: what is read from p on, after x
 
 pub record Digits (most : ℕ) (t : List ℕ) (at p x : ℕ) : Type 0 where
   pub same : digits_from most (drop p t) p x ≡ number_in most t at
+  pub within : p ≤ length t
 
 module _ (most at : ℕ) (t : List ℕ) {b : ℕ} {s : Bool} (e : b ≡ get_or t at 0) (d : s ≡ is_digit b) where
-  pub no_digit : not s ≡ true → number_is.Wrong at ≡ number_in most t at
+  pub no_digit : not s ≡ true → wrong_at at ≡ number_in most t at
   unfolding number_in
   no_digit h = simp (sym e, sym d ∙ not-true s h)
 
+  -- past the end there is no digit
+  digit_within : not s ≡ false → at ≤ length t
+  digit_within h =
+      ⊎_elim le_of_lt
+      (λ l. let none : is_digit b ≡ false = ap is_digit (e ∙ get_or-eq_default t 0 l) in absurd (true≢false (sym (not-false s h) ∙ d ∙ none)))
+      (below_or at (length t))
+
   pub digits_none : not s ≡ false → Digits most t at at 0
   unfolding number_in
-  digits_none h = record { same = simp (sym e, sym d ∙ not-false s h) }
+  digits_none h = record { same = simp (sym e, sym d ∙ not-false s h); within = digit_within h }
 
 module _ {most at p x : ℕ} {t : List ℕ} (m : Digits most t at p x) where
   on_digit : p < length t → digits_from most (get_or t p 0 ∷ drop (p + 1) t) p x ≡ number_in most t at
   on_digit h = rw (drop-cons t p 0 h, ← add-one p) at m.same
 
-  pub digits_end : length t ≤ p → number_is.Read x p ≡ number_in most t at
+  pub digits_end : length t ≤ p → read_to x (length t) ≡ number_in most t at
   unfolding digits_from
-  digits_end h = rw (drop_of_length-le t h) at m.same
+  digits_end h =
+      let end : p ≡ length t = omega (arith, m.within) in
+      rw end at (rw (drop_of_length-le t h) at m.same)
 
   module _ (h : p < length t) {s : Bool} (d : s ≡ is_digit (get_or t p 0)) where
-    pub digits_stop : not s ≡ true → number_is.Read x p ≡ number_in most t at
+    pub digits_stop : not s ≡ true → read_to x p ≡ number_in most t at
     unfolding digits_from
     digits_stop k = simp (sym d ∙ not-true s k) at (on_digit h)
 
-    module _ (k : not s ≡ false) {v : ℕ} (g : v ≡ get_or t p 0 - 48) {u : Bool} (r : u ≡ leb (x * 10 + v) most) where
-      room : u ≡ leb (x * 10 + (get_or t p 0 - 48)) most
-      room = rw g at r
+    module _ (k : not s ≡ false) {v : ℕ} (g : v ≡ get_or t p 0 - 48) where
+      by_digit : {o : Option ℕ} → o ≡ with_digit most x v → with_digit most x (get_or t p 0 - 48) ≡ o
+      by_digit r = sym (rw g at r)
 
-      pub digits_above : not u ≡ true → number_is.Wrong p ≡ number_in most t at
+      pub digits_above : None ≡ with_digit most x v → wrong_at p ≡ number_in most t at
       unfolding digits_from
-      digits_above l = simp (sym d ∙ not-false s k, sym room ∙ not-true u l) at (on_digit h)
+      digits_above r = simp (sym d ∙ not-false s k, above (leb (x * 10 + (get_or t p 0 - 48)) most) _ (by_digit r)) at (on_digit h)
 
-      pub digits_more : not u ≡ false → Digits most t at (p + 1) (x * 10 + v)
+      pub digits_more : {y : ℕ} → Some y ≡ with_digit most x v → Digits most t at (p + 1) y
       unfolding digits_from
-      digits_more l = record { same = rw g (simp (sym d ∙ not-false s k, sym room ∙ not-false u l) at (on_digit h)) }
-
-pub room_le : (x v most : ℕ) {u : Bool} → u ≡ leb (x * 10 + v) most → not u ≡ false → x * 10 + v ≤ most
-room_le x v most {u} r l = leb-true (x * 10 + v) most (sym r ∙ not-false u l)
+      digits_more r =
+          let both = cond_some (leb (x * 10 + (get_or t p 0 - 48)) most) _ _ (by_digit r) in
+          record { same = rw (← both.1) (simp (sym d ∙ not-false s k, both.0) at (on_digit h)); within = omega arith }
 
 -- ---- cubes: what is read from variable k on
 
@@ -134,21 +132,19 @@ module _ {n at p k : ℕ} {t : List ℕ} {c : Cube} (m : Coding n t at c p k) wh
   on_code : k < n → codes_from t (suc (n - (k + 1))) k p c ≡ cube_in n t at
   on_code h = let e : n - k ≡ suc (n - (k + 1)) = omega arith in rw e at m.same
 
-  pub codes_short : k < n → length t ≤ p → cube_is.Wrong p ≡ cube_in n t at
+  pub codes_other : k < n → None ≡ known 3 (code_of_glyph (get_or t p 0)) → wrong_at p ≡ cube_in n t at
   unfolding codes_from
-  codes_short h l = simp (get_or-eq_default t 0 l) at (on_code h)
+  codes_other h e = simp (above (ltb (code_of_glyph (get_or t p 0)) 3) _ (sym e)) at (on_code h)
 
-  pub codes_other : {x : ℕ} → k < n → x ≡ code_of_glyph (get_or t p 0) → 2 < x → cube_is.Wrong p ≡ cube_in n t at
+  pub codes_more : {x : ℕ} {d : Cube} → k < n → Some x ≡ known 3 (code_of_glyph (get_or t p 0)) → d ≡ with_code c k x → Coding n t at d (p + 1) (k + 1)
   unfolding codes_from
-  codes_other {x} h e l = simp (sym e, le-ltb x 3 l) at (on_code h)
+  codes_more {x} {d} h e w =
+      let both = cond_some (ltb (code_of_glyph (get_or t p 0)) 3) _ _ (sym e) in
+      record {
+        upto = omega arith;
+        same = rw (w, ← both.1) (simp both.0 at (on_code h));
+      }
 
-  pub codes_more : {x : ℕ} {d : Cube} → k < n → x ≡ code_of_glyph (get_or t p 0) → x ≤ 2 → d ≡ with_code c k x → Coding n t at d (p + 1) (k + 1)
-  unfolding codes_from
-  codes_more {x} {d} h e l w = record {
-    upto = omega arith;
-    same = rw w (simp (sym e, lt-ltb x 3 (omega arith)) at (on_code h));
-  }
-
-  pub codes_end : n ≤ k → cube_is.Read c p ≡ cube_in n t at
+  pub codes_end : n ≤ k → read_to c p ≡ cube_in n t at
   unfolding codes_from
   codes_end h = let e : n - k ≡ 0 = omega arith in rw e at m.same

@@ -1,6 +1,6 @@
 -- Numbers in decimal.
 -- Assumes nothing.
-use Rattle.std.specs.Prelude.{Bool, cond, ◌&&◌, List, [], ◌∷◌, ◌++◌, ℕ, zero, suc, ◌+◌, ◌/◌, ◌%◌, ltb, leb}
+use Rattle.std.specs.Prelude.{Bool, cond, ◌&&◌, List, [], ◌∷◌, ◌++◌, ℕ, zero, suc, ◌+◌, ◌/◌, ◌%◌, ltb, leb, Option, Some, None, ◌*◌}
 
 -- a byte that is a digit's character
 abbrev pub is_digit : ℕ → Bool
@@ -13,3 +13,7 @@ decimal_by (suc turns) x = cond (ltb x 10) ((48 + x) ∷ []) (decimal_by turns (
 
 abbrev pub decimal : ℕ → List ℕ
 decimal x = decimal_by x x
+
+-- x followed by the digit d, where that is at most `most`
+abbrev pub with_digit : ℕ → ℕ → ℕ → Option ℕ
+with_digit most x d = cond (leb (x * 10 + d) most) (Some (x * 10 + d)) None

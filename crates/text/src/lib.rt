@@ -1,4 +1,4 @@
-// The text of cubes and steps: printed into a lent buffer from a place on, and read from a slice at a place.
+//! The text of cubes and steps: printed into a lent buffer from a place on, and read from a slice at a place.
 #![tactic(auto)]
 
 pub mod cubes;
@@ -6,26 +6,15 @@ pub mod number;
 pub mod place;
 pub mod step;
 
-use cube::Cube;
-use steps::StepRecord;
-
-// What the reader of a number answers: the number and the place after it, or the place that is wrong.
-#[derive(Clone, Copy)]
-pub enum ReadNumber {
-    Read(usize, usize),
-    Wrong(usize),
+/// What was read, and the place after it.
+#[derive(Clone, Copy, Debug, PartialEq, Eq)]
+pub struct Read<T> {
+    pub value: T,
+    pub next: usize,
 }
 
-// The same of a cube.
-#[derive(Clone, Copy)]
-pub enum ReadCube {
-    Read(Cube, usize),
-    Wrong(usize),
-}
-
-// The same of a step.
-#[derive(Clone, Copy)]
-pub enum ReadStep {
-    Read(StepRecord, usize),
-    Wrong(usize),
+/// The place that is wrong: nothing was read.
+#[derive(Clone, Copy, Debug, PartialEq, Eq)]
+pub struct WrongAt {
+    pub place: usize,
 }

@@ -1,25 +1,30 @@
-// Single bytes of a text and of a lent buffer; words; blanks.
-ghost use Rattle.std.specs.Prelude.{◌≡◌, [], ◌∷◌, get_or};
+//! Single bytes of a text and of a lent buffer; words; blanks.
+ghost use Rattle.std.specs.Prelude.{◌≡◌, [], ◌∷◌, get_or, drop};
 ghost use Rattle.text.specs.Blanks.{blank, past_blanks};
 ghost use Rattle.text.specs.Places.{Laid};
 ghost use Rattle.text.specs.Reading.{word_in};
 
-use crate::ReadNumber;
+use crate::{Read, WrongAt};
 
-// The place after a byte that found no room.
+// Stays: each printer takes a buffer and a place and answers the next place, by which it is known where room lacked: the documents name the printers so.
+/// The place after a byte that found no room.
 pub const NO_PLACE: usize = usize::MAX;
 
-// The byte at a place, or 0 past the end.
+/// The byte at a place, or 0 past the end.
 pub fn byte_at(text: &[u8], p: usize) -> u8
     ensures { result ≡ get_or text.now p 0 }
 {
-    if p < text.len() {
-        return text[p];
-    }
-    0
+    text.get(p).copied().unwrap_or(0)
 }
 
-// A byte at a place of a buffer, and the next place.
+/// What stands from a place on; nothing past the end.
+pub fn rest(text: &[u8], at: usize) -> &[u8]
+    ensures { result.now ≡ drop at text.now }
+{
+    text.get(at..).unwrap_or(&[])
+}
+
+/// A byte at a place of a buffer, and the next place.
 pub fn put_byte(out: &mut [u8], at: usize, b: u8) -> usize
     ensures { Laid out.old at (b ∷ []) result out.new }
 {
@@ -30,62 +35,44 @@ pub fn put_byte(out: &mut [u8], at: usize, b: u8) -> usize
     NO_PLACE
 }
 
-// The bytes of a text at a place of a buffer, and the next place.
+/// The bytes of a text at a place of a buffer, and the next place.
 pub fn put_text(out: &mut [u8], at: usize, text: &[u8]) -> usize
     ensures { Laid out.old at text.now result out.new }
 {
     let mut p = at;
-    let mut k: usize = 0;
-    while k < text.len() {
-        let next = put_byte(out, p, text[k]);
-        p = next;
-        k += 1;
+    for b in text {
+        p = put_byte(out, p, *b);
     }
     p
 }
 
-// The word at a place of a text, read as the number that it stands for.
-pub fn word_at(text: &[u8], at: usize, word: &[u8], number: usize) -> ReadNumber
+/// The word at a place of a text, read as the number that it stands for.
+pub fn word_at(text: &[u8], at: usize, word: &[u8], number: usize) -> Result<Read<usize>, WrongAt>
     ensures { result ≡ word_in number word.now text.now at }
 {
     let mut p = at;
-    let mut k: usize = 0;
-    while k < word.len() {
-        if text.len() <= p {
-            return ReadNumber::Wrong(p);
+    for letter in word {
+        match text.get(p) {
+            Some(b) if b == letter => p += 1,
+            _ => return Err(WrongAt { place: p }),
         }
-        if text[p] != word[k] {
-            return ReadNumber::Wrong(p);
-        }
-        p += 1;
-        k += 1;
     }
-    ReadNumber::Read(number, p)
+    Ok(Read {
+        value: number,
+        next: p,
+    })
 }
 
-// Whether a byte is a space, a tab or a carriage return.
+/// Whether a byte is a space, a tab or a carriage return.
 pub fn is_blank(b: u8) -> bool
     ensures { result ≡ blank b }
 {
-    if b == b' ' {
-        return true;
-    }
-    if b == b'\t' {
-        return true;
-    }
-    b == b'\r'
+    matches!(b, b' ' | b'\t' | b'\r')
 }
 
-// The place after the blanks that stand from a place on.
+/// The place after the blanks that stand from a place on.
 pub fn past_blanks(text: &[u8], at: usize) -> usize
     ensures { result ≡ past_blanks text.now at }
 {
-    let mut p = at;
-    while p < text.len() {
-        if !is_blank(text[p]) {
-            return p;
-        }
-        p += 1;
-    }
-    p
+    at + rest(text, at).iter().take_while(|b| is_blank(**b)).count()
 }

@@ -10,6 +10,7 @@ use lib.Dec.{eqb, leb, ltb}
 use lib.ListN.{length, get_or, length-append}
 use lib.Pow.{pow_pos, pow-add}
 use borrow.Author.Tests.{leb-true, ltb-true, ltb-false, eqb-true, eqb-false, not-true}
+use Rattle.std.specs.Prelude.{Option, Some, None}
 use Rattle.bits.specs.Sums.{All}
 use Rattle.bits.proofs.Bools.{both_true}
 use Rattle.bits.proofs.Sums.{all_each, all_snoc}
@@ -28,15 +29,11 @@ use Rattle.shared.proofs.SharedRecord.{shared_lawful, shares_flat}
 use Rattle.shared.proofs.Lists.{accepts_shared}
 use Rattle.text.specs.Blanks.{blank, blanks}
 use Rattle.text.specs.Cubes.{code_of_glyph}
-use Rattle.lines.specs.declared.Said.{Said}
-use Rattle.lines.specs.declared.Said.TheVariants as said_is
 use Rattle.lines.specs.Lines.{content}
 use Rattle.lines.specs.Words.{only_number, only_word, blank_from, first_word, after_word}
 use Rattle.lines.specs.Gathering.{Says, knows, has, over, bad, Progress}
 use Rattle.lines.specs.Gathering as progress_is
 use Rattle.pla.specs.declared.Header.{Header}
-use Rattle.pla.specs.declared.Spelt.{Spelt}
-use Rattle.pla.specs.declared.Spelt.TheVariants as spelt_is
 use Rattle.pla.specs.Header.{unsaid, nothing_said, inputs_said, outputs_said, type_said, products_said, end_said, most_stated, named}
 use Rattle.pla.specs.Names.{dot, esop_word, name_of}
 use Rattle.pla.specs.Products.{output_of, spelt, product_said, lacking, product}
@@ -51,9 +48,9 @@ use Rattle.text_promises.proofs.Gathered.{by_test, After, Throughout, gathered_k
 -- ---- what a line with a product spells
 
 -- a product over n variables, with outputs below m alone
-abbrev Spells : ℕ → ℕ → Spelt → Type 0
-Spells n m (spelt_is.Product s) = Good n s.cube × Below m s
-Spells n m spelt_is.Wrong = Unit {0}
+abbrev Spells : ℕ → ℕ → Option Shared → Type 0
+Spells n m (Some s) = Good n s.cube × Below m s
+Spells n m None = Unit {0}
 
 -- one more output, which is the next bit
 output_next : (o y j i : ℕ) → o < 2 ^ j → y < 2 → i ≡ j + 1 → o + y * 2 ^ j < 2 ^ i
@@ -119,29 +116,29 @@ module _ (h : Header) where
     some = λ y. y;
   }
 
-  inputs_keep : (x : Said) → Keeps h (inputs_said h x)
-  inputs_keep (said_is.Number x) =
+  inputs_keep : (x : Option ℕ) → Keeps h (inputs_said h x)
+  inputs_keep (Some x) =
       by_test (Keeps h) (eqb h.inputs unsaid)
       (λ e. record { stays = λ s k. absurd (omega (arith, eqb-true h.inputs unsaid e, k.inputs)); some = λ y. y })
       (λ e. tt)
-  inputs_keep said_is.Nothing = tt
+  inputs_keep None = tt
 
-  outputs_keep : (x : Said) → Keeps h (outputs_said h x)
-  outputs_keep (said_is.Number x) =
+  outputs_keep : (x : Option ℕ) → Keeps h (outputs_said h x)
+  outputs_keep (Some x) =
       by_test (Keeps h) (leb 1 x && eqb h.outputs unsaid)
       (λ e.
       let p = both_true (leb 1 x) (eqb h.outputs unsaid) e in
       record { stays = λ s k. absurd (omega (arith, eqb-true h.outputs unsaid p.1, k.outputs)); some = λ y. leb-true 1 x p.0 })
       (λ e. tt)
-  outputs_keep said_is.Nothing = tt
+  outputs_keep None = tt
 
   type_keeps : (t : Bool) → Keeps h (type_said h t)
   type_keeps true = same_onto true h.stated h.line h.products
   type_keeps false = tt
 
-  products_keep : (k : ℕ) (x : Said) → Keeps h (products_said k h x)
-  products_keep k (said_is.Number x) = by_test (Keeps h) (eqb h.stated unsaid) (λ e. same_onto h.esop x k h.products) (λ e. tt)
-  products_keep k said_is.Nothing = tt
+  products_keep : (k : ℕ) (x : Option ℕ) → Keeps h (products_said k h x)
+  products_keep k (Some x) = by_test (Keeps h) (eqb h.stated unsaid) (λ e. same_onto h.esop x k h.products) (λ e. tt)
+  products_keep k None = tt
 
   end_keeps : (t : Bool) → Keeps h (end_said t)
   end_keeps true = tt
@@ -160,8 +157,8 @@ module _ (h : Header) where
       (λ e. by_test (Keeps h) (eqb name 5) (λ e. nothing_keeps)
       (λ e. by_test (Keeps h) (eqb name 6) (λ e. end_keeps (blank_from l 0)) (λ e. tt))))))
 
-  spelt_keeps : h.inputs ≤ 32 → h.outputs ≤ 32 → (x : Spelt) → Spells h.inputs h.outputs x → Keeps h (product_said h x)
-  spelt_keeps i o (spelt_is.Product s) g = (
+  spelt_keeps : h.inputs ≤ 32 → h.outputs ≤ 32 → (x : Option Shared) → Spells h.inputs h.outputs x → Keeps h (product_said h x)
+  spelt_keeps i o (Some s) g = (
     same_onto h.esop h.stated h.line (h.products + 1),
     λ e. record {
       inputs = i;
@@ -170,7 +167,7 @@ module _ (h : Header) where
       below = g.1;
     },
   )
-  spelt_keeps i o spelt_is.Wrong g = tt
+  spelt_keeps i o None g = tt
 
   product_keeps : (l : List ℕ) → Keeps h (product h l)
   unfolding product

@@ -9,6 +9,7 @@ use native.Mathlib.Omega.{arith}
 use lib.Dec.{eqb, ltb, leb}
 use lib.ListN.{length, get_or, length-append}
 use borrow.Author.Tests.{eq-eqb, eqb-true, leb-true, le-leb, lt-ltb}
+use Rattle.std.specs.Prelude.{Ok, Err}
 use Rattle.bits.specs.Sums.{All}
 use Rattle.bits.proofs.Bools.{both_true, true_both}
 use Rattle.bits.proofs.Sums.{all_each, all_snoc}
@@ -20,13 +21,9 @@ use Rattle.script.specs.Calls.{check_script}
 use Rattle.script.proofs.Scripts.{fits_parts, parts_fits, records_of_bytes, script_accepts}
 use Rattle.shared_run.specs.SharedScripts.{shared_fits, check_shared_script}
 use Rattle.shared_run.proofs.SharedScripts.{shared_script_accepts}
-use Rattle.text.specs.declared.ReadNumber.{ReadNumber}
-use Rattle.text.specs.declared.ReadNumber.TheVariants as number_is
-use Rattle.text.specs.declared.ReadStep.{ReadStep}
-use Rattle.text.specs.declared.ReadStep.TheVariants as step_is
 use Rattle.text.specs.Blanks.{past_blanks}
 use Rattle.text.specs.Steps.{drop_word, join_word, split_word, turn_word, l_word, variable_lead}
-use Rattle.text.specs.Reading.{word_in, on_field, field_at, operation_at, fields_at, step_in}
+use Rattle.text.specs.Reading.{word_in, on_read, field_at, operation_at, fields_at, step_in, Reading}
 use Rattle.text.proofs.Fields.{AtMost, field_most}
 use Rattle.lines.specs.Lines.{content}
 use Rattle.lines.specs.Words.{blank_from}
@@ -39,9 +36,9 @@ use Rattle.text_promises.proofs.Gathered.{by_test, After, Throughout, gathered_k
 -- ---- what is read of a number
 
 -- P holds of whatever number is read
-abbrev Of : (ℕ → Type 0) → ReadNumber → Type 0
-Of P (number_is.Read x p) = P x
-Of P (number_is.Wrong p) = Unit {0}
+abbrev Of : (ℕ → Type 0) → Reading ℕ → Type 0
+Of P (Ok a) = P a.value
+Of P (Err w) = Unit {0}
 
 word_of : (P : ℕ → Type 0) (number : ℕ) → P number → (w t : List ℕ) (p : ℕ) → Of P (word_in number w t p)
 unfolding word_in
@@ -69,9 +66,9 @@ field_of : (used : Bool) (lead : List ℕ) (most : ℕ) (t : List ℕ) (p : ℕ)
 unfolding field_at
 field_of true lead most t p = go (field_at true lead most t p) (field_most true lead most t p)
   where
-    go : (r : ReadNumber) → AtMost most r → Of (Within true most) r
-    go (number_is.Read x q) h = (h, λ e. absurd (true≢false e))
-    go (number_is.Wrong q) h = tt
+    go : (r : Reading ℕ) → AtMost most r → Of (Within true most) r
+    go (Ok a) h = (h, λ e. absurd (true≢false e))
+    go (Err w) h = tt
 field_of false lead most t p = (omega arith, λ e. refl)
 
 -- it passes rule 9 where its test passes
@@ -85,16 +82,16 @@ field_passes false test x most w h = eq-eqb x 0 (w.1 refl)
 abbrev FitsIf : StepRecord → Type 0
 FitsIf r = r.literal ≤ 1 → line_fits r ≡ true
 
-abbrev StepFits : ReadStep → Type 0
-StepFits (step_is.Read r p) = FitsIf r
-StepFits (step_is.Wrong p) = Unit {0}
+abbrev StepFits : Reading StepRecord → Type 0
+StepFits (Ok a) = FitsIf a.value
+StepFits (Err w) = Unit {0}
 
-record Fitting (r : ReadStep) : Type 0 where
+record Fitting (r : Reading StepRecord) : Type 0 where
   fit : StepFits r
 
-on_field_lem : (P : ℕ → Type 0) (r : ReadNumber) → Of P r → {k : ℕ → ℕ → ReadStep} → ((x p : ℕ) → P x → Fitting (k x p)) → Fitting (on_field r k)
-on_field_lem P (number_is.Read x p) h f = f x p h
-on_field_lem P (number_is.Wrong p) h f = record { fit = tt }
+on_field_lem : (P : ℕ → Type 0) (r : Reading ℕ) → Of P r → {k : ℕ → ℕ → Reading StepRecord} → ((x p : ℕ) → P x → Fitting (k x p)) → Fitting (on_read r k)
+on_field_lem P (Ok a) h f = f a.value a.next h
+on_field_lem P (Err w) h f = record { fit = tt }
 
 -- the step of what is read
 abbrev step_of : ℕ → ℕ → ℕ → ℕ → ℕ → StepRecord
@@ -154,9 +151,9 @@ LineFits (has u r) = FitsIf r
 LineFits over = Unit {0}
 LineFits (bad number) = Unit {0}
 
-alone_fits : (c : List ℕ) (r : ReadStep) → StepFits r → LineFits (alone c r)
-alone_fits c (step_is.Read r p) h = by_test LineFits (blank_from c p) (λ e. h) (λ e. tt)
-alone_fits c (step_is.Wrong p) h = tt
+alone_fits : (c : List ℕ) (r : Reading StepRecord) → StepFits r → LineFits (alone c r)
+alone_fits c (Ok a) h = by_test LineFits (blank_from c a.next) (λ e. h) (λ e. tt)
+alone_fits c (Err w) h = tt
 
 line_fits_lem : (k : ℕ) (u : Unit {0}) (x : List ℕ) → LineFits (line_says k u x)
 unfolding line_says step_before

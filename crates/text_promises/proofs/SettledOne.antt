@@ -6,6 +6,7 @@ use mathlib.Core.List.{List, map}
 use Prim.Native.Nat.{ℕ, ◌^◌, ◌≤◌, ◌<◌}
 use native.Mathlib.Omega.{arith}
 use lib.ListN.{length, length-map}
+use Rattle.std.specs.Prelude.{Ok}
 use Rattle.bits.specs.Sums.{All}
 use Rattle.bits.proofs.Sums.{all_map}
 use Rattle.cube.specs.declared.Cube.{Cube}
@@ -19,7 +20,6 @@ use Rattle.shared.specs.Outputs.{carrying, output_value}
 use Rattle.shared.proofs.Outputs.{carrying_le}
 use Rattle.outputs.proofs.Round.{list_of_shares}
 use Rattle.settling.specs.declared.Settlement.{Settlement}
-use Rattle.settling.specs.declared.Settled.TheVariants as settled_is
 use Rattle.settling.specs.Candidates.{burned_list}
 use Rattle.settling.specs.Calls.{settle_outcome, settled}
 use Rattle.settling.proofs.Outcomes.{Ended, settlement_of, same_settlement, settle_ended, settle_counts, BurnedBy, settle_burned}
@@ -28,7 +28,7 @@ use Rattle.text_promises.specs.TextMeaning.{Below, BurnedText, one_bytes, burned
 use Rattle.text_promises.proofs.Burned.{burned_text}
 
 module _ (t : List ℕ) (n : ℕ) (l : List Shared) (read : pla_of most_records t ≡ made n 1 l) (script : List ℕ) (work : ℕ) (out : List ℕ) (s : Settlement)
-    (settles : settle_outcome n (one_bytes l) script work (length out) ≡ settled (settled_is.Burned s)) where
+    (settles : settle_outcome n (one_bytes l) script work (length out) ≡ settled (Ok s)) where
   ended : Ended n (one_bytes l) script work (length out)
   ended = settle_ended n (one_bytes l) script work (length out) _ settles
 

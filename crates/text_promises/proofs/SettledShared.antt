@@ -8,6 +8,7 @@ use native.Mathlib.Nat.{le_refl, le_trans, mul-le-mul_left}
 use lib.Dec.{leb}
 use lib.ListN.{length, get_or}
 use borrow.Author.Tests.{leb-true}
+use Rattle.std.specs.Prelude.{Ok}
 use Rattle.bits.specs.Sums.{All}
 use Rattle.records.specs.Records.{image, records}
 use Rattle.records.specs.Answers.{Outcome, accepted, after_call}
@@ -22,7 +23,6 @@ use Rattle.shared.specs.Calls.{check_shared}
 use Rattle.shared.proofs.SharedRecord.{shared_lawful, shares_flat}
 use Rattle.shared_steps.specs.SharedSteps.{SharedAllowed}
 use Rattle.shared_run.specs.declared.SharedSettlement.{SharedSettlement}
-use Rattle.shared_run.specs.declared.SharedSettled.TheVariants as settled_is
 use Rattle.shared_run.specs.SharedRun.{shared_run, shared_burned}
 use Rattle.shared_run.specs.SharedScripts.{check_shared_script, shared_steps_of}
 use Rattle.shared_run.specs.Calls.{shared_run_of, check_shared_settle, ran_shared, ran_shared_out, shared_settle_outcome, shared_settle_out, shared_settled}
@@ -46,7 +46,7 @@ record Settled (n : ℕ) (list script : List ℕ) (work : ℕ) (out : List ℕ) 
   left : shared_settle_out n list script work out ≡ image shares (length out) (shared_burned result (shares_of list))
 
 settled_by : (n : ℕ) (list script : List ℕ) (work : ℕ) (out : List ℕ) (s : SharedSettlement)
-    → shared_settle_outcome n list script work (length out) ≡ shared_settled (settled_is.Burned s) → Settled n list script work out s
+    → shared_settle_outcome n list script work (length out) ≡ shared_settled (Ok s) → Settled n list script work out s
 unfolding shared_settle_outcome shared_settle_out shared_run_of check_shared_settle
 settled_by n list script work out s e =
     let b = both_accepted (check_shared_settle n list script work (length out)) (ran_shared (shares_of list) (shared_run_of n list script work)) _ e in
@@ -56,7 +56,7 @@ settled_by n list script work out s e =
     let allowed : All (SharedAllowed n) (shared_steps_of script) = shared_script_fits n script (shared_script_accepts n script b.values f.1).each in
     go (shared_run_of n list script work) refl b.second b.values b.first allowed (leb-true _ _ f.0)
   where
-    go : (r : Ran Shared) → shared_run_of n list script work ≡ r → ran_shared (shares_of list) r ≡ shared_settled (settled_is.Burned s)
+    go : (r : Ran Shared) → shared_run_of n list script work ≡ r → ran_shared (shares_of list) r ≡ shared_settled (Ok s)
         → (v : List ℕ) → check_shared_settle n list script work (length out) ≡ accepted v
         → All (SharedAllowed n) (shared_steps_of script) → length (shares_of list) ≤ shared_capacity (length out) → Settled n list script work out s
     go (stopped why step) er a v ev allowed room = absurd (not_both (sym a))
@@ -90,7 +90,7 @@ module _ (result given : List Shared) where
 -- ---- the promise
 
 module _ (t : List ℕ) (n m : ℕ) (l : List Shared) (read : pla_of most_records t ≡ made n m l) (script : List ℕ) (work : ℕ) (out : List ℕ) (s : SharedSettlement)
-    (settles : shared_settle_outcome n (map_bytes l) script work (length out) ≡ shared_settled (settled_is.Burned s)) where
+    (settles : shared_settle_outcome n (map_bytes l) script work (length out) ≡ shared_settled (Ok s)) where
   by : Settled n (map_bytes l) script work out s
   by = settled_by n (map_bytes l) script work out s settles
 

@@ -1,11 +1,23 @@
--- `line::line_end` meets its contract: a place past the text, and a search from the place to the end.
+-- `line::line_end` meets its contract.
 -- Assumes nothing.
-use Rattle.lines.proofs.Lines.{none_past, found_from}
-use borrow.Author.Rules.{rules}
+use mathlib.Core.Path.{ap, ◌∙◌}
+use mathlib.Core.Bool.{not}
+use Prim.Native.Nat.{ℕ, ◌+◌}
+use lib.Dec.{eqb}
+use lib.ListN.{drop}
+use Rattle.std.proofs.Common.{rules, tests}
+use Rattle.std.proofs.lemmas.Iterator.{YieldsList-from_slice}
+use Rattle.std.proofs.lemmas.Iterator.Consumers.{count_from_yields_List}
+use Rattle.std.proofs.lemmas.Iterator.Search.{YieldsList-from_take_while}
+use Rattle.std.proofs.lemmas.List.Folds.{length-prefix_len}
+use Rattle.text.specs.Blanks.{blank}
+use Rattle.lines.proofs.Finding.{index_prefix}
 use Rattle.lines.proofs.line.line_end.Goals as goal
 
-pub returns-then-text-at : goal.returns-then-text-at
-returns-then-text-at c = search (none_past, rules)
-
 pub returns : goal.returns
-returns c = search (found_from, rules)
+returns c =
+    let s = drop c.args.at c.args.text.now in
+    let many =
+    count_from_yields_List c.take_while.result _ c.count.ensures.ran (YieldsList-from_take_while _ (λ (x : ℕ). not (eqb x 10)) (YieldsList-from_slice s cc) c.take_while.ensures.closure c.take_while.ensures.done (λ x b q k. search (rules, tests)))
+    ∙ length-prefix_len (λ (x : ℕ). not (eqb x 10)) s ∙ index_prefix 10 s in
+    ap (λ n. c.args.at + n) many

@@ -7,8 +7,8 @@ use Rattle.lines.proofs.word.is_only_word.Goals as goal
 pub slice_bounds-same-end : goal.slice_bounds-same-end
 slice_bounds-same-end c = word_end_within c.args.line.now c.past_blanks-from.ensures c.past_word-end.ensures
 
-pub returns-then-not-same : goal.returns-then-not-same
-returns-then-not-same c = search (other_word, rules)
+pub returns-else-same : goal.returns-else-same
+returns-else-same c = search (other_word, rules)
 
 pub slice_bounds-is_blank_from-count : goal.slice_bounds-is_blank_from-count
 slice_bounds-is_blank_from-count c = search (word_end_within, rules)
@@ -16,5 +16,5 @@ slice_bounds-is_blank_from-count c = search (word_end_within, rules)
 pub slice_bounds-is_blank_from-start : goal.slice_bounds-is_blank_from-start
 slice_bounds-is_blank_from-start c = word_end_within c.args.line.now c.past_blanks-from.ensures c.past_word-end.ensures
 
-pub returns : goal.returns
-returns c = search (word_alone, rules)
+pub returns-then-same : goal.returns-then-same
+returns-then-same c = search (word_alone, rules)

@@ -1,17 +1,23 @@
--- `word::past_word` meets its contract. The invariant: the word from here on ends where the whole ends; the measure is what is left of the line.
+-- `word::past_word` meets its contract.
 -- Assumes nothing.
-use Rattle.lines.proofs.Words.{passed_none, passed_stop, passed_more, passed_end}
-use borrow.Author.Rules.{rules}
+use mathlib.Core.Path.{ap, ◌∙◌}
+use mathlib.Core.Bool.{not}
+use Prim.Native.Nat.{ℕ, ◌+◌}
+use lib.Dec.{eqb}
+use lib.ListN.{drop}
+use Rattle.std.proofs.Common.{rules, tests}
+use Rattle.std.proofs.lemmas.Iterator.{YieldsList-from_slice}
+use Rattle.std.proofs.lemmas.Iterator.Consumers.{count_from_yields_List}
+use Rattle.std.proofs.lemmas.Iterator.Search.{YieldsList-from_take_while}
+use Rattle.std.proofs.lemmas.List.Folds.{length-prefix_len}
+use Rattle.text.specs.Blanks.{blank}
+use Rattle.lines.proofs.Words.{letters_prefix}
 use Rattle.lines.proofs.word.past_word.Goals as goal
 
-pub loop-p-init : goal.loop-p-init
-loop-p-init c = search (passed_none, rules)
-
-pub returns-then-is_blank : goal.returns-then-is_blank
-returns-then-is_blank c = search (passed_stop, rules)
-
-pub loop-p-preserved : goal.loop-p-preserved
-loop-p-preserved c = search (passed_more, rules)
-
 pub returns : goal.returns
-returns c = search (passed_end, rules)
+returns c =
+    let s = drop c.args.at c.args.line.now in
+    let many =
+    count_from_yields_List c.take_while.result _ c.count.ensures.ran (YieldsList-from_take_while _ (λ (x : ℕ). not (blank x)) (YieldsList-from_slice s cc) c.take_while.ensures.closure c.take_while.ensures.done (λ x b q k. search (rules, tests)))
+    ∙ length-prefix_len (λ (x : ℕ). not (blank x)) s ∙ letters_prefix s in
+    ap (λ n. c.args.at + n) many

@@ -22,17 +22,17 @@ slice_bounds-line_says-end c = line_end_within c.args.text.now c.loop-at.at c.li
 pub overflow_add-at : goal.overflow_add-at
 overflow_add-at c = omega (arith, line_end_within c.args.text.now c.loop-at.at c.line_end-end.ensures (le_of_lt c.loop-at-test.true))
 
-pub returns-in-Bad : goal.returns-in-Bad
-returns-in-Bad c = let both = reading_bad c.loop-at.invariant c.loop-at-test.true c.line_end-end.ensures c.line_says-said.result c.line_says-said.ensures c.requires.text_len_bound c.in-Bad.is c.new.ensures in record { result_value = both.0; kept = both.1 }
+pub returns-in-Err : goal.returns-in-Err
+returns-in-Err c = let both = reading_bad c.loop-at.invariant c.loop-at-test.true c.line_end-end.ensures c.line_says.result c.line_says.ensures c.requires.text_len_bound c.in-Err.is c.at.ensures in record { result_value = both.0; kept = both.1 }
 
 pub returns-in-Over : goal.returns-in-Over
-returns-in-Over c = let both = reading_over c.loop-at.invariant c.loop-at-test.true c.line_end-end.ensures c.line_says-said.result c.line_says-said.ensures c.requires.text_len_bound c.in-Over.is c.finished.result c.finished.ensures in record { result_value = both.0; kept = both.1 }
+returns-in-Over c = let both = reading_over c.loop-at.invariant c.loop-at-test.true c.line_end-end.ensures c.line_says.result c.line_says.ensures c.requires.text_len_bound c.in-Ok.is c.in-Over.is c.finished.result c.finished.ensures in record { result_value = both.0; kept = both.1 }
 
 pub loop-at-preserved-in-Knows : goal.loop-at-preserved-in-Knows
 loop-at-preserved-in-Knows c = search (reading_knows, rules)
 
 pub returns-then-room-count : goal.returns-then-room-count
-returns-then-room-count c = let both = reading_full c.loop-at.invariant c.loop-at-test.true c.line_end-end.ensures c.line_says-said.result c.line_says-said.ensures c.in-Has.is c.if-s-ne0.true c.capacity-room.ensures c.requires.text_len_bound (omega (arith, c.if-room-count.true)) c.new-then-room-count.ensures in record { result_value = both.0; kept = both.1 }
+returns-then-room-count c = let both = reading_full c.loop-at.invariant c.loop-at-test.true c.line_end-end.ensures c.line_says.result c.line_says.ensures c.in-Ok.is c.in-Has.is c.if-s-ne0.true c.capacity-room.ensures c.requires.text_len_bound (omega (arith, c.if-room-count.true)) c.at-then-room-count.ensures in record { result_value = both.0; kept = both.1 }
 
 pub put_record-requires : goal.put_record-requires
 put_record-requires c = search (reading_place, rules)

@@ -1,4 +1,4 @@
--- `print::print` meets its contract. The invariant: the first k lines are laid; the measure is how many are left.
+-- `print::print` meets its contract. The invariant: the first k lines are laid.
 -- Assumes nothing.
 use Rattle.script_lines.proofs.Printing.{printed_none, printed_more, printed_end, printed_kept}
 use borrow.Author.Rules.{rules}

@@ -12,8 +12,8 @@ loop-at-init c = search (reading_none, rules)
 pub slice_bounds-take_line-end : goal.slice_bounds-take_line-end
 slice_bounds-take_line-end c = line_end_within c.args.text.now c.loop-at.at c.line_end-end.ensures (search rules)
 
-pub returns-in-Refused : goal.returns-in-Refused
-returns-in-Refused c = record { result_value = search (line_told, line_cleared, rules); out_after = search (line_told, line_cleared, rules) }
+pub returns-in-Err : goal.returns-in-Err
+returns-in-Err c = record { result_value = search (line_told, line_cleared, rules); out_after = search (line_told, line_cleared, rules) }
 
 pub overflow_add-at : goal.overflow_add-at
 overflow_add-at c =

@@ -8,7 +8,7 @@ pub loop-k-init : goal.loop-k-init
 loop-k-init c = search (spelt_none, rules)
 
 pub loop-k-preserved : goal.loop-k-preserved
-loop-k-preserved c = spelt_more c.loop-k.invariant c.loop-k-test.true c.code_at.ensures c.glyph.ensures c.put_byte-next.ensures
+loop-k-preserved c = spelt_more c.loop-k.invariant c.loop-k-test.true c.code_at.ensures c.glyph.ensures c.put_byte-p.ensures
 
 pub shape_of-out : goal.shape_of-out
 shape_of-out c = search (spelt_kept, rules)

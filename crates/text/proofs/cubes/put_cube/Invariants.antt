@@ -1,11 +1,7 @@
--- `cubes::put_cube` meets its contract. The invariant: the codes of the variables passed are laid; the measure is how many are left.
+-- `cubes::put_cube` meets its contract. The invariant: the codes of the variables passed are laid.
 -- Assumes nothing.
-use Prim.Native.Nat.{◌-◌}
 use Rattle.text.proofs.Laying.{Spelt}
 use Rattle.text.proofs.cubes.put_cube.Given as goal
 
 abbrev pub invariant-loop-k : goal.invariant-loop-k
 invariant-loop-k l = Spelt l.n l.c l.initial.out l.at l.p l.out l.k
-
-abbrev pub decreases-loop-k : goal.decreases-loop-k
-decreases-loop-k l = l.n - l.k

@@ -1,12 +1,7 @@
--- `number::number_at` meets its contract. The invariant: what is read from here on is what is read of the whole; the measure is what is left of the text.
+-- `number::number_at` meets its contract. The invariant: what is read from here on is what is read of the whole.
 -- Assumes nothing.
-use Prim.Native.Nat.{◌-◌}
-use lib.ListN.{length}
 use Rattle.text.proofs.Reading.{Digits}
 use Rattle.text.proofs.number.number_at.Given as goal
 
 abbrev pub invariant-loop-p : goal.invariant-loop-p
 invariant-loop-p l = Digits l.most l.text l.at l.p l.x
-
-abbrev pub decreases-loop-p : goal.decreases-loop-p
-decreases-loop-p l = length l.text - l.p

@@ -2,19 +2,21 @@
 -- Assumes nothing.
 use Rattle.text.proofs.Reading.{matching_none, word_short, word_other, word_more, word_end}
 use borrow.Author.Rules.{rules}
+use native.Mathlib.Omega.{arith}
+use Rattle.std.proofs.lemmas.Option.{gets}
 use Rattle.text.proofs.place.word_at.Goals as goal
 
-pub loop-k-init : goal.loop-k-init
-loop-k-init c = search (matching_none, rules)
+pub loop-letter-init : goal.loop-letter-init
+loop-letter-init c = search (matching_none, rules)
 
-pub returns-then-text-p : goal.returns-then-text-p
-returns-then-text-p c = search (word_short, rules)
+pub returns-in_default-2 : goal.returns-in_default-2
+returns-in_default-2 c = let none = c.get.ensures.lookup in let past = c.in_default.is in word_short c.loop-letter.invariant c.loop-letter-test.true (grind (arith, gets))
 
-pub returns-then-text-p-2 : goal.returns-then-text-p-2
-returns-then-text-p-2 c = search (word_other, rules)
+pub returns-in_default : goal.returns-in_default
+returns-in_default c = let found = c.in-Some.ensures.lookup in word_other c.loop-letter.invariant c.loop-letter-test.true (grind (arith, gets)) (λ e. grind (arith, gets))
 
-pub loop-k-preserved : goal.loop-k-preserved
-loop-k-preserved c = search (word_more, rules)
+pub loop-letter-preserved : goal.loop-letter-preserved
+loop-letter-preserved c = search (word_more, rules)
 
 pub returns : goal.returns
 returns c = search (word_end, rules)

@@ -5,4 +5,4 @@ use borrow.Author.Rules.{rules}
 use Rattle.text.proofs.step.put_step.Goals as goal
 
 pub returns : goal.returns
-returns c = step_laid c.args.x c.put_word-v.ensures c.put_field-i.ensures c.put_field-j.ensures c.uses_j.ensures c.put_field-literal.ensures c.put_field.ensures
+returns c = step_laid c.args.x (rw c.word_of.ensures at c.put_text-v.ensures) c.put_field-i.ensures c.put_field-j.ensures c.uses_j.ensures c.put_field-literal.ensures c.put_field.ensures
