@@ -1,4 +1,5 @@
-// What a call answers and leaves, printed.
+//! What a call answers and leaves, as a row shows it.
 #![tactic(auto)]
 
-pub mod print;
+pub mod answer;
+pub mod left;

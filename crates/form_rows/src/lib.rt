@@ -1,73 +1,116 @@
-// The rows whose calls take a vector or coefficients: the call made, and its answer printed.
+//! The rows whose calls take a vector or coefficients: the call made, and what it answers and leaves written.
 #![tactic(auto)]
 
-use answers::print;
+use answers::answer::Answer;
+use answers::left::{Bytes, Left};
 use kronecker::choice;
 use polarity::{choose, form, transform, vector};
-use rows::head;
-use rows::head::Head;
+use rows::call::BitsCall;
+use rows::given::Given;
+use std::io;
+use std::io::Write;
 use trees::tree;
 
-fn test(n: usize, bits: &[u8]) {
-    print::counted(vector::check_vector(n, bits));
+fn test<W: Write>(out: &mut W, n: usize, bits: &[u8]) -> io::Result<()> {
+    let result = vector::check_vector(n, bits);
+    write!(out, "{}", Answer { result })
 }
 
-fn best(n: usize, bits: &[u8]) {
-    print::best(choose::best_polarity(n, bits));
+fn best<W: Write>(out: &mut W, n: usize, bits: &[u8]) -> io::Result<()> {
+    let result = choose::best_polarity(n, bits);
+    write!(out, "{}", Answer { result })
 }
 
-fn tree(n: usize, bits: &[u8], out: &mut [u8]) {
-    print::tree(n, tree::write_tree(n, bits, out), out);
+fn tree<W: Write>(out: &mut W, n: usize, bits: &[u8], lent: &mut [u8]) -> io::Result<()> {
+    let result = tree::write_tree(n, bits, lent);
+    let count = result.ok().map(|tree| tree.products);
+    write!(
+        out,
+        "{}{}",
+        Answer { result },
+        Left {
+            n,
+            count,
+            bytes: lent
+        }
+    )
 }
 
-fn kronecker(n: usize, bits: &[u8], out: &mut [u8]) {
-    print::kronecker(n, choice::write_kronecker(n, bits, out), out);
+fn kronecker<W: Write>(out: &mut W, n: usize, bits: &[u8], lent: &mut [u8]) -> io::Result<()> {
+    let result = choice::write_kronecker(n, bits, lent);
+    let count = result.ok().map(|list| list.products);
+    write!(
+        out,
+        "{}{}",
+        Answer { result },
+        Left {
+            n,
+            count,
+            bytes: lent
+        }
+    )
 }
 
-fn form(n: usize, bits: &[u8], p: u64, out: &mut [u8]) {
-    print::listed(n, form::write_form(n, bits, p, out), out);
+fn form<W: Write>(
+    out: &mut W,
+    n: usize,
+    bits: &[u8],
+    polarity: u64,
+    lent: &mut [u8],
+) -> io::Result<()> {
+    let result = form::write_form(n, bits, polarity, lent);
+    let count = result.ok();
+    write!(
+        out,
+        "{}{}",
+        Answer { result },
+        Left {
+            n,
+            count,
+            bytes: lent
+        }
+    )
 }
 
-fn coefficients(n: usize, bits: &[u8], p: u64, out: &mut [u8]) {
-    print::counted(transform::coefficients(n, bits, p, out));
-    print::bytes(out);
+fn coefficients<W: Write>(
+    out: &mut W,
+    n: usize,
+    bits: &[u8],
+    polarity: u64,
+    lent: &mut [u8],
+) -> io::Result<()> {
+    let result = transform::coefficients(n, bits, polarity, lent);
+    write!(out, "{}{}", Answer { result }, Bytes { bytes: lent })
 }
 
-fn back(n: usize, bits: &[u8], p: u64, out: &mut [u8]) {
-    print::counted(transform::vector_back(n, bits, p, out));
-    print::bytes(out);
+fn back<W: Write>(
+    out: &mut W,
+    n: usize,
+    bits: &[u8],
+    polarity: u64,
+    lent: &mut [u8],
+) -> io::Result<()> {
+    let result = transform::vector_back(n, bits, polarity, lent);
+    write!(out, "{}{}", Answer { result }, Bytes { bytes: lent })
 }
 
-// The calls under a polarity.
-fn under(name: usize, n: usize, bits: &[u8], p: u64, out: &mut [u8]) {
-    if name == head::FORM {
-        form(n, bits, p, out);
-        return;
+/// A call on a vector or on coefficients, in a lent buffer.
+pub fn on_bits<W: Write>(
+    out: &mut W,
+    call: BitsCall,
+    given: &Given,
+    lent: &mut [u8],
+) -> io::Result<()> {
+    let n = given.head.n;
+    let bits = given.first.as_slice();
+    let polarity = given.head.given as u64;
+    match call {
+        BitsCall::Test => test(out, n, bits),
+        BitsCall::Best => best(out, n, bits),
+        BitsCall::Form => form(out, n, bits, polarity, lent),
+        BitsCall::Coefficients => coefficients(out, n, bits, polarity, lent),
+        BitsCall::Back => back(out, n, bits, polarity, lent),
+        BitsCall::Tree => tree(out, n, bits, lent),
+        BitsCall::Kronecker => kronecker(out, n, bits, lent),
     }
-    if name == head::BACK {
-        back(n, bits, p, out);
-        return;
-    }
-    coefficients(n, bits, p, out);
-}
-
-// The call of a name from TEST on: its bits, and the lent buffer.
-pub fn on_bits(name: usize, h: Head, bits: &[u8], out: &mut [u8]) {
-    if name == head::TEST {
-        test(h.n, bits);
-        return;
-    }
-    if name == head::BEST {
-        best(h.n, bits);
-        return;
-    }
-    if name == head::TREE {
-        tree(h.n, bits, out);
-        return;
-    }
-    if name == head::KRONECKER {
-        kronecker(h.n, bits, out);
-        return;
-    }
-    under(name, h.n, bits, h.given as u64, out);
 }

@@ -1,110 +1,136 @@
-// The rows whose calls take a list or a script: the call made, and its answer printed.
+//! The rows whose calls take a list or a script: the call made, and what it answers and leaves written.
 #![tactic(auto)]
 
 mod starts;
 pub mod with_index;
 
-use answers::print;
+use answers::answer::Answer;
+use answers::left::{Bytes, Left};
 use compactor::compact;
 use converters::{narrow_from_wide, wide_from_narrow};
 use cube::{list, value};
-use rows::head;
-use rows::head::Head;
+use rows::call::ListCall;
+use rows::given::Given;
 use script::run;
+use std::io;
+use std::io::Write;
 use writer::write;
 
-fn check(n: usize, list: &[u8]) {
-    print::counted(list::check(n, list));
+fn check<W: Write>(out: &mut W, n: usize, list: &[u8]) -> io::Result<()> {
+    let result = list::check(n, list);
+    write!(out, "{}", Answer { result })
 }
 
-fn value(n: usize, list: &[u8], a: usize) {
-    print::valued(value::value(n, list, a as u64));
+fn value<W: Write>(out: &mut W, n: usize, list: &[u8], a: u64) -> io::Result<()> {
+    let result = value::value(n, list, a);
+    write!(out, "{}", Answer { result })
 }
 
-fn reasons(n: usize, list: &[u8], a: usize, out: &mut [u8]) {
-    print::reasoned(reasons::reasons(n, list, a as u64, out));
-    print::bytes(out);
+fn reasons<W: Write>(
+    out: &mut W,
+    n: usize,
+    list: &[u8],
+    a: u64,
+    lent: &mut [u8],
+) -> io::Result<()> {
+    let result = reasons::reasons(n, list, a, lent);
+    write!(out, "{}{}", Answer { result }, Bytes { bytes: lent })
 }
 
-fn vector(n: usize, list: &[u8], out: &mut [u8]) {
-    print::counted(value::truth_vector(n, list, out));
-    print::bytes(out);
+fn vector<W: Write>(out: &mut W, n: usize, list: &[u8], lent: &mut [u8]) -> io::Result<()> {
+    let result = value::truth_vector(n, list, lent);
+    write!(out, "{}{}", Answer { result }, Bytes { bytes: lent })
 }
 
-fn run(n: usize, list: &[u8], script: &[u8], out: &mut [u8]) {
-    print::finished(n, run::run(n, list, script, out), out);
-}
-
-fn write(n: usize, list: &[u8], work: &mut [u8], script: &mut [u8]) {
-    print::wrote(write::write_script(n, list, work, script));
-    print::bytes(work);
-    print::bytes(script);
-}
-
-fn compact(n: usize, count: usize, script: &[u8], out: &mut [u8]) {
-    print::counted(compact::compact(n, count, script, out));
-    print::bytes(out);
-}
-
-fn wide(n: usize, list: &[u8], out: &mut [u8]) {
-    print::listed(n, wide_from_narrow::wide_from_narrow(n, list, out), out);
-}
-
-fn narrow(n: usize, list: &[u8], out: &mut [u8]) {
-    print::counted(narrow_from_wide::narrow_from_wide(n, list, out));
-    print::bytes(out);
-}
-
-// What is asked of a list: its check, a value, the reasons for one, and its truth vector.
-fn asked(name: usize, h: Head, list: &[u8], out: &mut [u8]) {
-    if name == head::CHECK {
-        check(h.n, list);
-        return;
-    }
-    if name == head::VALUE {
-        value(h.n, list, h.given);
-        return;
-    }
-    if name == head::REASONS {
-        reasons(h.n, list, h.given, out);
-        return;
-    }
-    vector(h.n, list, out);
-}
-
-// The compactor and the converters of lists.
-fn rewritten(name: usize, h: Head, bytes: &[u8], out: &mut [u8]) {
-    if name == head::COMPACT {
-        compact(h.n, h.given, bytes, out);
-        return;
-    }
-    if name == head::WIDE {
-        wide(h.n, bytes, out);
-        return;
-    }
-    narrow(h.n, bytes, out);
-}
-
-// The call of a name below INDEX: its list or script, the script of a run, the lent buffer, and the script buffer of a write.
-pub fn on_list(
-    name: usize,
-    h: Head,
-    bytes: &[u8],
+fn run<W: Write>(
+    out: &mut W,
+    n: usize,
+    list: &[u8],
     script: &[u8],
-    out: &mut [u8],
+    lent: &mut [u8],
+) -> io::Result<()> {
+    let result = run::run(n, list, script, lent);
+    let count = result.ok().map(|ran| ran.count);
+    write!(
+        out,
+        "{}{}",
+        Answer { result },
+        Left {
+            n,
+            count,
+            bytes: lent
+        }
+    )
+}
+
+fn write<W: Write>(
+    out: &mut W,
+    n: usize,
+    list: &[u8],
+    work: &mut [u8],
+    script: &mut [u8],
+) -> io::Result<()> {
+    let result = write::write_script(n, list, work, script);
+    let answer = Answer { result };
+    write!(
+        out,
+        "{answer}{}{}",
+        Bytes { bytes: work },
+        Bytes { bytes: script }
+    )
+}
+
+fn compact<W: Write>(
+    out: &mut W,
+    n: usize,
+    count: usize,
+    script: &[u8],
+    lent: &mut [u8],
+) -> io::Result<()> {
+    let result = compact::compact(n, count, script, lent);
+    write!(out, "{}{}", Answer { result }, Bytes { bytes: lent })
+}
+
+fn wide<W: Write>(out: &mut W, n: usize, list: &[u8], lent: &mut [u8]) -> io::Result<()> {
+    let result = wide_from_narrow::wide_from_narrow(n, list, lent);
+    let count = result.ok();
+    write!(
+        out,
+        "{}{}",
+        Answer { result },
+        Left {
+            n,
+            count,
+            bytes: lent
+        }
+    )
+}
+
+fn narrow<W: Write>(out: &mut W, n: usize, list: &[u8], lent: &mut [u8]) -> io::Result<()> {
+    let result = narrow_from_wide::narrow_from_wide(n, list, lent);
+    write!(out, "{}{}", Answer { result }, Bytes { bytes: lent })
+}
+
+/// A call on a list or a script, in a lent buffer; the script of a write goes into a second one.
+pub fn on_list<W: Write>(
+    out: &mut W,
+    call: ListCall,
+    given: &Given,
+    lent: &mut [u8],
     second: &mut [u8],
-) {
-    if name == head::RUN {
-        run(h.n, bytes, script, out);
-        return;
+) -> io::Result<()> {
+    let n = given.head.n;
+    let number = given.head.given;
+    let list = given.first.as_slice();
+    match call {
+        ListCall::Check => check(out, n, list),
+        ListCall::Value => value(out, n, list, number as u64),
+        ListCall::Reasons => reasons(out, n, list, number as u64, lent),
+        ListCall::Vector => vector(out, n, list, lent),
+        ListCall::Run => run(out, n, list, given.second.as_slice(), lent),
+        ListCall::Write => write(out, n, list, lent, second),
+        ListCall::Compact => compact(out, n, number, list, lent),
+        ListCall::Wide => wide(out, n, list, lent),
+        ListCall::Narrow => narrow(out, n, list, lent),
     }
-    if name == head::WRITE {
-        write(h.n, bytes, out, second);
-        return;
-    }
-    if head::COMPACT <= name {
-        rewritten(name, h, bytes, out);
-        return;
-    }
-    asked(name, h, bytes, out);
 }

@@ -1,63 +1,41 @@
-// The starts of an index: read from the bytes of a row's part, and printed.
-ghost use Rattle.std.specs.Prelude.{◌≤◌, ◌<◌};
-ghost use Rattle.index.specs.Index.{group_count};
-
-use answers::print;
+//! The starts of an index: read from the bytes of a row's part, and shown.
 use index::GROUPS;
 use records::numbers;
+use std::fmt;
 
-// How many numbers four bytes hold.
-const FOUR_BYTES: u64 = 4294967296;
-
-// The number of the eight bytes from byte p on.
-fn number8_at(b: &[u8], p: usize) -> u64 {
-    if b.len() <= p {
+/// The number of the eight bytes from byte p on; a byte past the end is 0.
+fn number8_at(bytes: &[u8], p: usize) -> u64 {
+    if bytes.len() <= p {
         return 0;
     }
-    numbers::number4_at(b, p) as u64 + FOUR_BYTES * (numbers::number4_at(b, p + 4) as u64)
+    u64::from(numbers::number4_at(bytes, p)) | u64::from(numbers::number4_at(bytes, p + 4)) << 32
 }
 
-// A start for each eight bytes; 0 for those that aren't there.
-pub(crate) fn read(b: &[u8]) -> [u64; GROUPS] {
-    let mut s = [0u64; GROUPS];
-    let mut m: usize = 0;
-    while m < GROUPS {
-        s[m] = number8_at(b, 8 * m);
-        m += 1;
+/// A start for each eight bytes; 0 for those that aren't there.
+pub(crate) fn starts_of(bytes: &[u8]) -> [u64; GROUPS] {
+    let mut starts = [0; GROUPS];
+    for m in 0..GROUPS {
+        starts[m] = number8_at(bytes, 8 * m);
     }
-    s
+    starts
 }
 
-// A start that so many groups in a row have.
-fn run(x: u64, times: usize) {
-    if times == 1 {
-        print::number(b" ", x as usize);
-        return;
-    }
-    print::number(b" (", x as usize);
-    print::number(b")*", times);
+/// The starts of all groups, each with how many groups in a row have it.
+#[derive(Clone, Copy, Debug)]
+pub(crate) struct Starts {
+    pub starts: [u64; GROUPS],
 }
 
-// The starts before a group, printed where its own is another one; and the first group whose start is not printed.
-fn run_to(s: [u64; GROUPS], since: usize, m: usize) -> usize
-    requires { (since ≤ m) × (m < group_count) }
-    ensures { result ≤ m }
-{
-    if s[m] == s[since] {
-        return since;
+impl fmt::Display for Starts {
+    fn fmt<W: fmt::Write>(&self, f: &mut fmt::Formatter<W>) -> fmt::Result {
+        f.write_str(" starts")?;
+        for groups in self.starts.chunk_by(|a, b| a == b) {
+            match groups {
+                [start] => write!(f, " {start}")?,
+                [start, ..] => write!(f, " ({start})*{}", groups.len())?,
+                [] => {}
+            }
+        }
+        Ok(())
     }
-    run(s[since], m - since);
-    m
-}
-
-// All starts, each with how many groups in a row have it.
-pub(crate) fn print(s: [u64; GROUPS]) {
-    print::text(b" starts");
-    let mut since: usize = 0;
-    let mut m: usize = 0;
-    while m < GROUPS {
-        since = run_to(s, since, m);
-        m += 1;
-    }
-    run(s[since], GROUPS - since);
 }

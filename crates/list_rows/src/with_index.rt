@@ -1,54 +1,80 @@
-// The rows whose calls make or take an index: the call made, and its answer printed.
-use crate::starts;
-use answers::print;
+//! The rows whose calls make or take an index: the call made, and what it answers and leaves written.
+use crate::starts::{Starts, starts_of};
+use answers::answer::Answer;
+use answers::left::{Bytes, Left};
 use index::{build, group};
-use rows::head;
-use rows::head::Head;
+use rows::call::IndexCall;
+use rows::given::Given;
+use std::io;
+use std::io::Write;
 
-fn index(n: usize, list: &[u8], index: &mut [u8]) {
+fn index<W: Write>(out: &mut W, n: usize, list: &[u8], index: &mut [u8]) -> io::Result<()> {
     let made = build::build(n, list, index);
-    let answer = made.answer;
+    let result = made.answer;
     let starts = made.starts;
-    print::counted(answer);
-    print::bytes(index);
-    starts::print(starts);
+    write!(
+        out,
+        "{}{}{}",
+        Answer { result },
+        Bytes { bytes: index },
+        Starts { starts }
+    )
 }
 
-// What the sibling answers, and the part that is handed back.
-fn group(n: usize, list: &[u8], index: &[u8], starts: &[u8], number: usize) {
-    let s = starts::read(starts);
-    print::counted(group::group_count(n, list, index, s, number));
-    print::bytes(group::group(n, list, index, s, number));
+/// What the sibling answers, and the part that is handed back.
+fn group<W: Write>(out: &mut W, given: &Given) -> io::Result<()> {
+    let n = given.head.n;
+    let list = given.first.as_slice();
+    let index = given.second.as_slice();
+    let starts = starts_of(given.third.as_slice());
+    let number = given.head.given;
+    let result = group::group_count(n, list, index, starts, number);
+    let bytes = group::group(n, list, index, starts, number);
+    write!(out, "{}{}", Answer { result }, Bytes { bytes })
 }
 
-fn indexed(n: usize, list: &[u8], script: &[u8], work: &mut [u8], index: &mut [u8]) {
-    let ran = indexed::run_indexed(n, list, script, work, index);
-    let answer = ran.answer;
+fn indexed<W: Write>(
+    out: &mut W,
+    given: &Given,
+    work: &mut [u8],
+    index: &mut [u8],
+) -> io::Result<()> {
+    let n = given.head.n;
+    let ran = indexed::run_indexed(
+        n,
+        given.first.as_slice(),
+        given.second.as_slice(),
+        work,
+        index,
+    );
+    let result = ran.answer;
+    let count = result.ok().map(|done| done.count);
+    write!(
+        out,
+        "{}{}",
+        Answer { result },
+        Left {
+            n,
+            count,
+            bytes: work
+        }
+    )?;
     let starts = ran.starts;
-    print::finished(n, answer, work);
-    print::bytes(index);
-    starts::print(starts);
-    print::number(b" begun ", ran.begun as usize);
+    write!(out, "{}{}", Bytes { bytes: index }, Starts { starts })?;
+    write!(out, " begun {}", u8::from(ran.begun))
 }
 
-// The call of a name from INDEX on and below TEST: its list, the script of a run or the index of a group, the starts of a group, the lent buffer, and the
-// index buffer of a run.
-pub fn on_index(
-    name: usize,
-    h: Head,
-    list: &[u8],
-    second: &[u8],
-    starts: &[u8],
-    out: &mut [u8],
-    kept: &mut [u8],
-) {
-    if name == head::INDEX {
-        index(h.n, list, out);
-        return;
+/// A call that makes or takes an index, in a lent buffer; the index of a run goes into a second one.
+pub fn on_index<W: Write>(
+    out: &mut W,
+    call: IndexCall,
+    given: &Given,
+    lent: &mut [u8],
+    second: &mut [u8],
+) -> io::Result<()> {
+    match call {
+        IndexCall::Index => index(out, given.head.n, given.first.as_slice(), lent),
+        IndexCall::Group => group(out, given),
+        IndexCall::Indexed => indexed(out, given, lent, second),
     }
-    if name == head::GROUP {
-        group(h.n, list, second, starts, h.given);
-        return;
-    }
-    indexed(h.n, list, second, out, kept);
 }

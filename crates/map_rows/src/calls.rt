@@ -1,68 +1,77 @@
-// The calls on a map, made, and what they answer and leave, printed.
-use crate::burned;
-use answers::print;
-use selector::{MOST_LISTS, MapAnswer, map_reasons, settle_map, slot};
+//! The calls on a map, made, and what they answer and leave written.
+use crate::parts::Parts;
+use crate::shown::{Burned, Each, Told};
+use answers::left::Bytes;
+use rows::head::Head;
+use selector::{map_reasons, settle_map, slot};
+use std::io;
+use std::io::Write;
 
-// The number, or the refusal, with the list that is refused. Answers whether it is the number.
-fn told(answer: MapAnswer) -> bool {
-    match answer {
-        MapAnswer::Number(x) => {
-            print::number(b"= ", x);
-            true
-        }
-        MapAnswer::Refused(r) => {
-            print::refused(r);
-            false
-        }
-        MapAnswer::ListRefused(r, k) => {
-            print::refused(r);
-            print::number(b" list ", k);
-            false
-        }
-    }
+pub(crate) fn slot<W: Write>(out: &mut W, head: Head, map: &Parts) -> io::Result<()> {
+    let answer = slot::slot(
+        head.n,
+        map.bytes.as_slice(),
+        map.lengths.as_slice(),
+        head.given as u64,
+    );
+    writeln!(out, "{}", Told { answer })
 }
 
-// The twelve numbers.
-fn numbers(each: [u64; MOST_LISTS]) {
-    print::text(b" each");
-    let mut k: usize = 0;
-    while k < MOST_LISTS {
-        print::number(b" ", each[k] as usize);
-        k += 1;
-    }
+pub(crate) fn reasons<W: Write>(
+    out: &mut W,
+    head: Head,
+    map: &Parts,
+    lent: &mut [u8],
+) -> io::Result<()> {
+    let a = head.given as u64;
+    let lists = map.bytes.as_slice();
+    let told = map_reasons::map_reasons(head.n, lists, map.lengths.as_slice(), a, lent);
+    let answer = told.answer;
+    let each = told.each;
+    writeln!(
+        out,
+        "{}{}{}",
+        Told { answer },
+        Each { each },
+        Bytes { bytes: lent }
+    )
 }
 
-pub(crate) fn slot(n: usize, lists: &[u8], lengths: &[u64], a: usize) {
-    told(slot::slot(n, lists, lengths, a as u64));
-}
-
-pub(crate) fn reasons(n: usize, lists: &[u8], lengths: &[u64], a: usize, out: &mut [u8]) {
-    let r = map_reasons::map_reasons(n, lists, lengths, a as u64, out);
-    let answer = r.answer;
-    let each = r.each;
-    told(answer);
-    numbers(each);
-    print::bytes(out);
-}
-
-// The output with the burned lists before it, unless the map is refused.
-pub(crate) fn settle(
+/// Settling: what it answers and the work buffer, and the output with the burned lists before it, unless the map is refused.
+pub(crate) fn settle<W: Write>(
+    out: &mut W,
     n: usize,
-    lists: &[u8],
-    lengths: &[u64],
-    scripts: &[u8],
-    script_lengths: &[u64],
+    map: &Parts,
+    scripts: &Parts,
     work: &mut [u8],
-    out: &mut [u8],
-) {
-    let r = settle_map::settle_map(n, lists, lengths, scripts, script_lengths, work, out);
-    let answer = r.answer;
-    let each = r.each;
-    let accepted = told(answer);
-    numbers(each);
-    print::bytes(work);
-    if accepted {
-        burned::lists(n, lengths.len(), each, out);
+    burned: &mut [u8],
+) -> io::Result<()> {
+    let settled = settle_map::settle_map(
+        n,
+        map.bytes.as_slice(),
+        map.lengths.as_slice(),
+        scripts.bytes.as_slice(),
+        scripts.lengths.as_slice(),
+        work,
+        burned,
+    );
+    let answer = settled.answer;
+    let each = settled.each;
+    write!(
+        out,
+        "{}{}{}",
+        Told { answer },
+        Each { each },
+        Bytes { bytes: work }
+    )?;
+    if answer.is_ok() {
+        let lists = Burned {
+            n,
+            count: map.lengths.len(),
+            lengths: each,
+            bytes: burned,
+        };
+        write!(out, "{lists}")?;
     }
-    print::bytes(out);
+    writeln!(out, "{}", Bytes { bytes: burned })
 }

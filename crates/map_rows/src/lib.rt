@@ -1,7 +1,9 @@
-// The rows whose calls take a map: their parts read, the call made, and its answer printed.
+//! The rows whose calls take a map: their parts read, the call made, and what it answers and leaves written.
 #![tactic(auto)]
 
-mod burned;
 mod calls;
 mod parts;
-pub mod row;
+mod row;
+mod shown;
+
+pub use row::Maps;

@@ -1,172 +1,88 @@
-// A row: its parts read, its buffers lent, and its call made.
+//! A row: its parts read, its buffers lent, and its call made.
 use crate::{calls, parts};
-use answers::print;
 use cube::list;
 use rows::head::Head;
 use rows::item::Kind;
-use rows::{data, head, item};
+use rows::reader::{Reader, RowError};
+use rows::table::Answers;
 use script::check;
-use selector::MOST_LISTS;
-use text::{ReadNumber, place};
+use std::alloc::Global;
+use std::io::Write;
 
-// The calls.
-const SLOT: usize = 1;
+/// The calls on a map.
+#[derive(Clone, Copy, Debug, PartialEq, Eq)]
+enum MapCall {
+    Slot,
+    Reasons,
+    Settle,
+}
 
-const REASONS: usize = 2;
-
-const SETTLE: usize = 3;
-
-// Lists or scripts of a row, at most: one more than a map has.
-const MOST_PARTS: usize = MOST_LISTS + 1;
-
-// Bytes of all lists or of a lent buffer, at most: two lists of a record more than the most, and 2 bytes.
+/// Bytes of all lists or of a lent buffer, at most: two lists of a record more than the most, and 2 bytes.
 const MOST_ROOM: usize = 2 * list::RECORD_WIDTH * (list::MOST_RECORDS + 1) + 2;
 
-// Bytes of all scripts, at most: two scripts of a step more than the most, and a byte.
+/// Bytes of all scripts, at most: two scripts of a step more than the most, and a byte.
 const SCRIPT_BYTES: usize = 2 * check::STEP_WIDTH * (check::MOST_STEPS + 1) + 1;
 
-// Characters of a cube, at most: one more than the variables of a list.
+/// Characters of a cube, at most: one more than the variables of a list.
 const MOST_CODES: usize = list::MOST_VARIABLES + 1;
 
-// What every byte of a lent buffer is before the call.
+/// What every byte of a lent buffer is before the call.
 const UNTOUCHED: u8 = 7;
 
-// Whether a row can't be read: its parts end before it does, or its head asks for too much room.
-fn wrong(row: &[u8], h: Head, p: usize) -> bool {
-    if p != row.len() {
-        print::wrong(p);
-        return true;
-    }
-    if MOST_ROOM < h.room || MOST_ROOM < h.second {
-        print::wrong(h.p);
-        return true;
-    }
-    false
-}
-
-// Settling, with its output lent.
-fn lend_out(
-    h: Head,
-    lists: &[u8],
-    lengths: &[u64],
-    scripts: &[u8],
-    script_lengths: &[u64],
-    work: &mut [u8],
-) {
-    let mut out = [UNTOUCHED; MOST_ROOM];
-    let size = data::within(h.second, &out);
-    calls::settle(
-        h.n,
-        lists,
-        lengths,
-        scripts,
-        script_lengths,
-        work,
-        &mut out[..size],
-    );
-    print::text(b"\n");
-}
-
-// Settling, with both buffers lent.
-fn lend(h: Head, lists: &[u8], lengths: &[u64], scripts: &[u8], script_lengths: &[u64]) {
-    let mut work = [UNTOUCHED; MOST_ROOM];
-    let size = data::within(h.room, &work);
-    lend_out(
-        h,
-        lists,
-        lengths,
-        scripts,
-        script_lengths,
-        &mut work[..size],
-    );
-}
-
-// Settling, whose scripts stand after a word at a place of the row.
-fn settle(row: &[u8], at: usize, h: Head, lists: &[u8], lengths: &[u64]) {
-    let mut scripts = [0u8; SCRIPT_BYTES];
-    let mut script_lengths = [0u64; MOST_PARTS];
-    let kind = Kind {
-        of: item::STEPS,
-        n: 0,
-    };
-    let p = head::after(row, at, b"scripts");
-    let s = parts::read(row, p, kind, &mut scripts, &mut script_lengths);
-    let end = s.end;
-    let count = s.count;
-    if wrong(row, h, s.p) {
-        return;
-    }
-    lend(h, lists, lengths, &scripts[..end], &script_lengths[..count]);
-}
-
-// Reasons, with its one buffer lent.
-fn reasons(h: Head, lists: &[u8], lengths: &[u64]) {
-    let mut out = [UNTOUCHED; MOST_ROOM];
-    let size = data::within(h.room, &out);
-    calls::reasons(h.n, lists, lengths, h.given, &mut out[..size]);
-}
-
-// The call of a name on a map, after whose lists stands what is read from a place of the row on.
-fn on_map(row: &[u8], at: usize, name: usize, h: Head, lists: &[u8], lengths: &[u64]) {
-    if name == SETTLE {
-        settle(row, at, h, lists, lengths);
-        return;
-    }
-    if wrong(row, h, at) {
-        return;
-    }
-    if name == SLOT {
-        calls::slot(h.n, lists, lengths, h.given);
-    } else {
-        reasons(h, lists, lengths);
-    }
-    print::text(b"\n");
-}
-
-// What a list is made of.
-fn kind(n: usize) -> Kind {
+/// What a list over n variables is made of.
+fn list_kind(n: usize) -> Kind {
     if MOST_CODES < n {
-        return Kind {
-            of: item::NOTHING,
-            n: 0,
-        };
+        return Kind::Nothing;
     }
-    Kind {
-        of: item::CUBES,
-        n: n as u32,
-    }
+    Kind::Cubes { n: n as u32 }
 }
 
-// The call of a name, whose numbers stand from a place on.
-fn call(row: &[u8], name: usize, at: usize) {
-    let h = head::numbers(row, at);
-    let mut lists = [0u8; MOST_ROOM];
-    let mut lengths = [0u64; MOST_PARTS];
-    let s = parts::read(row, h.p, kind(h.n), &mut lists, &mut lengths);
-    let end = s.end;
-    let count = s.count;
-    on_map(row, s.p, name, h, &lists[..end], &lengths[..count]);
-}
-
-// The name that a row begins with.
-fn name(row: &[u8]) -> ReadNumber {
-    match place::word_at(row, 0, b"slot ", SLOT) {
-        ReadNumber::Read(x, p) => ReadNumber::Read(x, p),
-        ReadNumber::Wrong(_) => match place::word_at(row, 0, b"reasons ", REASONS) {
-            ReadNumber::Read(x, p) => ReadNumber::Read(x, p),
-            ReadNumber::Wrong(_) => place::word_at(row, 0, b"settle ", SETTLE),
-        },
+/// Takes the name that a row begins with.
+fn call_of(reader: &mut Reader<'_>) -> Result<MapCall, RowError> {
+    if reader.skip(b"slot ") {
+        return Ok(MapCall::Slot);
     }
+    if reader.skip(b"reasons ") {
+        return Ok(MapCall::Reasons);
+    }
+    reader.expect(b"settle ")?;
+    Ok(MapCall::Settle)
 }
 
-// One row: its call, and what it answers and leaves.
-pub fn row(text: &[u8]) {
-    match name(text) {
-        ReadNumber::Wrong(p) => {
-            print::wrong(p);
+/// Whether the row is read to its end, and asks for no more room than there is.
+fn all_read(reader: &Reader<'_>, head: Head) -> Result<(), RowError> {
+    reader.end()?;
+    head.within(MOST_ROOM)
+}
+
+/// The rows whose calls are those of `selector`.
+pub struct Maps;
+
+impl Answers for Maps {
+    fn answer<W: Write>(out: &mut W, alloc: Global, row: &[u8]) -> Result<(), RowError> {
+        let mut reader = Reader::new(row);
+        let call = call_of(&mut reader)?;
+        let head = reader.head();
+        let map = parts::read(&mut reader, alloc, list_kind(head.n), MOST_ROOM)?;
+        match call {
+            MapCall::Slot => {
+                all_read(&reader, head)?;
+                calls::slot(out, head, &map)?;
+            }
+            MapCall::Reasons => {
+                all_read(&reader, head)?;
+                let mut lent = vec![in alloc; UNTOUCHED; head.room]?;
+                calls::reasons(out, head, &map, &mut lent)?;
+            }
+            MapCall::Settle => {
+                let _ = reader.skip(b"scripts");
+                let scripts = parts::read(&mut reader, alloc, Kind::Steps, SCRIPT_BYTES)?;
+                all_read(&reader, head)?;
+                let mut work = vec![in alloc; UNTOUCHED; head.room]?;
+                let mut burned = vec![in alloc; UNTOUCHED; head.second]?;
+                calls::settle(out, head.n, &map, &scripts, &mut work, &mut burned)?;
+            }
         }
-        ReadNumber::Read(name, p) => {
-            call(text, name, p);
-        }
+        Ok(())
     }
 }

@@ -1,6 +1,10 @@
-// The rows of a table of calls, read: the name of a call, its numbers and its parts.
+//! The rows of a table of calls, read: the name of a call, its numbers and its parts.
 #![tactic(auto)]
 
-pub mod data;
+pub mod call;
+pub mod given;
 pub mod head;
 pub mod item;
+pub mod part;
+pub mod reader;
+pub mod table;

@@ -1,35 +1,31 @@
-// Settling a list of cubes: the call made, and its answer printed.
-use answers::print;
-use settling::{Fixed, Settled, settle};
+//! Settling a list of cubes: the call made, and what it answers and leaves written.
+use answers::answer::Answer;
+use answers::left::Bytes;
+use rows::given::Given;
+use settling::settle;
+use std::io;
+use std::io::Write;
 
-// The best polarity and its size; a stroke for each where there is none.
-fn fixed(f: Fixed) {
-    match f {
-        Fixed::Polarity(p, size) => {
-            print::number(b" fixed ", p);
-            print::number(b" ", size);
-        }
-        Fixed::Absent => {
-            print::text(b" fixed - -");
-        }
-    }
-}
-
-// The counts or the refusal, and both buffers.
-pub(crate) fn settle(n: usize, list: &[u8], script: &[u8], work: &mut [u8], out: &mut [u8]) {
-    match settle::settle(n, list, script, work, out) {
-        Settled::Burned(s) => {
-            print::number(b"= given ", s.given);
-            print::number(b" peak ", s.peak);
-            print::number(b" script ", s.script);
-            let f = s.fixed;
-            fixed(f);
-            print::number(b" burned ", s.burned);
-        }
-        Settled::Refused(r) => {
-            print::refused(r);
-        }
-    }
-    print::bytes(work);
-    print::bytes(out);
+/// The counts or the refusal, and both buffers.
+pub fn settle_cubes<W: Write>(
+    out: &mut W,
+    given: &Given,
+    work: &mut [u8],
+    burned: &mut [u8],
+) -> io::Result<()> {
+    let n = given.head.n;
+    let result = settle::settle(
+        n,
+        given.first.as_slice(),
+        given.second.as_slice(),
+        work,
+        burned,
+    );
+    let answer = Answer { result };
+    write!(
+        out,
+        "{answer}{}{}",
+        Bytes { bytes: work },
+        Bytes { bytes: burned }
+    )
 }

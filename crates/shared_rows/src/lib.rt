@@ -1,89 +1,94 @@
-// The rows whose calls take shared products, and those that settle a list: the call made, and its answer printed.
+//! The rows whose calls take shared products, and those that settle a list: the call made, and what it answers and leaves written.
 #![tactic(auto)]
 
 mod cubes;
 mod products;
 
-use answers::print;
-use rows::head;
-use rows::head::Head;
-use script::Finished;
-use shared::{Worded, list, value};
-use shared_run::{SharedSettled, run, settle};
+use crate::products::Products;
+use answers::answer::Answer;
+use answers::left::Bytes;
+pub use cubes::settle_cubes;
+use rows::call::SharedCall;
+use rows::given::Given;
+use shared::{list, value};
+use shared_run::{run, settle};
+use std::io;
+use std::io::Write;
 
-fn check(n: usize, list: &[u8]) {
-    print::counted(list::check(n, list));
+fn check<W: Write>(out: &mut W, n: usize, list: &[u8]) -> io::Result<()> {
+    let result = list::check(n, list);
+    write!(out, "{}", Answer { result })
 }
 
-// The word of all outputs' values.
-fn value(n: usize, list: &[u8], a: usize) {
-    match value::value(n, list, a as u64) {
-        Worded::Word(w) => {
-            print::number(b"= ", w as usize);
-        }
-        Worded::Refused(r) => {
-            print::refused(r);
-        }
-    }
+/// The word of all outputs' values.
+fn value<W: Write>(out: &mut W, n: usize, list: &[u8], a: u64) -> io::Result<()> {
+    let result = value::value(n, list, a);
+    write!(out, "{}", Answer { result })
 }
 
-fn run(n: usize, list: &[u8], script: &[u8], work: &mut [u8]) {
-    match run::run(n, list, script, work) {
-        Finished::Done(count, peak) => {
-            print::number(b"= ", count);
-            print::number(b" peak ", peak);
-            products::list(n, count, work);
-        }
-        Finished::Refused(r) => {
-            print::refused(r);
-            print::bytes(work);
-        }
-    }
-}
-
-// The counts, the work buffer, and the output with its products.
-fn settle(n: usize, list: &[u8], script: &[u8], work: &mut [u8], out: &mut [u8]) {
-    match settle::settle(n, list, script, work, out) {
-        SharedSettled::Burned(s) => {
-            print::number(b"= given ", s.given);
-            print::number(b" peak ", s.peak);
-            print::number(b" script ", s.script);
-            print::number(b" burned ", s.burned);
-            print::bytes(work);
-            products::list(n, s.burned, out);
-        }
-        SharedSettled::Refused(r) => {
-            print::refused(r);
-            print::bytes(work);
-            print::bytes(out);
-        }
-    }
-}
-
-// The call of a name from SETTLE on and below TEST: its list, the script of a run, the lent buffer, and the output buffer of settling.
-pub fn on_shared(
-    name: usize,
-    h: Head,
+fn run<W: Write>(
+    out: &mut W,
+    n: usize,
     list: &[u8],
     script: &[u8],
-    out: &mut [u8],
+    work: &mut [u8],
+) -> io::Result<()> {
+    let result = run::run(n, list, script, work);
+    let count = result.ok().map(|ran| ran.count);
+    write!(
+        out,
+        "{}{}",
+        Answer { result },
+        Products {
+            n,
+            count,
+            bytes: work
+        }
+    )
+}
+
+/// The counts, the work buffer, and the output with its products.
+fn settle<W: Write>(
+    out: &mut W,
+    n: usize,
+    given: &Given,
+    work: &mut [u8],
+    burned: &mut [u8],
+) -> io::Result<()> {
+    let result = settle::settle(
+        n,
+        given.first.as_slice(),
+        given.second.as_slice(),
+        work,
+        burned,
+    );
+    let count = result.ok().map(|settled| settled.burned);
+    write!(out, "{}{}", Answer { result }, Bytes { bytes: work })?;
+    write!(
+        out,
+        "{}",
+        Products {
+            n,
+            count,
+            bytes: burned
+        }
+    )
+}
+
+/// A call on shared products, in a lent buffer; the output of settling is a second one.
+pub fn on_shared<W: Write>(
+    out: &mut W,
+    call: SharedCall,
+    given: &Given,
+    lent: &mut [u8],
     second: &mut [u8],
-) {
-    if name == head::SHARED_CHECK {
-        check(h.n, list);
-        return;
+) -> io::Result<()> {
+    let n = given.head.n;
+    let list = given.first.as_slice();
+    match call {
+        SharedCall::Check => check(out, n, list),
+        SharedCall::Value => value(out, n, list, given.head.given as u64),
+        SharedCall::Run => run(out, n, list, given.second.as_slice(), lent),
+        SharedCall::Settle => settle(out, n, given, lent, second),
     }
-    if name == head::SHARED_VALUE {
-        value(h.n, list, h.given);
-        return;
-    }
-    if name == head::SHARED_RUN {
-        run(h.n, list, script, out);
-        return;
-    }
-    if name == head::SHARED_SETTLE {
-        settle(h.n, list, script, out, second);
-        return;
-    }
-    cubes::settle(h.n, list, script, out, second);
 }

@@ -1,30 +1,40 @@
-// The shared products that stand in a buffer, printed: each as its cube and, after a stroke, its outputs.
-use answers::print;
+//! Shared products, each shown as its cube and, after a stroke, its outputs.
+use answers::left::{Bytes, Spelt, is_whole};
 use shared::list;
+use std::fmt;
 
-// The product at a place, where the buffer has it.
-fn product(n: usize, b: &[u8], i: usize) {
-    if b.len() / list::SHARED_WIDTH <= i {
-        return;
-    }
-    let s = list::record_at(b, i);
-    print::cube(n, s.cube);
-    print::number(b"/", s.outputs as usize);
+/// A lent buffer: the shared products that stand in it, where a call counted them and it is shown whole, and its bytes.
+#[derive(Clone, Copy, Debug)]
+pub(crate) struct Products<'a> {
+    pub n: usize,
+    pub count: Option<usize>,
+    pub bytes: &'a [u8],
 }
 
-fn all(n: usize, count: usize, b: &[u8]) {
-    let mut i: usize = 0;
-    while i < count {
-        product(n, b, i);
-        i += 1;
+/// So many products of a list.
+fn show<W: fmt::Write>(
+    f: &mut fmt::Formatter<W>,
+    n: usize,
+    count: usize,
+    bytes: &[u8],
+) -> fmt::Result {
+    f.write_str(" :")?;
+    for i in 0..count.min(bytes.len() / list::SHARED_WIDTH) {
+        let product = list::record_at(bytes, i);
+        let cube = product.cube;
+        write!(f, " {}/{}", Spelt { n, cube }, product.outputs)?;
     }
+    Ok(())
 }
 
-// The products of a lent buffer that is shown whole, and its bytes.
-pub(crate) fn list(n: usize, count: usize, b: &[u8]) {
-    if b.len() <= print::MOST_SHOWN {
-        print::text(b" :");
-        all(n, count, b);
+impl fmt::Display for Products<'_> {
+    fn fmt<W: fmt::Write>(&self, f: &mut fmt::Formatter<W>) -> fmt::Result {
+        let bytes = self.bytes;
+        if let Some(count) = self.count
+            && is_whole(bytes)
+        {
+            show(f, self.n, count, bytes)?;
+        }
+        write!(f, "{}", Bytes { bytes })
     }
-    print::bytes(b);
 }

@@ -1,4 +1,4 @@
-// The descriptors of standard input, standard output and standard error, as `io`'s calls take them.
+//! The descriptors of standard input, standard output and standard error, as `io`'s calls take them.
 #![tactic(auto)]
 
 pub const STDIN_FILENO: i32 = 0;

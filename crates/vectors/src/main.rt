@@ -1,18 +1,12 @@
-// Vectors through the calls of `cube`, `reasons`, `converters`, `script`, `index`, `indexed`, `writer`, `compactor`, `settling`, `shared`, `shared_run`, `polarity`, `trees` and `kronecker`: a table from standard input. Each row is printed as it stands, and after it what its call answers
-// and what it leaves in the buffers that it was lent; a row that can't be read is answered by the place from which on it can't.
+//! Vectors through the calls of `cube`, `reasons`, `converters`, `script`, `index`, `indexed`, `writer`, `compactor`, `settling`, `shared`, `shared_run`, `polarity`, `trees` and `kronecker`: a table from standard input. Each row is printed as it stands, and after it what its call answers
+//! and what it leaves in the buffers that it was lent; a row that can't be read is answered by the place from which on it can't.
 #![tactic(auto)]
 
-mod call;
-mod table;
+mod vectors;
 
-use answers::print;
+use std::io;
+use vectors::Vectors;
 
-fn main() {
-    let mut bytes = io::large_buffer();
-    let size = io::read_full(streams::STDIN_FILENO, &mut bytes);
-    if size == bytes.len() {
-        print::text(b"the table is too long\n");
-        return;
-    }
-    table::rows(&bytes[..size]);
+fn main(rt: HostRuntime) -> io::Result<()> {
+    rows::table::answer_all::<Vectors, _>(&rt)
 }
