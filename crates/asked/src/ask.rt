@@ -1,108 +1,106 @@
-// What is asked of a map as it is: how large it is, the slot of a label, and why.
-ghost use Rattle.std.specs.Prelude.{◌≤◌, length};
-ghost use Rattle.selector.specs.Maps.{most_lists};
-
+//! What is asked of a map as it is: how large it is, the slot of a label, and why.
 use crate::{lists, trues};
-use explain::{say, say_number};
 use program::label::label_in;
-use reasons::Reasoned;
-use records::Refusal;
-use selector::{MOST_LISTS, MapAnswer};
-use streams::STDOUT_FILENO;
-use text_files::tell;
+use records::Reason;
+use records::place::PLACE_WIDTH;
+use selector::{MOST_LISTS, MapRefusal};
+use text_files::job::{Job, System};
+use text_files::load::Map;
+use text_files::told::Told;
+use text_files::{buffers, first_records};
 
-fn sizes(n: usize, m: usize, products: usize) {
-    say_number(STDOUT_FILENO, b"inputs ", n);
-    say_number(STDOUT_FILENO, b" outputs ", m);
-    say_number(STDOUT_FILENO, b" products ", products);
+/// How large a list of cubes is, and what it costs.
+pub fn check_one(rt: &impl Print, n: usize, list: &[u8]) {
+    let products = list.len() / cube::list::RECORD_WIDTH;
+    let cost = text_files::cost::cost(list);
+    let _ = println!(rt; "inputs {n} outputs 1 products {products} cost {cost}");
 }
 
-pub fn check_one(n: usize, list: &[u8]) {
-    sizes(n, 1, list.len() / cube::list::RECORD_WIDTH);
-    say_number(STDOUT_FILENO, b" cost ", text_files::cost::cost(list));
-    say(STDOUT_FILENO, b"\n");
+/// How large a map of several outputs is.
+pub fn check_shared(rt: &impl Print, map: &Map) {
+    let products = map.products.len() / shared::list::SHARED_WIDTH;
+    let _ = println!(rt;
+        "inputs {} outputs {} products {products}",
+        map.inputs, map.outputs
+    );
 }
 
-pub fn check_shared(n: usize, m: usize, list: &[u8]) {
-    sizes(n, m, list.len() / shared::list::SHARED_WIDTH);
-    say(STDOUT_FILENO, b"\n");
+/// The places and the products of a list that are true at a label, one a line; and the bit.
+pub fn why_one<'a, R: System, E: Print>(
+    job: &Job<'a, R, E>,
+    n: usize,
+    list: &[u8],
+) -> Result<(), Told<'a>> {
+    let mut places = vec![in job.rt.alloc(); 0u8; buffers::PLACES_BYTES]?;
+    let shown = reasons::reasons(n, list, label_in(job.word), &mut places).map_err(
+        |refusal| job.of_label(refusal),
+    )?;
+    let _ = println!(job.err; "bit {}", shown.bit);
+    trues::print(
+        job.rt,
+        n,
+        list,
+        first_records(PLACE_WIDTH, shown.count, &places),
+    );
+    Ok(())
 }
 
-// The places and the products of a list that are true at a label, one a line; and the bit.
-pub fn why_one(n: usize, list: &[u8], a: &[u8], label: &[u8], err: i32) {
-    let mut places = text_files::buffers::places();
-    match reasons::reasons(n, list, label_in(label), &mut places) {
-        Reasoned::Refused(r) => {
-            tell::of_label(err, a, label, r);
-        }
-        Reasoned::Shown(number, bit) => {
-            say_number(err, b"bit ", bit as usize);
-            say(err, b"\n");
-            trues::print(n, list, &places, number);
-        }
+/// What is told of a map that is refused: a refusal of one of its lists is one of the label.
+fn told_of<'a, R, E>(job: &Job<'a, R, E>, why: MapRefusal) -> Told<'a> {
+    match why.list {
+        None => job.whole(why.refusal),
+        Some(_) => job.of_label(why.refusal),
     }
 }
 
-pub fn slot_one(n: usize, list: &[u8], a: &[u8], label: &[u8], err: i32) {
-    let lengths = [list.len() as u64];
-    slot_of(n, list, &lengths, a, label, err);
+/// The slot of a label, in lists that stand end to end.
+fn slot_of<'a, R: System, E: Print>(
+    job: &Job<'a, R, E>,
+    n: usize,
+    bytes: &[u8],
+    lengths: &[u64],
+) -> Result<(), Told<'a>> {
+    let slot = selector::slot::slot(n, bytes, lengths, label_in(job.word)).map_err(|why| told_of(
+        job, why,
+    ))?;
+    let _ = println!(job.rt; "{slot}");
+    Ok(())
 }
 
-fn slot_of(n: usize, all: &[u8], lengths: &[u64], a: &[u8], label: &[u8], err: i32) {
-    match selector::slot::slot(n, all, lengths, label_in(label)) {
-        MapAnswer::Number(slot) => {
-            say_number(STDOUT_FILENO, b"", slot);
-            say(STDOUT_FILENO, b"\n");
-        }
-        MapAnswer::Refused(r) => {
-            tell::whole(err, a, r);
-        }
-        MapAnswer::ListRefused(r, _) => {
-            tell::of_label(err, a, label, r);
-        }
-    }
+/// The slot of a label in a list of cubes.
+pub fn slot_one<'a, R: System, E: Print>(
+    job: &Job<'a, R, E>,
+    n: usize,
+    list: &[u8],
+) -> Result<(), Told<'a>> {
+    slot_of(job, n, list, &[list.len() as u64])
 }
 
-// The slot of a label, where there are several outputs.
-pub fn slot(n: usize, m: usize, list: &[u8], a: &[u8], label: &[u8], err: i32) {
-    if MOST_LISTS < m {
-        tell::whole(err, a, Refusal::new(24, 0));
-        return;
+/// The slot of a label, where there are several outputs.
+pub fn slot<'a, R: System, E: Print>(job: &Job<'a, R, E>, map: &Map) -> Result<(), Told<'a>> {
+    if MOST_LISTS < map.outputs {
+        return Err(job.whole(Reason::NotOneToTwelve.at(0)));
     }
-    let mut all = lists::buffer();
-    let mut lengths = [0u64; MOST_LISTS];
-    let end = lists::put_lists(m, list, &mut all, &mut lengths);
-    slot_of(n, &all[..end], &lengths[..m], a, label, err);
+    let all = lists::lists_of(job.rt, map.outputs, &map.products)?;
+    slot_of(job, map.inputs, &all.bytes, &all.lengths)
 }
 
-// Each bit of a slot, and the places of its products that are true, in the list of its output.
-fn shown(n: usize, all: &[u8], lengths: &[u64], a: &[u8], label: &[u8], err: i32)
-    requires { length lengths.now ≤ most_lists }
-{
-    let mut places = text_files::buffers::map_places();
-    let told = selector::map_reasons::map_reasons(n, all, lengths, label_in(label), &mut places);
-    let answer = told.answer;
-    match answer {
-        MapAnswer::Number(_) => {
-            selector_files::print::shown(lengths.len(), told, &places);
-        }
-        MapAnswer::Refused(r) => {
-            tell::whole(err, a, r);
-        }
-        MapAnswer::ListRefused(r, _) => {
-            tell::of_label(err, a, label, r);
-        }
+/// Why a label gets its slot, where there are several outputs: each bit, and the places of its products that are true, in the list of its output.
+pub fn why_shared<'a, R: System, E: Print>(job: &Job<'a, R, E>, map: &Map) -> Result<(), Told<'a>> {
+    if MOST_LISTS < map.outputs {
+        return Err(job.whole(Reason::NotOneToTwelve.at(0)));
     }
-}
-
-// Why a label gets its slot, where there are several outputs.
-pub fn why_shared(n: usize, m: usize, list: &[u8], a: &[u8], label: &[u8], err: i32) {
-    if MOST_LISTS < m {
-        tell::whole(err, a, Refusal::new(24, 0));
-        return;
-    }
-    let mut all = lists::buffer();
-    let mut lengths = [0u64; MOST_LISTS];
-    let end = lists::put_lists(m, list, &mut all, &mut lengths);
-    shown(n, &all[..end], &lengths[..m], a, label, err);
+    let all = lists::lists_of(job.rt, map.outputs, &map.products)?;
+    let mut places = vec![in job.rt.alloc(); 0u8; buffers::MAP_PLACES_BYTES]?;
+    let a = label_in(job.word);
+    let told = selector::map_reasons::map_reasons(
+        map.inputs,
+        &all.bytes,
+        &all.lengths,
+        a,
+        &mut places,
+    );
+    let slot = told.answer.map_err(|why| told_of(job, why))?;
+    selector_files::print::shown(job.rt, slot, &told.each[..all.lengths.len()], &places);
+    Ok(())
 }

@@ -1,4 +1,4 @@
-// What is asked of a map as text: how large it is, the slot of a label, and why.
+//! What is asked of a map as text: how large it is, the slot of a label, and why.
 #![tactic(auto)]
 
 pub mod ask;

@@ -1,4 +1,4 @@
-// `map.cub` is a folder, which can be opened and not read: no file.
+//! `map.cub` is a folder, which can be opened and not read: no file.
 #![tactic(auto)]
 
 fn main(rt: HostRuntime) {

@@ -1,4 +1,4 @@
-// A list that has to grow to shrink: three products, then four, then two.
+//! A list that has to grow to shrink: three products, then four, then two.
 #![tactic(auto)]
 
 fn main(rt: HostRuntime) {

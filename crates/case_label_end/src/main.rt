@@ -1,4 +1,4 @@
-// The label's line has no newline, and ends the input.
+//! The label's line has no newline, and ends the input.
 #![tactic(auto)]
 
 fn main(rt: HostRuntime) {

@@ -1,4 +1,4 @@
-// An empty line: refusal 1, whatever the line after it says.
+//! An empty line: refusal 1, whatever the line after it says.
 #![tactic(auto)]
 
 fn main(rt: HostRuntime) {

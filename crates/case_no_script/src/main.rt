@@ -1,4 +1,4 @@
-// `map.scr` is missing, and the list is good: no file. The line has no newline.
+//! `map.scr` is missing, and the list is good: no file. The line has no newline.
 #![tactic(auto)]
 
 fn main(rt: HostRuntime) {

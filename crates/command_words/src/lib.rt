@@ -1,4 +1,4 @@
-// The words of the program `druthmoy`: its commands by their names, and its help.
+//! The words of the program `druthmoy`: its commands by their names, and its help.
 #![tactic(auto)]
 
 pub mod help;

@@ -1,7 +1,8 @@
-// The commands by their names.
-use lines::word::same;
+//! The commands by their names.
+use std::str::FromStr;
 
-#[derive(Clone, Copy)]
+/// What the program is asked for.
+#[derive(Clone, Copy, Debug, PartialEq, Eq)]
 pub enum Verb {
     Settle,
     Check,
@@ -18,98 +19,58 @@ pub enum Verb {
     UnpackShared,
     Sheet,
     Help,
-    Unknown,
 }
 
-// The commands that make another list or another script.
-fn of_making(word: &[u8]) -> Verb {
-    if same(word, b"easy") {
-        return Verb::Easy;
-    }
-    if same(word, b"compact") {
-        return Verb::Compact;
-    }
-    if same(word, b"tree") {
-        return Verb::Tree;
-    }
-    if same(word, b"best") {
-        return Verb::Best;
-    }
-    Verb::Unknown
-}
+/// A word that names no command.
+#[derive(Clone, Copy, Debug, PartialEq, Eq)]
+pub struct UnknownVerb;
 
-// The command of a name.
-pub fn of_word(word: &[u8]) -> Verb {
-    if same(word, b"settle") {
-        return Verb::Settle;
-    }
-    if same(word, b"sheet") {
-        return Verb::Sheet;
-    }
-    if same(word, b"check") {
-        return Verb::Check;
-    }
-    if same(word, b"why") {
-        return Verb::Why;
-    }
-    if same(word, b"slot") {
-        return Verb::Slot;
-    }
-    if same(word, b"pack") {
-        return Verb::Pack;
-    }
-    if same(word, b"unpack") {
-        return Verb::Unpack;
-    }
-    if same(word, b"--help") {
-        return Verb::Help;
-    }
-    of_making(word)
-}
+impl FromStr for Verb {
+    type Err = UnknownVerb;
 
-// The command that a word after it makes of it: `--narrow` of both ways to and from records, `--shared` of the way from them.
-pub fn with_option(verb: Verb, option: &[u8]) -> Verb {
-    match verb {
-        Verb::Pack => {
-            if same(option, b"--narrow") {
-                return Verb::PackNarrow;
-            }
-            Verb::Pack
+    fn from_str(word: &str) -> Result<Verb, UnknownVerb> {
+        match word {
+            "settle" => Ok(Verb::Settle),
+            "sheet" => Ok(Verb::Sheet),
+            "check" => Ok(Verb::Check),
+            "why" => Ok(Verb::Why),
+            "slot" => Ok(Verb::Slot),
+            "easy" => Ok(Verb::Easy),
+            "compact" => Ok(Verb::Compact),
+            "tree" => Ok(Verb::Tree),
+            "best" => Ok(Verb::Best),
+            "pack" => Ok(Verb::Pack),
+            "unpack" => Ok(Verb::Unpack),
+            "--help" => Ok(Verb::Help),
+            _ => Err(UnknownVerb),
         }
-        Verb::Unpack => {
-            if same(option, b"--narrow") {
-                return Verb::UnpackNarrow;
-            }
-            if same(option, b"--shared") {
-                return Verb::UnpackShared;
-            }
-            Verb::Unpack
+    }
+}
+
+impl Verb {
+    /// The command of a name, which need not be text.
+    pub fn of_word(word: &[u8]) -> Option<Verb> {
+        str::from_utf8(word).ok()?.parse().ok()
+    }
+
+    /// The command that an option after it makes of it, if the word is one: `--narrow` of both ways to and from records, `--shared` of the way from them.
+    pub fn with_option(self, word: &[u8]) -> Option<Verb> {
+        match (self, str::from_utf8(word).ok()?) {
+            (Verb::Pack, "--narrow") => Some(Verb::PackNarrow),
+            (Verb::Unpack, "--narrow") => Some(Verb::UnpackNarrow),
+            (Verb::Unpack, "--shared") => Some(Verb::UnpackShared),
+            _ => None,
         }
-        other => other,
     }
-}
 
-// Whether a command was changed by the word after it, which then is none of its words.
-pub fn is_option(verb: Verb) -> bool {
-    match verb {
-        Verb::PackNarrow => true,
-        Verb::UnpackNarrow => true,
-        Verb::UnpackShared => true,
-        _ => false,
-    }
-}
-
-// Whether a command takes so many words after it.
-pub fn takes(verb: Verb, words: usize) -> bool {
-    match verb {
-        Verb::Settle => words == 1 || words == 2,
-        Verb::Sheet => words == 1 || words == 2,
-        Verb::Check => words == 1,
-        Verb::Easy => words == 1,
-        Verb::Tree => words == 1,
-        Verb::Best => words == 1,
-        Verb::Help => true,
-        Verb::Unknown => false,
-        _ => words == 2,
+    /// Whether a command takes so many words after it.
+    pub fn takes(self, words: usize) -> bool {
+        match self {
+            Verb::Settle | Verb::Sheet => words == 1 || words == 2,
+            Verb::Check | Verb::Easy | Verb::Tree | Verb::Best => words == 1,
+            Verb::Help => true,
+            Verb::Why | Verb::Slot | Verb::Compact | Verb::Pack | Verb::PackNarrow => words == 2,
+            Verb::Unpack | Verb::UnpackNarrow | Verb::UnpackShared => words == 2,
+        }
     }
 }

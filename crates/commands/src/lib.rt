@@ -1,162 +1,181 @@
-// The commands of the program `druthmoy`, on maps and scripts as text.
+//! The commands of the program `druthmoy`, on maps and scripts as text.
 #![tactic(auto)]
 
-mod one;
-
-ghost use Rattle.io.specs.Counts.{IsPrefixLen};
-
 use asked::ask;
+use command_words::help;
 use command_words::verb::Verb;
-use command_words::{help, verb};
 use packed::binary;
-use records::Refusal;
+use records::Reason;
 use rewritten::{rewrite, settle};
 use sheet::page;
+use std::alloc::AllocError;
 use std::env::FillError;
-use std::rt::{Env, Files};
-use streams::{STDERR_FILENO, STDOUT_FILENO};
-use text_files::{LoadedMap, buffers, load, tell, twelves};
+use std::rt::Env;
+use text_files::job::{Job, System};
+use text_files::load::Map;
+use text_files::told::Told;
+use text_files::{buffers, load};
 
-// What a command does with a map of several outputs, whose products are records of 12 bytes; a and b are the words after the command, a the map's file.
-fn on_shared(
-    rt: &impl Files,
+/// Bytes of a word, at most.
+const WORD_BYTES: usize = 4096;
+
+/// What a command does with a map of several outputs, whose products are records of 12 bytes.
+fn on_shared<'a, R: System, E: Print>(
+    job: &Job<'a, R, E>,
+    verb: Verb,
+    map: &Map,
+) -> Result<(), Told<'a>> {
+    match verb {
+        Verb::Settle => settle::shared(job, map),
+        Verb::Check => {
+            ask::check_shared(job.rt, map);
+            Ok(())
+        }
+        Verb::Why => ask::why_shared(job, map),
+        Verb::Slot => ask::slot(job, map),
+        Verb::Pack => binary::pack(job, &map.products),
+        Verb::Sheet => page::shared(job, map),
+        _ => Err(job.whole(Reason::NotOneOutput.at(0))),
+    }
+}
+
+/// The same with a map of one output, whose products are records of 8 bytes.
+fn on_one<'a, R: System, E: Print>(
+    job: &Job<'a, R, E>,
     verb: Verb,
     n: usize,
-    m: usize,
     list: &[u8],
-    a: &[u8],
-    b: &[u8],
-    err: i32,
-) {
+) -> Result<(), Told<'a>> {
     match verb {
-        Verb::Settle => settle::shared(rt, n, m, list, b, err),
-        Verb::Check => ask::check_shared(n, m, list),
-        Verb::Why => ask::why_shared(n, m, list, a, b, err),
-        Verb::Slot => ask::slot(n, m, list, a, b, err),
-        Verb::Pack => binary::pack(rt, list, b, err),
-        Verb::Sheet => page::shared(rt, n, m, list, a, b, err),
-        _ => tell::whole(err, a, Refusal::new(37, 0)),
-    }
-}
-
-// The same with a map of one output, whose products are records of 8 bytes.
-fn on_one(rt: &impl Files, verb: Verb, n: usize, list: &[u8], a: &[u8], b: &[u8], err: i32) {
-    match verb {
-        Verb::Settle => settle::one(rt, n, list, b, err),
-        Verb::Check => ask::check_one(n, list),
-        Verb::Why => ask::why_one(n, list, a, b, err),
-        Verb::Slot => ask::slot_one(n, list, a, b, err),
-        Verb::Easy => rewrite::easy(n, list, a, err),
-        Verb::Compact => rewrite::compact(rt, n, list, b, err),
-        Verb::Tree => rewrite::tree(n, list, a, err),
-        Verb::Best => rewrite::best(n, list, a, err),
-        Verb::Pack => binary::pack(rt, list, b, err),
-        Verb::PackNarrow => binary::pack_narrow(rt, n, list, a, b, err),
-        Verb::Sheet => page::one(rt, n, list, a, b, err),
-        _ => {}
-    }
-}
-
-// The map of the file a, and what the command does with it.
-fn on_map(rt: &impl Files, verb: Verb, a: &[u8], b: &[u8], err: i32) {
-    let mut list = buffers::shares();
-    match load::map(rt, a, &mut list, err) {
-        LoadedMap::Nothing => {}
-        LoadedMap::Map(n, m, products) => {
-            let end = twelves(products, &list);
-            if m == 1 {
-                one::with_cubes(rt, verb, n, &list[..end], a, b, err);
-            } else {
-                on_shared(rt, verb, n, m, &list[..end], a, b, err);
-            }
+        Verb::Settle => settle::one(job, n, list),
+        Verb::Check => {
+            ask::check_one(job.rt, n, list);
+            Ok(())
         }
+        Verb::Why => ask::why_one(job, n, list),
+        Verb::Slot => ask::slot_one(job, n, list),
+        Verb::Easy => rewrite::easy(job, n, list),
+        Verb::Compact => rewrite::compact(job, n, list),
+        Verb::Tree => rewrite::tree(job, n, list),
+        Verb::Best => rewrite::best(job, n, list),
+        Verb::Pack => binary::pack(job, list),
+        Verb::PackNarrow => binary::pack_narrow(job, n, list),
+        Verb::Sheet => page::one(job, n, list),
+        Verb::Unpack | Verb::UnpackNarrow | Verb::UnpackShared | Verb::Help => Ok(()),
     }
 }
 
-// A command that takes its words.
-fn perform(rt: &impl Files, verb: Verb, a: &[u8], b: &[u8], err: i32) {
+/// The map of the first word, and what the command does with it. A product in no output is not among the records of a map of one output.
+fn on_map<'a, R: System, E: Print>(job: &Job<'a, R, E>, verb: Verb) -> Result<(), Told<'a>> {
+    let map = load::map_of(job.rt, job.file)?;
+    if map.outputs != 1 {
+        return on_shared(job, verb, &map);
+    }
+    let mut cubes = vec![in job.rt.alloc(); 0u8; buffers::CUBES_BYTES]?;
+    match outputs::list_of(0, &map.products, &mut cubes) {
+        Ok(count) => {
+            cubes.truncate(count.saturating_mul(cube::list::RECORD_WIDTH));
+            on_one(job, verb, map.inputs, &cubes)
+        }
+        Err(_) => Ok(()),
+    }
+}
+
+/// A command that takes its words.
+fn perform<'a, R: System, E: Print>(job: &Job<'a, R, E>, verb: Verb) -> Result<(), Told<'a>> {
     match verb {
-        Verb::Help => help::print(STDOUT_FILENO),
-        Verb::Unpack => binary::unpack(rt, verb, a, b, err),
-        Verb::UnpackNarrow => binary::unpack(rt, verb, a, b, err),
-        Verb::UnpackShared => binary::unpack(rt, verb, a, b, err),
-        _ => on_map(rt, verb, a, b, err),
+        Verb::Help => {
+            let _ = job.rt.print(help::COMMANDS);
+            Ok(())
+        }
+        Verb::Unpack | Verb::UnpackNarrow | Verb::UnpackShared => binary::unpack(job, verb),
+        _ => on_map(job, verb),
     }
 }
 
-// A command with so many words after it, of which the first two are a and b. A word that is counted and has no byte is too long, or empty.
-fn with_words(rt: &impl Files, verb: Verb, words: usize, a: &[u8], b: &[u8], err: i32) {
-    if !verb::takes(verb, words) {
-        help::misused(err);
+/// A command with the words after it. A word that has no byte is too long, or empty.
+fn with_words<R: System, E: Print>(rt: &R, err: &E, verb: Verb, words: &[&[u8]]) {
+    if !verb.takes(words.len()) {
+        let _ = err.println(help::MISUSED);
         return;
     }
-    if a.len() == 0 && 1 <= words {
-        help::bad_word(err);
+    if words.iter().take(2).any(|word| word.is_empty()) {
+        let _ = err.println(help::BAD_WORD);
         return;
     }
-    if b.len() == 0 && 2 <= words {
-        help::bad_word(err);
-        return;
+    let job = Job {
+        rt,
+        err,
+        file: words.first().copied().unwrap_or(b""),
+        word: words.get(1).copied().unwrap_or(b""),
+    };
+    if let Err(told) = perform(&job, verb) {
+        let _ = told.tell(err);
     }
-    perform(rt, verb, a, b, err);
 }
 
-// A command by its name, with so many words after it, of which the first three are a, b and c: standard output gets what it makes, and err what it says beside.
-pub fn command(rt: &impl Files, name: &[u8], words: usize, a: &[u8], b: &[u8], c: &[u8], err: i32) {
-    let verb = verb::with_option(verb::of_word(name), a);
-    if verb::is_option(verb) {
-        if words == 0 {
+/// A command by its name, with the words after it: standard output gets what it makes, and err what it says beside.
+pub fn command<R: System, E: Print>(rt: &R, err: &E, name: &[u8], words: &[&[u8]]) {
+    let Some(verb) = Verb::of_word(name) else {
+        let _ = err.println(help::MISUSED);
+        return;
+    };
+    if let Some((option, rest)) = words.split_first() {
+        if let Some(verb) = verb.with_option(option) {
+            with_words(rt, err, verb, rest);
             return;
         }
-        with_words(rt, verb, words - 1, b, c, err);
-        return;
     }
-    with_words(rt, verb, words, a, b, err);
+    with_words(rt, err, verb, words);
 }
 
-// How many arguments the program was started with, its own name among them.
-fn arg_count(rt: &impl Env) -> usize {
-    let mut byte = [0u8; 1];
+/// A word that the program was started with, or none where there are no more; one that is longer than the buffer has no byte.
+fn word_of<R: Env + AllocGlobal>(
+    rt: &R,
+    i: usize,
+    buffer: &mut [u8],
+) -> Result<Option<Vec<u8>>, AllocError> {
+    let mut word = Vec::new(rt.alloc());
+    match rt.arg(i, buffer) {
+        Ok(end) => word.extend_from_slice(&buffer[..end])?,
+        Err(FillError::TooLong) => {}
+        Err(FillError::NotPresent) => return Ok(None),
+    }
+    Ok(Some(word))
+}
+
+/// The words that the program was started with, its own name among them.
+fn words_of<R: Env + AllocGlobal>(rt: &R) -> Result<Vec<Vec<u8>>, AllocError> {
+    let mut buffer = vec![in rt.alloc(); 0u8; WORD_BYTES]?;
+    let mut words = Vec::new(rt.alloc());
     for i in 0..usize::MAX {
-        if let Err(FillError::NotPresent) = rt.arg(i, &mut byte) {
-            return i;
+        let Some(word) = word_of(rt, i, &mut buffer)? else {
+            break;
+        };
+        words.push(word)?;
+    }
+    Ok(words)
+}
+
+/// The program with these words.
+fn with_args<R: System, E: Print>(rt: &R, err: &E, args: &[Vec<u8>]) -> Result<(), AllocError> {
+    let mut words = Vec::new(rt.alloc());
+    for arg in args.iter().skip(2) {
+        words.push(arg.as_slice())?;
+    }
+    match args.get(1) {
+        Some(name) => command(rt, err, name, &words),
+        None => {
+            let _ = err.println(help::MISUSED);
         }
     }
-    usize::MAX
+    Ok(())
 }
 
-// Argument i at the front of a buffer, and how long it is: 0 where it is missing or longer than the buffer.
-fn arg(rt: &impl Env, i: usize, buf: &mut [u8]) -> usize
-    ensures { IsPrefixLen result buf.new }
-{
-    match rt.arg(i, buf) {
-        Ok(end) => end,
-        Err(_) => io::count(0, buf),
+/// The program: its arguments.
+pub fn run<R: System + Env, E: Print>(rt: &R, err: &E) {
+    let told = words_of(rt).and_then(|args| with_args(rt, err, &args));
+    if told.is_err() {
+        let _ = Told::OutOfMemory.tell(err);
     }
-}
-
-// The program: its arguments.
-pub fn run(rt: &(impl Files + Env)) {
-    let mut name = io::buffer();
-    let mut a = io::buffer();
-    let mut b = io::buffer();
-    let mut c = io::buffer();
-    let count = arg_count(rt);
-    let end = arg(rt, 1, &mut name);
-    let end_a = arg(rt, 2, &mut a);
-    let end_b = arg(rt, 3, &mut b);
-    let end_c = arg(rt, 4, &mut c);
-    if count < 2 {
-        help::misused(STDERR_FILENO);
-        return;
-    }
-    command(
-        rt,
-        &name[..end],
-        count - 2,
-        &a[..end_a],
-        &b[..end_b],
-        &c[..end_c],
-        STDERR_FILENO,
-    );
 }

@@ -1,6 +1,6 @@
-// Maps and scripts as text: settled, asked, made and packed, by the program's arguments.
+//! Maps and scripts as text: settled, asked, made and packed, by the program's arguments.
 #![tactic(auto)]
 
 fn main(rt: HostRuntime) {
-    commands::run(&rt);
+    commands::run(&rt, &rt.stderr());
 }

@@ -1,4 +1,4 @@
-// Lists as records, in files: written of a map as text, and printed as one.
+//! Lists as records, in files: written of a map as text, and printed as one.
 #![tactic(auto)]
 
 pub mod binary;

@@ -1,25 +1,24 @@
-// The label of a line of digits.
+//! The label of a line of digits.
 ghost use Rattle.std.specs.Prelude.{◌≡◌};
 ghost use Rattle.program.specs.Labels.{label_line};
 
 use crate::line;
-use crate::line::Line;
 
-// The digits of a label, at most.
+/// The digits of a label, at most.
 const LABEL_DIGITS: usize = 10;
 
-// Bytes of its line that are read: one more than its digits, by which it is too long.
+/// Bytes of its line that are read: one more than its digits, by which it is too long.
 pub const LABEL_BYTES: usize = LABEL_DIGITS + 1;
 
-// An assignment of no number of variables that a list can have.
+/// An assignment of no number of variables that a list can have.
 const NO_LABEL: u64 = u64::MAX;
 
-// The label that a line says, or one that every list refuses: so a bad label is refused after all that is refused of the list.
+/// The label that a line says, or one that every list refuses: so a bad label is refused after all that is refused of the list.
 pub fn label_in(line: &[u8]) -> u64
     ensures { result ≡ label_line line.now }
 {
     match line::number_in(line, LABEL_DIGITS, usize::MAX) {
-        Line::Number(a) => a as u64,
-        Line::Bad => NO_LABEL,
+        Some(a) => a as u64,
+        None => NO_LABEL,
     }
 }

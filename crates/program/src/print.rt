@@ -1,52 +1,26 @@
-// What the programs print: a text, a number after a word, that there is no file, a refusal, and a list with each cube on a line.
+//! What the programs print: a line of text, and a list with each cube on a line. Where standard output can't be written, nothing tells of it.
 ghost use Rattle.std.specs.Prelude.{◌≡◌, [], ◌∷◌, ◌++◌, ◌≤◌, ◌<◌, length, take};
 ghost use Rattle.io.specs.Counts.{IsPrefixLen};
 ghost use Rattle.cube.specs.Lists.{most_variables};
 ghost use Rattle.text.specs.Cubes.{cube_text};
 
 use cube::Cube;
-use records::Refusal;
-use streams::STDOUT_FILENO;
+use std::fmt::Display;
 
-// A cube's characters and its newline.
+/// A cube's characters and its newline.
 const LINE_BYTES: usize = cube::list::MOST_VARIABLES + 1;
 
-pub fn text(t: &[u8]) {
-    io::write_all(STDOUT_FILENO, t);
+/// Bytes as they are.
+pub fn text(rt: &impl Print, bytes: &[u8]) {
+    let _ = rt.write_all(bytes);
 }
 
-// A word before a number, and the number.
-pub fn number(word: &[u8], x: usize) {
-    text(word);
-    io::print_decimal(STDOUT_FILENO, x as u64);
+/// A text on a line of its own.
+pub fn line<T: Display + Drop>(rt: &impl Print, said: T) {
+    let _ = rt.println(said);
 }
 
-// The same on a line of its own.
-pub fn line(word: &[u8], x: usize) {
-    number(word, x);
-    text(b"\n");
-}
-
-fn widened(x: u8) -> usize {
-    x as usize
-}
-
-pub fn no_file() {
-    text(b"no file\n");
-}
-
-// A refusal, with no newline yet.
-pub fn refused(r: Refusal) {
-    number(b"refused ", widened(r.number));
-    number(b" at ", r.place);
-}
-
-pub fn refusal(r: Refusal) {
-    refused(r);
-    text(b"\n");
-}
-
-// A cube and its newline at the front of a line, which has room for them, and how long they are.
+/// A cube and its newline at the front of a line, which has room for them, and how long they are.
 fn spell(n: usize, c: Cube, line: &mut [u8]) -> usize
     requires { (n ≤ most_variables) × (n < length line.old) }
     ensures prefix_len { IsPrefixLen result line.new }
@@ -56,21 +30,19 @@ fn spell(n: usize, c: Cube, line: &mut [u8]) -> usize
     text::place::put_byte(line, end, b'\n')
 }
 
-fn cube_line(n: usize, c: Cube)
+fn cube_line(rt: &impl Print, n: usize, c: Cube)
     requires { n ≤ most_variables }
 {
     let mut line = [0u8; LINE_BYTES];
     let end = spell(n, c, &mut line);
-    text(&line[..end]);
+    text(rt, &line[..end]);
 }
 
-// The first `count` cubes of a list.
-pub fn list(n: usize, bytes: &[u8], count: usize)
+/// The first `count` cubes of a list.
+pub fn list(rt: &impl Print, n: usize, bytes: &[u8], count: usize)
     requires { n ≤ most_variables }
 {
-    let mut i: usize = 0;
-    while i < count {
-        cube_line(n, cube::list::cube_at(bytes, i));
-        i += 1;
+    for i in 0..count {
+        cube_line(rt, n, cube::list::cube_at(bytes, i));
     }
 }

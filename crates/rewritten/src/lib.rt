@@ -1,4 +1,4 @@
-// What is made of a map as text: the list to burn, scripts and forms.
+//! What is made of a map as text: the list to burn, scripts and forms.
 #![tactic(auto)]
 
 pub mod rewrite;

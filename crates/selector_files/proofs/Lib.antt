@@ -1,3 +1,2 @@
--- The laws of a path, and of files loaded end to end. Assumes nothing.
+-- The laws of a path. Assumes nothing.
 pub mod Paths
-pub mod Filling

@@ -1,128 +1,124 @@
-// A map of several slot bits from files: the number of variables and, where there is one, a label from two lines, each bit's list and script from files of the bit. The
-// map is settled and printed bit by bit; or what is printed is the slot of the label, and for each bit the places of the products that are true there.
+//! A map of several slot bits from files: the number of variables and, where there is one, a label from two lines, each bit's list and script from files of the bit. The
+//! map is settled and printed bit by bit; or what is printed is the slot of the label, and for each bit the places of the products that are true there.
 #![tactic(auto)]
 
-mod buffers;
 mod files;
-mod part;
+pub mod loaded;
 pub mod print;
 
-ghost use Rattle.std.specs.Prelude.{◌≤◌, length};
+ghost use Rattle.std.specs.Prelude.{◌≤◌};
 ghost use Rattle.cube.specs.Lists.{most_variables};
-ghost use Rattle.selector.specs.Maps.{most_lists};
 
-use program::line::Line;
+use loaded::Bits;
+use program::told::Told;
 use program::{file, label, line, print as printed};
-use records::Refusal;
-use selector::MOST_LISTS;
+use records::Reason;
+use records::place::PLACE_WIDTH;
 use selector::map_reasons::map_reasons;
 use selector::settle_map::settle_map;
+use selector::{MOST_LISTS, MapRefusal};
 use std::rt::Files;
 
-// The slot of a label and the reasons of each bit, and what is printed of them.
-fn show(n: usize, lists: &[u8], lengths: &[u64], a: u64)
-    requires { length lengths.now ≤ most_lists }
-{
-    let mut places = buffers::places();
-    let shown = map_reasons(n, lists, lengths, a, &mut places);
-    print::shown(lengths.len(), shown, &places);
+/// Bytes of the longest lists of a map as they are read, and of the places of all their records.
+const LISTS_BYTES: usize = MOST_LISTS * file::LIST_BYTES;
+
+const PLACES_BYTES: usize = PLACE_WIDTH * (LISTS_BYTES / cube::list::RECORD_WIDTH);
+
+/// Bytes of the work buffer.
+const WORK_BYTES: usize = cube::list::RECORD_WIDTH * cube::list::MOST_RECORDS;
+
+/// What is told of a map that is refused.
+fn told_of(why: MapRefusal) -> Told {
+    match why.list {
+        None => Told::Refused(why.refusal),
+        Some(bit) => Told::InBit(why.refusal, bit),
+    }
 }
 
-// The map settled, and what is printed of it.
-fn burn(n: usize, lists: &[u8], lengths: &[u64], scripts: &[u8], script_lengths: &[u64])
-    requires { (n ≤ most_variables) × (length lengths.now ≤ most_lists) }
+/// The slot of a label and the reasons of each bit, and what is printed of them.
+fn show<R: AllocGlobal + Print>(rt: &R, n: usize, lists: &Bits, a: u64) -> Result<(), Told> {
+    let mut places = vec![in rt.alloc(); 0u8; PLACES_BYTES]?;
+    let shown = map_reasons(n, &lists.bytes, &lists.lengths, a, &mut places);
+    let slot = shown.answer.map_err(told_of)?;
+    print::shown(rt, slot, &shown.each[..lists.lengths.len()], &places);
+    Ok(())
+}
+
+/// The map settled, and what is printed of it.
+fn burn<R: AllocGlobal + Print>(rt: &R, n: usize, lists: &Bits, scripts: &Bits) -> Result<(), Told>
+    requires { n ≤ most_variables }
 {
-    let mut work = buffers::work();
-    let mut out = buffers::lists();
+    let mut work = vec![in rt.alloc(); 0u8; WORK_BYTES]?;
+    let mut out = vec![in rt.alloc(); 0u8; LISTS_BYTES]?;
     let settled = settle_map(
         n,
-        lists,
-        lengths,
-        scripts,
-        script_lengths,
+        &lists.bytes,
+        &lists.lengths,
+        &scripts.bytes,
+        &scripts.lengths,
         &mut work,
         &mut out,
     );
-    print::settled(n, lengths, settled, &out);
+    let cost = settled.answer.map_err(told_of)?;
+    print::burned(rt, n, &lists.lengths, &settled.each, &out);
+    printed::line(rt, format_args!("cost {cost}"));
+    Ok(())
 }
 
-// The scripts read, one for each list.
-fn load_scripts(rt: &impl Files, n: usize, lists: &[u8], lengths: &[u64], folder: &[u8])
-    requires { (n ≤ most_variables) × (length lengths.now ≤ most_lists) }
-{
-    let mut scripts = buffers::scripts();
-    let mut sizes = [0u64; MOST_LISTS];
-    let s = files::load_bits(
-        rt,
-        folder,
-        b".scr",
-        file::SCRIPT_BYTES as u64,
-        lengths.len(),
-        &mut scripts,
-        &mut sizes,
-    );
-    if s.lacks(lengths.len()) {
-        printed::no_file();
-        return;
-    }
-    let bits = s.bits;
-    let bytes = s.bytes;
-    burn(n, lists, lengths, &scripts[..bytes], &sizes[..bits]);
-}
-
-// What is asked of the lists: with an empty line for the label the map settled, or else the slot of the label.
-fn ask(rt: &impl Files, n: usize, label: &[u8], lists: &[u8], lengths: &[u64], folder: &[u8])
-    requires { (n ≤ most_variables) × (length lengths.now ≤ most_lists) }
-{
-    if label.len() == 0 {
-        load_scripts(rt, n, lists, lengths, folder);
-        return;
-    }
-    show(n, lists, lengths, label::label_in(label));
-}
-
-// The lists read, and then what is asked of them.
-fn load_lists(rt: &impl Files, n: usize, label: &[u8], folder: &[u8])
+/// The map settled, with one script for each list.
+fn settle<R: Files + AllocGlobal + Print>(
+    rt: &R,
+    n: usize,
+    lists: &Bits,
+    folder: &[u8],
+) -> Result<(), Told>
     requires { n ≤ most_variables }
 {
-    let mut lists = buffers::lists();
-    let mut sizes = [0u64; MOST_LISTS];
-    let l = files::load_bits(
-        rt,
-        folder,
-        b".cub",
-        file::LIST_BYTES as u64,
-        MOST_LISTS,
-        &mut lists,
-        &mut sizes,
-    );
-    if l.lacks(0) {
-        printed::no_file();
-        return;
+    let most = lists.lengths.len();
+    let scripts = files::load_bits(rt, folder, b".scr", file::SCRIPT_BYTES, most)?;
+    if scripts.lengths.len() < most {
+        return Err(Told::NoFile);
     }
-    let bits = l.bits;
-    let bytes = l.bytes;
-    ask(rt, n, label, &lists[..bytes], &sizes[..bits], folder);
+    burn(rt, n, lists, &scripts)
 }
 
-// The map of a line, of a label's line and of the files of a folder, whose name comes with its slash: the line, then the files, then the map.
-pub fn selector_named(rt: &impl Files, line: &[u8], label: &[u8], folder: &[u8]) {
-    match line::variables_in(line) {
-        Line::Bad => {
-            printed::refusal(Refusal::new(1, 0));
-        }
-        Line::Number(n) => {
-            load_lists(rt, n, label, folder);
-        }
+/// The map of a line, of a label's line and of the files of a folder: with an empty line for the label it is settled, or else the slot of the label is shown.
+fn selector_by<R: Files + AllocGlobal + Print>(
+    rt: &R,
+    line: &[u8],
+    label: &[u8],
+    folder: &[u8],
+) -> Result<(), Told> {
+    let Some(n) = line::variables_in(line) else {
+        return Err(Told::Refused(Reason::TooManyVariables.at(0)));
+    };
+    let lists = files::load_bits(rt, folder, b".cub", file::LIST_BYTES, MOST_LISTS)?;
+    if label.is_empty() {
+        settle(rt, n, &lists, folder)
+    } else {
+        show(rt, n, &lists, label::label_in(label))
     }
 }
 
-// The program: two lines of standard input, of which the second may be empty or missing, and the files of the folder that it is run in. A first line that is longer
-// than what is read of it is refused, whatever is read as the second.
-pub fn run(rt: &impl Files) {
-    let mut first = [0u8; line::VARIABLE_BYTES];
-    let count = line::read(&mut first);
-    let mut second = [0u8; label::LABEL_BYTES];
-    let digits = line::read(&mut second);
-    selector_named(rt, &first[..count], &second[..digits], b"");
+/// The same, and what is told where it gives up. The folder's name comes with its slash: the line, then the files, then the map.
+pub fn selector_named<R: Files + AllocGlobal + Print>(
+    rt: &R,
+    line: &[u8],
+    label: &[u8],
+    folder: &[u8],
+) {
+    if let Err(told) = selector_by(rt, line, label, folder) {
+        printed::line(rt, told);
+    }
+}
+
+/// The program: two lines of standard input, of which the second may be empty or missing, and the files of the folder that it is run in. A first line that is longer
+/// than what is read of it is refused, whatever is read as the second.
+pub fn run<R: Files + AllocGlobal + Print + Input>(rt: &R) {
+    let first = line::read(rt, line::VARIABLE_BYTES);
+    let second = line::read(rt, label::LABEL_BYTES);
+    match (first, second) {
+        (Ok(line), Ok(label)) => selector_named(rt, &line, &label, b""),
+        _ => printed::line(rt, Told::OutOfMemory),
+    }
 }

@@ -1,4 +1,4 @@
-// The sheet: one page about a settled map, for the custodian to sign.
+//! The sheet: one page about a settled map, for the custodian to sign.
 #![tactic(auto)]
 
 pub mod page;

@@ -1,224 +1,198 @@
-// What stands on the sheet.
+//! What stands on the sheet.
 use crate::sentences;
-use explain::{say, say_number};
-use lines::word::same;
-use records::Counted;
-use rewritten::rewrite::put_form;
-use rewritten::settle::refused;
-use script::Finished;
-use settling::{Fixed, Settled, Settlement};
-use shared_run::{SharedSettled, SharedSettlement};
-use std::rt::Files;
-use streams::STDOUT_FILENO;
-use text_files::{LoadedSteps, buffers, eights, load, twelves, within};
+use cube::list::RECORD_WIDTH;
+use rewritten::rewrite::{form_of, vector_of};
+use settling::{Fixed, Settlement};
+use text_files::job::{Job, System};
+use text_files::load::Map;
+use text_files::told::Told;
+use text_files::{buffers, first_records, load};
 
-const VECTOR_BYTES: usize = 256;
-
-fn put(t: &[u8]) {
-    say(STDOUT_FILENO, t);
+/// A text as it is.
+fn put(rt: &impl Print, text: &str) {
+    let _ = rt.print(text);
 }
 
-fn line(word: &[u8], x: usize) {
-    say_number(STDOUT_FILENO, word, x);
-    put(b"\n");
+/// The checksum of a list's bytes, and how many there are, as cksum prints them.
+fn sum(rt: &impl Print, list: &[u8]) {
+    let checksum = cksum::checksum(list);
+    let _ = println!(rt; "  cksum     {checksum} {}", list.len());
 }
 
-// The checksum of a list's bytes, and how many there are, as cksum prints them.
-fn sum(list: &[u8]) {
-    say_number(
-        STDOUT_FILENO,
-        b"  cksum     ",
-        cksum::checksum(list) as usize,
-    );
-    line(b" ", list.len());
+/// A list of cubes.
+fn cubes(rt: &impl Print, list: &[u8]) {
+    let _ = println!(rt; "  products  {}", list.len() / RECORD_WIDTH);
+    let _ = println!(rt; "  cost      {}", text_files::cost::cost(list));
+    sum(rt, list);
 }
 
-// A list of cubes.
-fn cubes(list: &[u8]) {
-    line(b"  products  ", list.len() / cube::list::RECORD_WIDTH);
-    line(b"  cost      ", text_files::cost::cost(list));
-    sum(list);
+/// A list of shared products.
+fn shares(rt: &impl Print, list: &[u8]) {
+    let _ = println!(rt; "  products  {}", list.len() / shared::list::SHARED_WIDTH);
+    sum(rt, list);
 }
 
-// The files, and the number of inputs and outputs.
-fn heading(a: &[u8], b: &[u8], n: usize, m: usize) {
-    put(b"Sheet of a settled map\n\nmap         ");
-    put(a);
-    put(b"\nscript      ");
-    if b.len() == 0 {
-        put(b"none");
+/// The files, and the number of inputs and outputs. The names of the files need not be text.
+fn heading<R: System, E: Print>(job: &Job<'_, R, E>, n: usize, m: usize) {
+    let rt = job.rt;
+    put(rt, "Sheet of a settled map\n\nmap         ");
+    let _ = rt.write_all(job.file);
+    put(rt, "\nscript      ");
+    if job.word.is_empty() {
+        put(rt, "none");
     } else {
-        put(b);
+        let _ = rt.write_all(job.word);
     }
-    put(b"\n");
-    line(b"inputs      ", n);
-    line(b"outputs     ", m);
+    let _ = println!(rt; "\ninputs      {n}\noutputs     {m}");
 }
 
-// What the script did.
-fn of_script(steps: usize, peak: usize) {
-    put(b"\nscript\n");
-    line(b"  steps     ", steps);
-    line(b"  peak      ", peak);
+/// What the script did.
+fn of_script(rt: &impl Print, script: &[u8], peak: usize) {
+    let steps = script.len() / script::check::STEP_WIDTH;
+    let _ = println!(rt; "\nscript\n  steps     {steps}\n  peak      {peak}");
 }
 
-// Whether a list is the one that the script ends in.
-fn is_result(n: usize, list: &[u8], script: &[u8], burned: &[u8]) -> bool {
-    let mut work = buffers::cubes();
-    match script::run::run(n, list, script, &mut work) {
-        Finished::Refused(_) => false,
-        Finished::Done(count, _) => {
-            let end = eights(count, &work);
-            same(&work[..end], burned)
-        }
-    }
-}
-
-// Whether a list is the form of polarity p.
-fn is_form(n: usize, list: &[u8], p: usize, burned: &[u8]) -> bool {
-    let mut vector = [0u8; VECTOR_BYTES];
-    match cube::value::truth_vector(n, list, &mut vector) {
-        Counted::Refused(_) => false,
-        Counted::Count(size) => {
-            let end = within(size, &vector);
-            let mut form = buffers::cubes();
-            let products = put_form(n, &vector[..end], p, &mut form);
-            let end = eights(products, &form);
-            same(&form[..end], burned)
-        }
-    }
-}
-
-// Which candidate the burned list is: the first of the script's result, the given list, the best polarity's form and the cheapest tree's list that has its bytes. So
-// settling chooses too: of candidates that count as much, the first is burned.
-fn by(n: usize, list: &[u8], script: &[u8], fixed: Fixed, burned: &[u8]) {
-    if is_result(n, list, script, burned) {
-        put(b"\nburned: the list that the script ends in\n");
-        return;
-    }
-    if same(list, burned) {
-        put(b"\nburned: the given list\n");
-        return;
-    }
-    if let Fixed::Polarity(p, _) = fixed {
-        if is_form(n, list, p, burned) {
-            put(b"\nburned: the form of the best polarity\n");
-            return;
-        }
-    }
-    put(b"\nburned: the list of the cheapest tree\n");
-}
-
-fn best(fixed: Fixed) {
-    match fixed {
-        Fixed::Polarity(p, size) => {
-            say_number(STDOUT_FILENO, b"\nbest polarity ", p);
-            line(b", products of its form ", size);
-        }
-        Fixed::Absent => {
-            put(b"\nbest polarity: not looked for, there are more than 8 inputs\n");
-        }
-    }
-}
-
-fn settled_one(n: usize, list: &[u8], script: &[u8], s: Settlement, burned: &[u8]) {
-    let fixed = s.fixed;
-    put(b"\ngiven\n");
-    cubes(list);
-    of_script(script.len() / script::check::STEP_WIDTH, s.peak);
-    by(n, list, script, fixed, burned);
-    cubes(burned);
-    best(fixed);
-    sentences::sums();
-    sentences::of_one();
-    if n <= cube::value::VECTOR_VARIABLES {
-        sentences::of_few();
-    }
-    sentences::of_text();
-    sentences::signature();
-}
-
-fn sheet_one(rt: &impl Files, n: usize, list: &[u8], script: &[u8], a: &[u8], b: &[u8], err: i32) {
-    let mut work = buffers::cubes();
-    let mut out = buffers::cubes();
-    match settling::settle::settle(n, list, script, &mut work, &mut out) {
-        Settled::Refused(r) => {
-            refused(rt, b, r, err);
-        }
-        Settled::Burned(s) => {
-            heading(a, b, n, 1);
-            let end = eights(s.burned, &out);
-            settled_one(n, list, script, s, &out[..end]);
-        }
-    }
-}
-
-// The sheet of a map of one output.
-pub fn one(rt: &impl Files, n: usize, list: &[u8], a: &[u8], b: &[u8], err: i32) {
-    let mut script = buffers::steps();
-    match load::steps(rt, b, &mut script, err) {
-        LoadedSteps::Nothing => {}
-        LoadedSteps::Steps(count) => {
-            let end = eights(count, &script);
-            sheet_one(rt, n, list, &script[..end], a, b, err);
-        }
-    }
-}
-
-// A list of shared products.
-fn shares(list: &[u8]) {
-    line(b"  products  ", list.len() / shared::list::SHARED_WIDTH);
-    sum(list);
-}
-
-fn settled_shared(list: &[u8], script: &[u8], s: SharedSettlement, burned: &[u8]) {
-    put(b"\ngiven\n");
-    shares(list);
-    of_script(script.len() / script::check::STEP_WIDTH, s.peak);
-    if s.script <= s.given {
-        put(b"\nburned: the list that the script ends in\n");
-    } else {
-        put(b"\nburned: the given list\n");
-    }
-    shares(burned);
-    sentences::sums();
-    sentences::of_shared();
-    sentences::of_text();
-    sentences::signature();
-}
-
-fn sheet_shared(
-    rt: &impl Files,
+/// Whether a list is the one that the script ends in.
+fn is_result<R: AllocGlobal>(
+    rt: &R,
     n: usize,
-    m: usize,
     list: &[u8],
     script: &[u8],
-    a: &[u8],
-    b: &[u8],
-    err: i32,
-) {
-    let mut work = buffers::shares();
-    let mut out = buffers::shares();
-    match shared_run::settle::settle(n, list, script, &mut work, &mut out) {
-        SharedSettled::Refused(r) => {
-            refused(rt, b, r, err);
-        }
-        SharedSettled::Burned(s) => {
-            heading(a, b, n, m);
-            let end = twelves(s.burned, &out);
-            settled_shared(list, script, s, &out[..end]);
+    burned: &[u8],
+) -> Result<bool, std::alloc::AllocError> {
+    let mut work = vec![in rt.alloc(); 0u8; buffers::CUBES_BYTES]?;
+    Ok(match script::run::run(n, list, script, &mut work) {
+        Ok(ran) => first_records(RECORD_WIDTH, ran.count, &work) == burned,
+        Err(_) => false,
+    })
+}
+
+/// Whether a list is the form of the best polarity, where that was looked for.
+fn is_form<'a, R: System, E: Print>(
+    job: &Job<'a, R, E>,
+    n: usize,
+    list: &[u8],
+    fixed: Fixed,
+    burned: &[u8],
+) -> Result<bool, Told<'a>> {
+    match fixed {
+        Fixed::Absent => Ok(false),
+        Fixed::Polarity(p, _) => {
+            let vector = vector_of(job, n, list)?;
+            let form = form_of(job.rt, n, &vector, p)?;
+            Ok(form.as_slice() == burned)
         }
     }
 }
 
-// The sheet of a map of several outputs.
-pub fn shared(rt: &impl Files, n: usize, m: usize, list: &[u8], a: &[u8], b: &[u8], err: i32) {
-    let mut script = buffers::steps();
-    match load::steps(rt, b, &mut script, err) {
-        LoadedSteps::Nothing => {}
-        LoadedSteps::Steps(count) => {
-            let end = eights(count, &script);
-            sheet_shared(rt, n, m, list, &script[..end], a, b, err);
+/// Which candidate the burned list is: the first of the script's result, the given list, the best polarity's form and the cheapest tree's list that has its bytes. So
+/// settling chooses too: of candidates that count as much, the first is burned.
+fn by<'a, R: System, E: Print>(
+    job: &Job<'a, R, E>,
+    n: usize,
+    list: &[u8],
+    script: &[u8],
+    fixed: Fixed,
+    burned: &[u8],
+) -> Result<&'static str, Told<'a>> {
+    if is_result(job.rt, n, list, script, burned)? {
+        return Ok("the list that the script ends in");
+    }
+    if list == burned {
+        return Ok("the given list");
+    }
+    if is_form(job, n, list, fixed, burned)? {
+        return Ok("the form of the best polarity");
+    }
+    Ok("the list of the cheapest tree")
+}
+
+fn best(rt: &impl Print, fixed: Fixed) {
+    match fixed {
+        Fixed::Polarity(p, size) => {
+            let _ = println!(rt; "\nbest polarity {p}, products of its form {size}");
+        }
+        Fixed::Absent => {
+            put(
+                rt,
+                "\nbest polarity: not looked for, there are more than 8 inputs\n",
+            );
         }
     }
+}
+
+/// The page below its heading, of a map of one output.
+fn settled_one<'a, R: System, E: Print>(
+    job: &Job<'a, R, E>,
+    n: usize,
+    list: &[u8],
+    script: &[u8],
+    settled: Settlement,
+    burned: &[u8],
+) -> Result<(), Told<'a>> {
+    let rt = job.rt;
+    let by = by(job, n, list, script, settled.fixed, burned)?;
+    heading(job, n, 1);
+    put(rt, "\ngiven\n");
+    cubes(rt, list);
+    of_script(rt, script, settled.peak);
+    let _ = println!(rt; "\nburned: {by}");
+    cubes(rt, burned);
+    best(rt, settled.fixed);
+    put(rt, sentences::SUMS);
+    put(rt, sentences::OF_ONE);
+    if n <= cube::value::VECTOR_VARIABLES {
+        put(rt, sentences::OF_FEW);
+    }
+    put(rt, sentences::OF_TEXT);
+    Ok(())
+}
+
+/// The sheet of a map of one output.
+pub fn one<'a, R: System, E: Print>(
+    job: &Job<'a, R, E>,
+    n: usize,
+    list: &[u8],
+) -> Result<(), Told<'a>> {
+    let rt = job.rt;
+    let script = load::steps(rt, job.word)?;
+    let mut work = vec![in rt.alloc(); 0u8; buffers::CUBES_BYTES]?;
+    let mut out = vec![in rt.alloc(); 0u8; buffers::CUBES_BYTES]?;
+    let settled = settling::settle::settle(n, list, &script, &mut work, &mut out).map_err(
+        |refusal| load::refused_step(rt, job.word, refusal),
+    )?;
+    let burned = first_records(RECORD_WIDTH, settled.burned, &out);
+    settled_one(job, n, list, &script, settled, burned)
+}
+
+/// The sheet of a map of several outputs.
+pub fn shared<'a, R: System, E: Print>(job: &Job<'a, R, E>, map: &Map) -> Result<(), Told<'a>> {
+    let rt = job.rt;
+    let script = load::steps(rt, job.word)?;
+    let mut work = vec![in rt.alloc(); 0u8; buffers::SHARES_BYTES]?;
+    let mut out = vec![in rt.alloc(); 0u8; buffers::SHARES_BYTES]?;
+    let s = shared_run::settle::settle(
+        map.inputs,
+        &map.products,
+        &script,
+        &mut work,
+        &mut out,
+    ).map_err(|refusal| load::refused_step(rt, job.word, refusal))?;
+    heading(job, map.inputs, map.outputs);
+    put(rt, "\ngiven\n");
+    shares(rt, &map.products);
+    of_script(rt, &script, s.peak);
+    if s.script <= s.given {
+        put(rt, "\nburned: the list that the script ends in\n");
+    } else {
+        put(rt, "\nburned: the given list\n");
+    }
+    shares(
+        rt,
+        first_records(shared::list::SHARED_WIDTH, s.burned, &out),
+    );
+    put(rt, sentences::SUMS);
+    put(rt, sentences::OF_SHARED);
+    put(rt, sentences::OF_TEXT);
+    Ok(())
 }

@@ -1,4 +1,4 @@
-// Maps and scripts printed as text to standard output, each whole: its text is spelt in a buffer that has room for the longest.
+//! Maps and scripts printed as text to standard output, each whole: its text is spelt in a buffer that has room for the longest.
 ghost use Rattle.std.specs.Prelude.{◌≡◌, ◌≤◌, length, take};
 ghost use Rattle.io.specs.Counts.{IsPrefixLen};
 ghost use Rattle.records.specs.Records.{list_of};
@@ -9,21 +9,10 @@ ghost use Rattle.script.specs.Scripts.{step_records, most_steps};
 ghost use Rattle.pla_print.specs.Printing.{pla_text};
 ghost use Rattle.script_lines.specs.Scripts.{script_text};
 
-use crate::{at_most_32, buffers, twelves};
-use records::Counted;
-use streams::{STDERR_FILENO, STDOUT_FILENO};
+use crate::told::Told;
+use crate::{at_most_32, buffers, first_records};
 
-// A text to standard output; where not all of it can be written, that is told.
-fn put(text: &[u8]) {
-    if !io::write_all(STDOUT_FILENO, text) {
-        explain::say(
-            STDERR_FILENO,
-            b"druthmoy: standard output can't be written\n",
-        );
-    }
-}
-
-// The text of a list of shared products at the front of a buffer that has room for every list of at most 4,096, and how long it is.
+/// The text of a list of shared products at the front of a buffer that has room for every list of at most 4,096, and how long it is.
 fn spell_map(n: u32, m: u32, list: &[u8], text: &mut [u8]) -> usize
     requires n_le_most_variables { (n ≤ most_variables) × (m ≤ output_count) }
     requires list_len_bound { length (shares_of list.now) ≤ most_records }
@@ -34,29 +23,36 @@ fn spell_map(n: u32, m: u32, list: &[u8], text: &mut [u8]) -> usize
     pla_print::print(n, m, list, text)
 }
 
-// A list of shared products; one of more than 4,096 is not printed.
-pub fn shares(n: usize, m: usize, list: &[u8]) {
+/// A list of shared products; one of more than 4,096 is not printed.
+pub fn shares<'a, R: AllocGlobal + Print>(
+    rt: &R,
+    n: usize,
+    m: usize,
+    list: &[u8],
+) -> Result<(), Told<'a>> {
     if cube::list::MOST_RECORDS < list.len() / shared::list::SHARED_WIDTH {
-        return;
+        return Ok(());
     }
-    let mut text = buffers::map_text();
+    let mut text = vec![in rt.alloc(); 0u8; buffers::MAP_TEXT_BYTES]?;
     let end = spell_map(at_most_32(n), at_most_32(m), list, &mut text);
-    put(&text[..end]);
+    rt.write_all(&text[..end]).map_err(|_| Told::NotPrinted)
 }
 
-// A list of cubes, as a map of one output; one of more than 4,096 is not printed.
-pub fn cubes(n: usize, list: &[u8]) {
-    let mut products = buffers::shares();
+/// A list of cubes, as a map of one output; one of more than 4,096 is not printed.
+pub fn cubes<'a, R: AllocGlobal + Print>(rt: &R, n: usize, list: &[u8]) -> Result<(), Told<'a>> {
+    let mut products = vec![in rt.alloc(); 0u8; buffers::SHARES_BYTES]?;
     match outputs::shares_of(0, list, &mut products) {
-        Counted::Refused(_) => {}
-        Counted::Count(count) => {
-            let end = twelves(count, &products);
-            shares(n, 1, &products[..end]);
-        }
+        Ok(count) => shares(
+            rt,
+            n,
+            1,
+            first_records(shared::list::SHARED_WIDTH, count, &products),
+        ),
+        Err(_) => Ok(()),
     }
 }
 
-// The text of a script at the front of a buffer that has room for every script of at most 1,024 steps, and how long it is.
+/// The text of a script at the front of a buffer that has room for every script of at most 1,024 steps, and how long it is.
 fn spell_script(script: &[u8], text: &mut [u8]) -> usize
     requires script_len_bound { length (list_of step_records script.now) ≤ most_steps }
     requires in_bounds { 22528 ≤ length text.old }
@@ -66,12 +62,12 @@ fn spell_script(script: &[u8], text: &mut [u8]) -> usize
     script_lines::print::print(script, text)
 }
 
-// A script; one of more than 1,024 steps is not printed.
-pub fn steps(script: &[u8]) {
+/// A script; one of more than 1,024 steps is not printed.
+pub fn steps<'a, R: AllocGlobal + Print>(rt: &R, script: &[u8]) -> Result<(), Told<'a>> {
     if script::check::MOST_STEPS < script.len() / script::check::STEP_WIDTH {
-        return;
+        return Ok(());
     }
-    let mut text = buffers::script_text();
+    let mut text = vec![in rt.alloc(); 0u8; buffers::SCRIPT_TEXT_BYTES]?;
     let end = spell_script(script, &mut text);
-    put(&text[..end]);
+    rt.write_all(&text[..end]).map_err(|_| Told::NotPrinted)
 }

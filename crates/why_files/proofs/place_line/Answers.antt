@@ -5,4 +5,4 @@ use Rattle.text.proofs.Numbers.{decimal_short}
 use Rattle.why_files.proofs.place_line.Goals as goal
 
 pub spell-end-requires : goal.spell-end-requires
-spell-end-requires c = omega (arith, decimal_short 4 c.args.place (omega (arith, c.ranges.place)))
+spell-end-requires g c = omega (arith, decimal_short 4 c.args.place (omega (arith, c.ranges.place)))

@@ -4,10 +4,10 @@ use mathlib.Core.Path.{sym, ap, ◌∙◌}
 use Rattle.program.specs.Labels.{label_of, label_line}
 use Rattle.program.proofs.label.label_in.Goals as goal
 
-pub returns-in-Number : goal.returns-in-Number
+pub returns-in-Some : goal.returns-in-Some
 unfolding label_line
-returns-in-Number c = ap label_of (sym c.in-Number.is ∙ c.number_in.ensures)
+returns-in-Some c = ap label_of (sym c.in-Some.is ∙ c.number_in.ensures)
 
-pub returns-in-Bad : goal.returns-in-Bad
+pub returns-in-None : goal.returns-in-None
 unfolding label_line
-returns-in-Bad c = ap label_of (sym c.in-Bad.is ∙ c.number_in.ensures)
+returns-in-None c = ap label_of (sym c.in-None.is ∙ c.number_in.ensures)

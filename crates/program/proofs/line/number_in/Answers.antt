@@ -8,11 +8,11 @@ use Rattle.program.proofs.line.number_in.Goals as goal
 pub returns-then-digits-line : goal.returns-then-digits-line
 returns-then-digits-line c = line_long _ _ _ (omega (arith, c.if-digits-line.true))
 
-pub returns-then-p-line : goal.returns-then-p-line
-returns-then-p-line c = line_read _ _ _ (omega (arith, c.if-digits-line.false)) c.number_at.ensures c.in-Read.is (omega (arith, c.if-p-line.true))
+pub returns-then-read-line : goal.returns-then-read-line
+returns-then-read-line c = line_read _ _ _ (omega (arith, c.if-digits-line.false)) c.number_at.ensures c.in-Ok.is (omega (arith, c.if-read-line.true))
 
-pub returns-in-Wrong : goal.returns-in-Wrong
-returns-in-Wrong c = search (line_wrong, rules)
+pub returns-in-Err : goal.returns-in-Err
+returns-in-Err c = search (line_wrong, rules)
 
-pub returns-else-p-line : goal.returns-else-p-line
-returns-else-p-line c = search (line_part, rules)
+pub returns-else-read-line : goal.returns-else-read-line
+returns-else-read-line c = search (line_part, rules)

@@ -5,5 +5,5 @@ use Rattle.records.proofs.Records.{length_list}
 use Rattle.script.specs.Scripts.{step_records}
 use Rattle.text_files.proofs.show.steps.Goals as goal
 
-pub spell_script-end-requires : goal.spell_script-end-requires
-spell_script-end-requires c = record { script_len_bound = omega (arith, length_list step_records c.args.script.now); in_bounds = omega arith }
+pub spell_script-end-requires-clause-script_len_bound : goal.spell_script-end-requires-clause-script_len_bound
+spell_script-end-requires-clause-script_len_bound g c = omega (arith, length_list step_records c.args.script.now)

@@ -1,2 +1,0 @@
--- The laws that only the functions of `line` need.
-pub mod Filling

@@ -1,0 +1,47 @@
+//! What the programs `settle`, `why` and `selector` tell where they give up.
+use records::Refusal;
+use std::alloc::AllocError;
+use std::{fmt, io};
+
+/// Why a program prints nothing of what it was asked for.
+#[derive(Clone, Copy, Debug, PartialEq, Eq)]
+pub enum Told {
+    NoFile,
+    OutOfMemory,
+    Refused(Refusal),
+    /// A refusal of a bit's list or script, with the bit.
+    InBit(Refusal, usize),
+}
+
+impl fmt::Display for Told {
+    fn fmt<W: fmt::Write>(&self, f: &mut fmt::Formatter<W>) -> fmt::Result {
+        match self {
+            Told::NoFile => write!(f, "no file"),
+            Told::OutOfMemory => write!(f, "out of memory"),
+            Told::Refused(r) => write!(f, "refused {} at {}", r.number, r.place),
+            Told::InBit(r, bit) => write!(f, "refused {} at {} in bit {bit}", r.number, r.place),
+        }
+    }
+}
+
+impl From<Refusal> for Told {
+    fn from(refusal: Refusal) -> Told {
+        Told::Refused(refusal)
+    }
+}
+
+impl From<AllocError> for Told {
+    fn from(_error: AllocError) -> Told {
+        Told::OutOfMemory
+    }
+}
+
+/// A file that can't be opened or read.
+impl From<io::Error> for Told {
+    fn from(error: io::Error) -> Told {
+        match error.kind() {
+            io::ErrorKind::OutOfMemory => Told::OutOfMemory,
+            _ => Told::NoFile,
+        }
+    }
+}

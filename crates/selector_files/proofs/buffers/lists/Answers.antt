@@ -1,9 +1,0 @@
--- `buffers::lists` meets its contract by the law of an array's length, which is quicker than counting.
--- Assumes nothing.
-use mathlib.Core.Path.{sym}
-use Prim.Native.Nat.{ℕ}
-use lib.ListN.{length-replicate}
-use Rattle.selector_files.proofs.buffers.lists.Goals as goal
-
-pub returns : goal.returns
-returns c = sym (length-replicate {A = ℕ} 393312 0)
