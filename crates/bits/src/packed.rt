@@ -7,7 +7,7 @@ ghost use Rattle.bits.specs.Packed.{alone, bit_at, both, summed, without_bits, l
 use crate::{packing, word};
 
 /// Four words, the lowest first.
-#[derive(Clone, Copy)]
+#[derive(Clone, Copy, Debug, PartialEq, Eq)]
 pub struct Packed {
     pub a: u64,
     pub b: u64,
@@ -45,7 +45,7 @@ fn without(k: usize) -> Packed
 }
 
 impl Packed {
-    /// No bit, and every bit.
+    /// No bit.
     pub const NONE: Packed = Packed {
         a: 0,
         b: 0,
@@ -53,6 +53,7 @@ impl Packed {
         d: 0,
     };
 
+    /// Every bit.
     pub const EVERY: Packed = Packed {
         a: word::ALL,
         b: word::ALL,

@@ -6,9 +6,10 @@ ghost use Rattle.compactor.specs.Keeping.{most_count, count_by};
 
 use crate::Halves;
 
-/// How many numbers one byte and two bytes hold.
+/// How many numbers one byte holds.
 const BYTE: u32 = 256;
 
+/// How many numbers two bytes hold.
 const TWO_BYTES: u32 = 65536;
 
 /// The operation of a step.

@@ -1,4 +1,4 @@
--- That a narrow record of a cube is a kind of record.
+-- Inside: that a narrow record of a cube is a kind of record.
 -- Assumes nothing.
 use Rattle.std.specs.Prelude.{refl, [], ◌∷◌}
 use lib.Dec.{lit<}

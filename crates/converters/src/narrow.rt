@@ -21,6 +21,7 @@ pub const NARROW_WIDTH: usize = 2 * MASK_WIDTH;
 pub const NARROW_VARIABLES: usize = 16;
 
 /// The narrow records of cubes: four bytes each.
+#[derive(Clone, Copy, Debug, PartialEq, Eq)]
 pub struct NarrowCubes;
 
 impl Kind for NarrowCubes {

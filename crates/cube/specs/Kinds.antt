@@ -1,4 +1,4 @@
--- That a cube's record is a kind of record.
+-- Inside: that a cube's record is a kind of record.
 -- Assumes nothing.
 use Rattle.std.specs.Prelude.{refl, [], ◌∷◌}
 use lib.Dec.{lit<}

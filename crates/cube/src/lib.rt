@@ -62,6 +62,7 @@ impl Cube {
     }
 
     /// The literal code at variable v. It takes no branch on the cube.
+    // Stays: a code is a number, 0 to 2; docs/CONTRACTS.md names `code_at` and `with_code` so, and the documents fix the arithmetic on codes.
     pub fn code_at(self, v: u32) -> u8
         ensures { result ≡ code self v }
     {

@@ -15,9 +15,10 @@ use crate::list::MOST_RECORDS;
 use records::kind::{self, Kind};
 use records::{Reason, numbers};
 
-/// Bytes of a mask, and of a record.
+/// Bytes of a mask.
 pub(crate) const MASK_WIDTH: usize = 4;
 
+/// Bytes of a record.
 pub const RECORD_WIDTH: usize = 2 * MASK_WIDTH;
 
 impl Cube {
@@ -41,6 +42,7 @@ impl Cube {
 }
 
 /// The records of cubes: eight bytes each.
+#[derive(Clone, Copy, Debug, PartialEq, Eq)]
 pub struct Cubes;
 
 impl Kind for Cubes {

@@ -16,6 +16,7 @@ use records::{Reason, Refusal};
 pub const VECTOR_VARIABLES: usize = 8;
 
 /// Whether the product at a place that the list has is true at a.
+// Stays: the list as bytes here and below, with what its check has shown in each contract; C lends it, and docs/CONTRACTS.md (Exceptions) names these functions by what they ask.
 fn true_at(list: &[u8], i: usize, a: u32) -> bool
     requires { i < length list.now / record_width }
     ensures { HoldsAt (get_or (cubes_of list.now) i one) a result }
@@ -42,6 +43,7 @@ fn trues_at(n: usize, list: &[u8], a: u32) -> usize
 }
 
 /// Checking a list and an assignment of its variables: refusals 1 to 4 and 6, or the count of its records.
+// Stays: beside `check_at` of `shared::value`, the same two tests; one over any `Kind` would ask a limit below 64 of its caller, for the shift, and this one, which docs/CONTRACTS.md names, would call it.
 pub fn check_at(n: usize, list: &[u8], a: u64) -> Result<usize, Refusal>
     ensures { counted result ≡ check_at n list.now a }
 {

@@ -6,7 +6,7 @@ use Rattle.bits.specs.Below.{first_below, list_below}
 use Rattle.polarity.specs.Cost.{cost}
 use Rattle.trees.specs.Trees.{tree_cost}
 use Rattle.trees.specs.Words.{Plan}
-use Rattle.kronecker.specs.declared.Found.{Found}
+use Rattle.kronecker.specs.declared.WrittenKronecker.{WrittenKronecker}
 use Rattle.kronecker.specs.Choices.{choice_tree, best_choice, kronecker_list}
 
 -- ---- a function's halves by one variable
@@ -54,17 +54,17 @@ abbrev pub least_below : (ℕ → ℕ) → ℕ → ℕ
 least_below g m = first_below (λ y x. ltb (g y) (g x)) m
 
 -- of the entries of a table the least, and of several such the first; the place is the choice, and the entry its products and its cost
-pub record LeastEntry (l : List ℕ) (r : Found) : Type 0 where
+pub record LeastEntry (l : List ℕ) (r : WrittenKronecker) : Type 0 where
   pub choice_is : r.choice ≡ least_below (λ i. get_or l i 0) (length l)
   pub cost_is : r.cost ≡ get_or l r.choice 0
   pub products_are : r.products ≡ get_or l r.choice 0
 
 -- with no variable left, of an entry and the function's value x there: the product is free where x is 1
-abbrev pub lowest_of : ℕ → ℕ → Found
+abbrev pub lowest_of : ℕ → ℕ → WrittenKronecker
 lowest_of entry x = record { cost = entry - x; choice = 0; products = entry }
 
 -- of two that are each found in a range, where y's choices count from `from` on: y where it costs less, else x
-unfoldable pub lesser_from : Found → Found → ℕ → Found
+unfoldable pub lesser_from : WrittenKronecker → WrittenKronecker → ℕ → WrittenKronecker
 lesser_from x y from = cond (ltb y.cost x.cost) (record { cost = y.cost; choice = from + y.choice; products = y.products }) x
 
 -- what the product without literals saves of choice x
@@ -81,13 +81,13 @@ abbrev pub cost_in : ℕ → (ℕ → ℕ) → List ℕ → ℕ → ℕ
 cost_in n f l x = get_or l x 0 - saved n f x
 
 -- of the choices of such a table the least cost, the smallest choice that has it, and its entry
-pub record FoundIn (n : ℕ) (f : ℕ → ℕ) (l : List ℕ) (r : Found) : Type 0 where
+pub record FoundIn (n : ℕ) (f : ℕ → ℕ) (l : List ℕ) (r : WrittenKronecker) : Type 0 where
   pub choice_is : r.choice ≡ least_below (cost_in n f l) (3 ^ n)
   pub cost_is : r.cost ≡ cost_in n f l r.choice
   pub products_are : r.products ≡ get_or l r.choice 0
 
 -- the cheapest choice of a function
-pub record FoundIs (n : ℕ) (f : ℕ → ℕ) (r : Found) : Type 0 where
+pub record FoundIs (n : ℕ) (f : ℕ → ℕ) (r : WrittenKronecker) : Type 0 where
   pub choice_is : r.choice ≡ best_choice n f
   pub cost_is : r.cost ≡ cost (kronecker_list n f)
   pub products_are : r.products ≡ length (kronecker_list n f)

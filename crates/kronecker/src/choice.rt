@@ -29,6 +29,7 @@ fn expansion_of(digit: usize) -> Expansion
 }
 
 /// Writes the products of the choice's tree to which the product c leads, from place `at` on, depth first, and answers the next place.
+// Stays: beside `put_tree` of `trees`, where the reason stands.
 fn put_choice(
     k: usize,
     left: usize,
@@ -75,9 +76,5 @@ pub fn write_kronecker(n: usize, vector: &[u8], out: &mut [u8]) -> Result<Writte
         return Err(Reason::NoRoom.at(0));
     }
     put_choice(0, n, found.choice, w, Cube::ONE, out, 0);
-    Ok(WrittenKronecker {
-        cost: found.cost,
-        choice: found.choice,
-        products: found.products,
-    })
+    Ok(found)
 }

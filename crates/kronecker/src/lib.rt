@@ -6,14 +6,6 @@ pub mod choice;
 mod search;
 mod table;
 
-/// A choice of expansions, its cost and its products.
-#[derive(Clone, Copy, Debug, PartialEq, Eq)]
-pub struct Found {
-    pub cost: usize,
-    pub choice: usize,
-    pub products: usize,
-}
-
 /// The cost of a Kronecker list, its choice and its products.
 #[derive(Clone, Copy, Debug, PartialEq, Eq)]
 pub struct WrittenKronecker {

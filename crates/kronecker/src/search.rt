@@ -5,13 +5,13 @@ ghost use Rattle.std.specs.Prelude.{◌≡◌, ◌%◌, ◌^◌, ◌≤◌, ◌<
 ghost use Rattle.bits.specs.Bits.{bit};
 ghost use Rattle.kronecker.specs.Words.{lowest_of, lesser_from, Covers, LeastEntry, FoundIn, FoundIs};
 
-use crate::{Found, table};
+use crate::{WrittenKronecker, table};
 
 /// How many choices 6 variables have.
 const MOST_CHOICES: usize = 729;
 
 /// The least entry, and of several such the first: a choice that has no free product costs what it has of products.
-fn least_entry(table: &[u8]) -> Found
+fn least_entry(table: &[u8]) -> WrittenKronecker
     requires { 0 < length table.now }
     ensures { LeastEntry table.now result }
 {
@@ -25,7 +25,7 @@ fn least_entry(table: &[u8]) -> Found
         }
     }
     let products = least as usize;
-    Found {
+    WrittenKronecker {
         cost: products,
         choice,
         products,
@@ -33,12 +33,12 @@ fn least_entry(table: &[u8]) -> Found
 }
 
 /// Of two that are each the cheapest of a range, where the second's choices count from `from` on: the second where it costs less, else the first.
-fn lesser_from(x: Found, y: Found, from: usize) -> Found
+fn lesser_from(x: WrittenKronecker, y: WrittenKronecker, from: usize) -> WrittenKronecker
     requires { (from ≤ 729) × (y.choice ≤ 729) }
     ensures { result ≡ lesser_from x y from }
 {
     if y.cost < x.cost {
-        return Found {
+        return WrittenKronecker {
             choice: from + y.choice,
             ..y
         };
@@ -47,12 +47,12 @@ fn lesser_from(x: Found, y: Found, from: usize) -> Found
 }
 
 /// With no variable left: the one entry, of which the product is free where the function, the lowest bit of w, is 1.
-fn lowest(entry: u8, w: u64) -> Found
+fn lowest(entry: u8, w: u64) -> WrittenKronecker
     requires { w % 2 ≤ entry }
     ensures { result ≡ lowest_of entry (w % 2) }
 {
     let products = entry as usize;
-    Found {
+    WrittenKronecker {
         cost: products - (w % 2) as usize,
         choice: 0,
         products,
@@ -60,7 +60,7 @@ fn lowest(entry: u8, w: u64) -> Found
 }
 
 /// With one variable left: three entries. Below Shannon no product is free.
-fn least_of_one(w: u64, table: &[u8]) -> Found
+fn least_of_one(w: u64, table: &[u8]) -> WrittenKronecker
     requires { Covers 1 (bit w) table.now }
     ensures { FoundIn 1 (bit w) table.now result }
 {
@@ -71,7 +71,7 @@ fn least_of_one(w: u64, table: &[u8]) -> Found
 }
 
 /// The cheapest of the choices whose entries these are. By the highest variable: below Shannon no product is free, below a Davio expansion those of its first branch.
-fn least_of(left: usize, w: u64, table: &[u8]) -> Found
+fn least_of(left: usize, w: u64, table: &[u8]) -> WrittenKronecker
     requires { (left ≤ 6) × Covers left (bit w) table.now }
     ensures { FoundIn left (bit w) table.now result }
 {
@@ -100,7 +100,7 @@ fn choices(n: usize) -> usize
 }
 
 /// The cheapest choice of the function of the lowest 2^n bits, and of several such the smallest.
-pub(crate) fn find(n: usize, w: u64) -> Found
+pub(crate) fn find(n: usize, w: u64) -> WrittenKronecker
     requires { n ≤ 6 }
     ensures { FoundIs n (bit w) result }
 {

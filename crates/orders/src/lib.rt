@@ -5,9 +5,11 @@ ghost use Rattle.std.specs.Prelude.{◌≡◌};
 ghost use Rattle.orders.specs.Codes.{third_of};
 ghost use Rattle.orders.specs.Orders.{code_after, follow, inverse, letter_order};
 
-/// The codes 0, 1, 2, and the orders 0 to 5.
+/// The codes 0, 1, 2.
+// Stays: codes and orders are numbers; the documents fix the arithmetic on codes, 3 less both, and docs/CONTRACTS.md names `third`, `code_after` and `follow` with numbers.
 const CODES: u8 = 3;
 
+/// The orders 0 to 5.
 const ORDERS: u8 = 6;
 
 /// What the three codes add up to.
@@ -52,6 +54,7 @@ pub fn third(x: u8, y: u8) -> u8
 }
 
 /// What the order o makes of the code x; 0 where there is no such order or code.
+// Stays: beside `follow`, two tests and a look-up each; the tables have rows of other lengths, and docs/CONTRACTS.md names both.
 #[tactic(auto, using(crate::proofs::Tables::code_after_no_order, crate::proofs::Tables::code_after_no_code), unfolding(crate::specs::Orders::code_after))]
 pub fn code_after(o: u8, x: u8) -> u8
     ensures { result ≡ code_after o x }

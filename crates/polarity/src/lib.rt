@@ -9,7 +9,7 @@ pub mod transform;
 pub mod vector;
 
 /// How many products a list has, and whether one of them has no literal.
-#[derive(Clone, Copy)]
+#[derive(Clone, Copy, Debug, PartialEq, Eq)]
 pub struct Counts {
     pub products: u32,
     pub constant: bool,

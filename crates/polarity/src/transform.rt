@@ -1,4 +1,4 @@
-//! The coefficients of a vector under a polarity, and back, on the bits of four words, or of one. Both kinds of pass are their own inverse.
+//! The coefficients of a vector under a polarity, and back, on the bits of four words, or of one.
 
 ghost use Rattle.std.specs.Prelude.{◌≡◌, ◌++◌, ◌^◌, ◌<◌, ◌≤◌, length, drop};
 ghost use Rattle.bits.specs.Below.{list_below};

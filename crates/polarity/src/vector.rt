@@ -13,6 +13,7 @@ use records::{Reason, Refusal};
 const STRIDE: usize = 8;
 
 /// Whether a stride is left from place i on, and every byte of it is 0 or 1.
+// Stays: a scan of its own beside that of `records::list`; a byte is no record of a `Kind`, and eight of them are tested as one number.
 fn stride_good(bytes: &[u8], i: usize) -> bool
     requires { i ≤ length bytes.now }
     ensures { result ≡ pass_from is_bit 0 8 bytes.now i }
@@ -55,6 +56,7 @@ fn first_bad(bytes: &[u8]) -> usize
 }
 
 /// Checking a vector: refusals 1 and 14, or its length.
+// Stays: it answers the length and no checked vector; docs/CONTRACTS.md names it so, and C lends the bytes that `Vector n` is said of in the contracts of its callers.
 pub fn check_vector(n: usize, bytes: &[u8]) -> Result<usize, Refusal>
     ensures { counted result ≡ check_vector n bytes.now }
 {

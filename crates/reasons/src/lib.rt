@@ -22,6 +22,7 @@ pub struct TrueProducts {
 }
 
 /// The places of the true products of a list of good cubes, to the front of a buffer that has room for every place. Answers how many they are.
+// Stays: the list as bytes, with what its check has shown in the contract; docs/CONTRACTS.md (Exceptions) names it by what it asks.
 fn put_trues(n: usize, list: &[u8], a: u32, out: &mut [u8]) -> usize
     requires all { All (Good n) (cubes_of list.now) }
     requires a_bound { a < 2 ^ n }

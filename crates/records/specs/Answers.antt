@@ -42,7 +42,7 @@ abbrev pub after_call : Outcome → List ℕ → List ℕ → List ℕ
 after_call (accepted values) new old = new
 after_call (refused r) new old = old
 
--- document 01's number and values for each case of a call's answer
+-- the values for each case of a call's answer
 abbrev pub outcome_of : {A : Type 0} → (A → List ℕ) → Result A Refusal → Outcome
 outcome_of values (Ok a) = accepted (values a)
 outcome_of values (Err r) = refused r

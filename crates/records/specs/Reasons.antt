@@ -1,6 +1,6 @@
--- Why a call is refused: the number of each reason. Document 01, "Refusal numbers and places".
+-- Why a call is refused: the number of each reason.
 -- Assumes nothing.
-use Rattle.std.specs.Prelude.{◌≡◌, ℕ, List, Result, Ok, Err, codes}
+use Rattle.std.specs.Prelude.{◌≡◌, ◌<◌, ◌⊎◌, ℕ, List, Result, Ok, Err, codes}
 use Rattle.records.specs.declared.reason.Reason.{Reason}
 use Rattle.records.specs.declared.reason.UnknownReason.{UnknownReason}
 use Rattle.records.specs.declared.reason.Reason.TheVariants.{TooManyVariables, CutShort, TooManyRecords, BadRecord, NoRoom, LabelOutside, ScriptCutShort, TooManySteps, BadStep, NoSuchPlace, SamePlace, Full, BadVector, PolarityOutside, Unequal, NotOneApart, NotTwoApart, EqualThere, TooWide, NoSuchOutput, OutputsDiffer, NotMergeable, NotOneToTwelve, OtherIndex, LengthsDiffer, NoInputs, NoOutputs, NotEsop, NoProduct, TooManyProducts, OtherCount, UnknownLine, NoStep, TooManyStepLines, TextTooLong, NotOneOutput}
@@ -44,10 +44,10 @@ number_of TooManyStepLines = 35
 number_of TextTooLong = 36
 number_of NotOneOutput = 37
 
--- what a number is read as: the reason that has it
+-- what a number is read as: the reason that has it; none has 0, 12 or one above 37
 abbrev pub ReadAs : ℕ → Result Reason UnknownReason → Type 0
 ReadAs n (Ok r) = number_of r ≡ n
-ReadAs n (Err e) = e.number ≡ n
+ReadAs n (Err e) = (e.number ≡ n) × ((n ≡ 0) ⊎ ((n ≡ 12) ⊎ (37 < n)))
 
 -- what the programs say of it
 abbrev pub words_of : Reason → List ℕ

@@ -4,9 +4,10 @@ ghost use Rattle.std.specs.Prelude.{◌≡◌, ◌+◌, ◌*◌, ◌≤◌, leng
 ghost use Rattle.std.proofs.lemmas.List.Edits.{sets};
 ghost use Rattle.records.specs.Numbers.{byte_size, bytes_of, number_at};
 
-/// How many numbers one byte and two bytes hold.
+/// How many numbers one byte holds.
 const BYTE: u32 = 256;
 
+/// How many numbers two bytes hold.
 const TWO_BYTES: u32 = 65536;
 
 /// The number of two bytes.
@@ -69,6 +70,7 @@ fn put_four(b: &mut [u8], p: usize, x: u32)
 }
 
 /// The number of the two bytes from byte p on.
+// Stays: a function for each width; the result is a u16 or a u32, and the four bytes are read and stored as two and two, from which the compiler makes one load or store.
 pub fn number2_at(b: &[u8], p: usize) -> u16
     ensures { result ≡ number_at 2 b.now p }
 {

@@ -9,6 +9,7 @@ use crate::numbers;
 pub const PLACE_WIDTH: usize = 2;
 
 /// The k-th place of a buffer that has so many.
+// Stays: reading and storing of its own, and no `Kind`; a buffer of places is never checked, so it has no test and no reasons to be refused for.
 pub fn place_at(b: &[u8], k: usize) -> u16
     requires { k < length b.now / place_width }
     ensures { result ≡ places.read b.now k }

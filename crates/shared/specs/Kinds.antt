@@ -1,4 +1,4 @@
--- That a shared product's record is a kind of record.
+-- Inside: that a shared product's record is a kind of record.
 -- Assumes nothing.
 use Rattle.std.specs.Prelude.{refl, [], ◌∷◌, get_or}
 use lib.Dec.{lit<}

@@ -44,6 +44,7 @@ impl Shared {
 }
 
 /// The records of shared products: twelve bytes each.
+#[derive(Clone, Copy, Debug, PartialEq, Eq)]
 pub struct Products;
 
 impl Kind for Products {

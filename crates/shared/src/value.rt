@@ -27,6 +27,7 @@ fn word_at(n: usize, list: &[u8], a: u32) -> u32
 }
 
 /// Checking a list and an assignment of its variables: refusals 1 to 4 and 6, or the count of its records.
+// Stays: beside `check_at` of `cube::value`, where the reason stands.
 fn check_at(n: usize, list: &[u8], a: u64) -> Result<usize, Refusal>
     ensures { counted result ≡ check_shared_at n list.now a }
 {

@@ -1,4 +1,4 @@
--- An L step moves the code at its variable by one of the six orders, in the cube of every shared product.
+-- Inside: an L step moves the code at its variable by one of the six orders, in the cube of every shared product.
 -- Assumes nothing.
 use Rattle.std.specs.Prelude.{◌≡◌, ℕ, map, ◌<◌, ◌≤◌, cond, eqb}
 use Rattle.std.proofs.Common.{ap, ◌∙◌, subst}

@@ -1,10 +1,8 @@
 //! Decisions on shared products, on values alone: the cubes' own and the test of the outputs; and the merge.
 ghost use Rattle.std.specs.Prelude.{◌≡◌, ◌≤◌};
-ghost use Rattle.records.specs.Reasons.{number_of};
 ghost use Rattle.cube.specs.Cubes.{Good};
 ghost use Rattle.cube.specs.Lists.{most_variables};
-ghost use Rattle.steps.specs.declared.Change.TheVariants.{Refuse};
-ghost use Rattle.steps.specs.Moves.{step_refusal, map_move};
+ghost use Rattle.steps.specs.Moves.{map_move};
 ghost use Rattle.steps.specs.Changes.{move_of};
 ghost use Rattle.shared.specs.SharedRecord.{sharing};
 ghost use Rattle.shared_steps.specs.SharedSteps.{alike, merge_move, shared_meaning, shared_decision};
@@ -14,19 +12,8 @@ use crate::SharedStep;
 use cube::Cube;
 use records::Reason;
 use shared::Shared;
-use steps::decide::{self, misplaced};
-use steps::{Change, Step, StepRecord, StepRefusal};
-
-/// Refused for this reason, with 0 for the third answer.
-#[inline(always)]
-fn refused(reason: Reason) -> Change<Shared>
-    ensures { result ≡ Refuse (step_refusal (number_of reason)) }
-{
-    Change::Refuse(StepRefusal {
-        number: reason as u8,
-        differing: 0,
-    })
-}
+use steps::decide::{self, misplaced, refuse};
+use steps::{Change, Step, StepRecord};
 
 /// A change of cubes, with these outputs for all that it writes.
 #[inline(always)]
@@ -56,7 +43,7 @@ fn of_alike(a: Shared, b: Shared, change: Change<Cube>) -> Change<Shared>
     }
     match change {
         Change::Refuse(why) => Change::Refuse(why),
-        _ => refused(Reason::OutputsDiffer),
+        _ => refuse(Reason::OutputsDiffer),
     }
 }
 
@@ -67,13 +54,13 @@ fn decide_merge(n: usize, count: usize, i: usize, j: usize, a: Shared, b: Shared
     ensures { move_of result ≡ merge_move n count i j a b }
 {
     if let Some(reason) = misplaced(count, i, j) {
-        return refused(reason);
+        return refuse(reason);
     }
     if a.cube.differing(b.cube) != 0 {
-        return refused(Reason::NotMergeable);
+        return refuse(Reason::NotMergeable);
     }
     if a.outputs == b.outputs {
-        return refused(Reason::NotMergeable);
+        return refuse(Reason::NotMergeable);
     }
     Change::Join(Shared {
         cube: a.cube,

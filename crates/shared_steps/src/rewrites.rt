@@ -15,6 +15,7 @@ use steps::reorder::{Masks, recoded};
 use steps::{Change, Decides, StepRecord};
 
 /// The steps on lists of shared products.
+#[derive(Clone, Copy, Debug, PartialEq, Eq)]
 pub struct OnProducts;
 
 impl Decides for OnProducts {

@@ -1,4 +1,4 @@
--- What is asked of a kind of record whose steps are decided.
+-- Inside: what is asked of a kind of record whose steps are decided.
 -- Assumes nothing.
 use Rattle.std.specs.Prelude.{◌≡◌, ℕ, List, map, ◌<◌, length, get_or}
 use Rattle.records.specs.Records.{Codec, list_of, stored}

@@ -1,4 +1,4 @@
--- An L step moves the code at its variable by one of the six orders, in every cube.
+-- Inside: an L step moves the code at its variable by one of the six orders, in every cube.
 -- Assumes nothing.
 use Rattle.std.specs.Prelude.{◌≡◌, ℕ, map, ◌<◌}
 use Rattle.std.proofs.Common.{sym, ap, ◌∙◌, subst}

@@ -1,2 +1,2 @@
-//! The decision for the loop of another crate: it is taken into each loop, and needs no second text.
+//! The decision of a step by another name, which docs/CONTRACTS.md has.
 pub use crate::decide::decide;

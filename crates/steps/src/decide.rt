@@ -42,7 +42,7 @@ pub fn two_places(count: usize, i: usize, j: usize) -> u8
 
 /// Refused, whatever the cubes are: there is no number of differing variables.
 #[inline(always)]
-pub(crate) fn refuse(reason: Reason) -> Change<Cube>
+pub fn refuse<T>(reason: Reason) -> Change<T>
     ensures { result ≡ Refuse (step_refusal (number_of reason)) }
 {
     Change::Refuse(StepRefusal {

@@ -13,6 +13,7 @@ use crate::reorder::Masks;
 use crate::{Change, StepRecord};
 
 /// A kind of record, with the decisions of its steps.
+// Stays: reading and storing of its own beside `Kind`; a step stores whatever it decided, where `kind::put_item` asks of its caller that the item is writable.
 pub trait Decides {
     type Item: Copy;
 

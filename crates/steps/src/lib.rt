@@ -23,14 +23,6 @@ pub struct StepRefusal {
     pub differing: u32,
 }
 
-impl StepRefusal {
-    /// No refusal: what stands in its place where a step is done.
-    pub const NONE: StepRefusal = StepRefusal {
-        number: 0,
-        differing: 0,
-    };
-}
-
 /// What a step does to the records at its places.
 #[derive(Clone, Copy, Debug, PartialEq, Eq)]
 pub enum Change<T> {

@@ -12,6 +12,7 @@ use crate::{Change, Decides, OnCubes, StepRefusal};
 use cube::Cube;
 
 /// The smaller of two numbers.
+// Stays: docs/CONTRACTS.md names it; one line over std's min.
 pub fn smaller(i: usize, j: usize) -> usize
     ensures { result ≡ min i j }
 {
@@ -19,6 +20,7 @@ pub fn smaller(i: usize, j: usize) -> usize
 }
 
 /// The larger of two numbers.
+// Stays: docs/CONTRACTS.md names it; one line over std's max.
 pub fn larger(i: usize, j: usize) -> usize
     ensures { result ≡ max i j }
 {
@@ -26,6 +28,7 @@ pub fn larger(i: usize, j: usize) -> usize
 }
 
 /// Place i of count removed: the last record copied there, and its own place cleared.
+// Stays: buffer and count apart, here and below, with `Held` and `TwoPlaces` in each contract; docs/CONTRACTS.md names `drop_both`, `join_both`, `drop_places` and `join_places` so, and C lends the buffer.
 #[inline(always)]
 fn remove<K: Decides>(work: &mut [u8], count: usize, i: usize)
     requires held { Held K.codec count work.old }

@@ -13,6 +13,7 @@ use crate::{Change, Decides, StepRecord, decide, reorder};
 use cube::{Cube, list};
 
 /// The steps on lists of cubes.
+#[derive(Clone, Copy, Debug, PartialEq, Eq)]
 pub struct OnCubes;
 
 impl Decides for OnCubes {

@@ -15,13 +15,14 @@ fn joined(lower: usize, upper: usize, change: usize) -> usize
     (lower + upper.min(change)).min(upper + change)
 }
 
-/// The same by the number of variables that are left: none, one, two, at most two, or any. The compiler takes the first four as one piece.
+/// The same with no variable left. The compiler takes this and the next three functions as one piece.
 fn paid_of_none(w: Packed) -> usize
     ensures { result ≡ w.a % 2 }
 {
     (w.a % 2) as usize
 }
 
+/// With one variable left.
 fn paid_of_one(k: usize, w: Packed) -> usize
     requires { k + 1 ≤ 8 }
     ensures { PaidIs k 1 w result }
@@ -31,6 +32,7 @@ fn paid_of_one(k: usize, w: Packed) -> usize
     joined(paid_of_none(w), paid_of_none(upper), paid_of_none(change))
 }
 
+/// With two.
 fn paid_of_two(k: usize, w: Packed) -> usize
     requires { k + 2 ≤ 8 }
     ensures { PaidIs k 2 w result }
@@ -45,6 +47,7 @@ fn paid_of_two(k: usize, w: Packed) -> usize
     )
 }
 
+/// With at most two.
 fn paid_of_few(k: usize, left: usize, w: Packed) -> usize
     requires { (left ≤ 2) × (k + left ≤ 8) }
     ensures { PaidIs k left w result }
@@ -58,7 +61,7 @@ fn paid_of_few(k: usize, left: usize, w: Packed) -> usize
     paid_of_two(k, w)
 }
 
-/// Word by word, since a struct of four words goes through memory at each call.
+/// With any number of them. Word by word, since a struct of four words goes through memory at each call.
 fn least_paid(k: usize, left: usize, a: u64, b: u64, c: u64, d: u64) -> usize
     requires { k + left ≤ 8 }
     ensures { PaidIs k left (words a b c d) result }

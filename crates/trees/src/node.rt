@@ -40,6 +40,7 @@ pub fn second_half<B: Bits>(by: Expansion, k: usize, w: B) -> B
 }
 
 /// The code of the literal that leads to the first branch.
+// Stays: a code by its number, 0 to 2, as `Cube::with_code` takes it.
 fn first_code(by: Expansion) -> u8
     ensures { result ≡ first_code by }
 {

@@ -32,6 +32,7 @@ pub fn put_leaf(w: u64, c: Cube, out: &mut [u8], at: usize) -> usize
 }
 
 /// Writes the products of the tree to which the product c leads, from place `at` on, depth first, and answers the next place.
+// Stays: beside `put_choice` of `kronecker`, which goes the same way; here the costs choose the expansion, there a digit does, and a trait for that and for what each branch is told would be longer than what they share.
 fn put_tree(
     k: usize,
     left: usize,
@@ -63,6 +64,7 @@ fn put_tree(
 }
 
 /// The bits of a vector; of at most six variables they stand in one word.
+// Stays: n and the bytes apart here and below, with `Vector n` in each contract; docs/CONTRACTS.md names `put_list` and `count_tree` so.
 fn bits_of(n: usize, vector: &[u8]) -> Packed
     requires { Vector n vector.now }
     ensures { result ≡ packed vector.now }

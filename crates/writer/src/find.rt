@@ -50,6 +50,7 @@ fn far_to(list: &[u8], from: usize, end: usize, c: Cube) -> usize
 }
 
 /// The lowest place from `from` on whose cube is near c, or the end.
+// Stays: the end for none, here and in `below` and `look`; `FirstIn` has it so, and what follows compares a place with it.
 fn near_from(list: &[u8], from: usize, end: usize, c: Cube) -> usize
     requires { (from ≤ end) × (end ≤ length list.now / record_width) }
     ensures { FirstIn (near_at c (cubes_of list.now)) from end result }
@@ -63,6 +64,7 @@ fn near_from(list: &[u8], from: usize, end: usize, c: Cube) -> usize
 }
 
 /// The lowest place below row that makes a pair with it, or row.
+// Stays: buffer and count apart, here and below, with `Ready` in each contract; C lends the buffer, and docs/CONTRACTS.md (Exceptions) names these functions by what they ask.
 fn below(work: &[u8], n: usize, count: usize, row: usize) -> usize
     requires ready { Ready n count count work.now }
     requires row_lt_count { row < count }
@@ -72,6 +74,7 @@ fn below(work: &[u8], n: usize, count: usize, row: usize) -> usize
 }
 
 /// The lowest place above an unmarked row that makes a pair with it, or the count; the count where the row is marked.
+// Stays: a mark is a number, 0 or 1, as `looked` and `Watched` (specs/Watching.antt) speak of it.
 fn look(work: &[u8], n: usize, count: usize, i: usize, mark: u8) -> usize
     requires ready { Ready n count count work.now }
     requires i_lt_count { i < count }

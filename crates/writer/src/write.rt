@@ -18,6 +18,7 @@ use script::{check, record};
 use steps::{StepRecord, decide, perform};
 
 /// The step that takes away the cubes at two places: 1 drops them where they are equal, 2 joins them.
+// Stays: buffer and count apart, as in `find`.
 fn step_for(work: &[u8], n: usize, count: usize, i: usize, j: usize) -> StepRecord
     requires ready { Ready n count count work.now }
     requires i_lt_count { (i < count) × (j < count) }

@@ -22,7 +22,7 @@ use Rattle.cube.specs.Lists.{cube_capacity}
 use Rattle.polarity.specs.Vectors.{byte_at, Vector, check_vector}
 use Rattle.polarity.proofs.Shown.{alone_packed}
 use Rattle.polarity.proofs.Vectors.{check_accepts}
-use Rattle.kronecker.specs.declared.Found.{Found}
+use Rattle.kronecker.specs.declared.WrittenKronecker.{WrittenKronecker}
 use Rattle.kronecker.specs.Choices.{best_choice, kronecker_list}
 use Rattle.kronecker.specs.Calls.{kronecker_variables, kronecker_outcome}
 use Rattle.kronecker.specs.Words.{FoundIs}
@@ -49,7 +49,7 @@ module _ (n : ℕ) (l : List ℕ) (room : ℕ) where
     unfolding kronecker_outcome
     kronecker_refused r e = simp (le-leb n kronecker_variables few) (and_not _ _ r e)
 
-    module _ (values : List ℕ) (e : check_vector n l ≡ accepted values) (w : ℕ) (ew : w ≡ word_from l 0) (fits : w < 2 ^ 64) (r : Found) (F : FoundIs n (bit w) r)
+    module _ (values : List ℕ) (e : check_vector n l ≡ accepted values) (w : ℕ) (ew : w ≡ word_from l 0) (fits : w < 2 ^ 64) (r : WrittenKronecker) (F : FoundIs n (bit w) r)
         (capacity : ℕ) (ea : capacity ≡ cube_capacity room) where
       found : FoundIs n (byte_at l) r
       found = subst (λ (f : ℕ → ℕ). FoundIs n f r) (word_function n l (check_accepts n l values e) few w ew fits) F

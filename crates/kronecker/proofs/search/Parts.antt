@@ -13,7 +13,7 @@ use Rattle.bits.specs.Bits.{bit}
 use Rattle.bits.proofs.Bits.{shl_one}
 use Rattle.bits.proofs.Least.{in_one}
 use Rattle.trees.specs.Trees.{tree_cost}
-use Rattle.kronecker.specs.declared.Found.{Found}
+use Rattle.kronecker.specs.declared.WrittenKronecker.{WrittenKronecker}
 use Rattle.kronecker.specs.Choices.{choice_tree}
 use Rattle.kronecker.specs.Words.{high_half, sum_half, highest, products_of, saved, LeastEntry, lowest_of, lesser_from, Covers, cost_in, FoundIn}
 use Rattle.kronecker.proofs.Highest.{lowest_products, lowest_free, shannon_digit, positive_digit, negative_digit, upper_word}
@@ -22,7 +22,7 @@ use Rattle.kronecker.proofs.search.Ranges.{Cheapest, cheapest_is, is_cheapest, c
 
 -- ---- what is found, as the cheapest
 
-module _ (n : ℕ) (f : ℕ → ℕ) (l : List ℕ) (r : Found) where
+module _ (n : ℕ) (f : ℕ → ℕ) (l : List ℕ) (r : WrittenKronecker) where
   pub found_cheapest : FoundIn n f l r → Cheapest (cost_in n f l) (entry l) (3 ^ n) r
   found_cheapest F = is_cheapest (cost_in n f l) (entry l) (3 ^ n) r (power_some n) F.choice_is F.cost_is F.products_are
 
@@ -48,7 +48,7 @@ module _ (m s : ℕ) (f : ℕ → ℕ) where
 -- its part of the table, p, covers h, and what is found there is the cheapest of its choices
 pub record PartOf (m : ℕ) (f h : ℕ → ℕ) (s : ℕ) (l p : List ℕ) : Type 0 where
   pub covers : Covers m h p
-  pub cheapest : (r : Found) → FoundIn m h p r → Cheapest (λ i. cost_in (suc m) f l (s + i)) (λ i. get_or l (s + i) 0) (3 ^ m) r
+  pub cheapest : (r : WrittenKronecker) → FoundIn m h p r → Cheapest (λ i. cost_in (suc m) f l (s + i)) (λ i. get_or l (s + i) 0) (3 ^ m) r
 
 part_of : (m k s : ℕ) (f h d : ℕ → ℕ) → Digit m f h d s → k ≡ 3 ^ m → s + 3 ^ m ≤ 3 ^ suc m → (l : List ℕ) → Covers (suc m) f l → PartOf m f h s l (take k (drop s l))
 part_of m k s f h d D e fits l C = record {
@@ -110,7 +110,7 @@ module _ {left w : ℕ} {l : List ℕ} (P : Parted left w l) where
   first_some = omega (arith, first_length, part_is, power_some m)
 
   -- below Shannon: nothing is saved
-  first : (r : Found) → LeastEntry (take t l) r → Cheapest (cost_in (suc m) (bit w) l) (entry l) t r
+  first : (r : WrittenKronecker) → LeastEntry (take t l) r → Cheapest (cost_in (suc m) (bit w) l) (entry l) t r
   first r L =
       let same : (i : ℕ) → i < t → get_or (take t l) i 0 ≡ get_or l i 0 = λ i b. get_or-take t l i 0 b in
       cheapest_alike (entry (take t l)) (entry (take t l)) t r (cost_in (suc m) (bit w) l) (entry l)
@@ -128,7 +128,7 @@ module _ {left w : ℕ} {l : List ℕ} (P : Parted left w l) where
       (omega (arith, part_is, whole.long, pow-suc 3 m)) (omega (arith, part_is, pow-suc 3 m)) l whole
 
   -- all three
-  pub parts_found : (x y z q r : Found) → LeastEntry (take t l) x → FoundIn m (bit w) (take (2 * t - t) (drop t l)) y
+  pub parts_found : (x y z q r : WrittenKronecker) → LeastEntry (take t l) x → FoundIn m (bit w) (take (2 * t - t) (drop t l)) y
       → FoundIn m (bit u) (take (length l - 2 * t) (drop (2 * t) l)) z → q ≡ lesser_from x y t → r ≡ lesser_from q z (2 * t) → FoundIn left (bit w) l r
   parts_found x y z q r X Y Z eq er =
       let both = cheapest_both _ (entry l) t (3 ^ m) x y (first x X) (middle.cheapest y Y) (2 * t) (omega (arith, part_is)) q eq in
@@ -169,7 +169,7 @@ one_most w (a ∷ b ∷ c ∷ []) C =
 one_most w (a ∷ b ∷ c ∷ d ∷ l) C = absurd (omega (arith, C.long))
 
 pub one_found : (w : ℕ) (l : List ℕ) → Covers 1 (bit w) l
-    → (x y z q r : Found) → x ≡ lowest_of (get_or l 0 0) 0 → y ≡ lowest_of (get_or l 1 0) (w % 2) → z ≡ lowest_of (get_or l 2 0) (w / 2 ^ 1 % 2)
+    → (x y z q r : WrittenKronecker) → x ≡ lowest_of (get_or l 0 0) 0 → y ≡ lowest_of (get_or l 1 0) (w % 2) → z ≡ lowest_of (get_or l 2 0) (w / 2 ^ 1 % 2)
     → q ≡ lesser_from x y 1 → r ≡ lesser_from q z 2 → FoundIn 1 (bit w) l r
 one_found w [] C x y z q r ex ey ez eq er = absurd (omega (arith, C.long))
 one_found w (a ∷ []) C x y z q r ex ey ez eq er = absurd (omega (arith, C.long))

@@ -11,11 +11,11 @@ use borrow.Author.Tests.{ltb-true, ltb-false}
 use lib.Dec.{ltb}
 use lib.ListN.{length, get_or}
 use Rattle.bits.proofs.Least.{Least, in_one, in_upper, in_lower, in_moved, in_alike, in_unique, first_least_lem}
-use Rattle.kronecker.specs.declared.Found.{Found}
+use Rattle.kronecker.specs.declared.WrittenKronecker.{WrittenKronecker}
 use Rattle.kronecker.specs.Words.{least_below, LeastEntry, lesser_from}
 
 -- of the choices below m, r is the one whose cost is least, and of several such the smallest, with its cost and its products
-pub record Cheapest (cost products : ℕ → ℕ) (m : ℕ) (r : Found) : Type 0 where
+pub record Cheapest (cost products : ℕ → ℕ) (m : ℕ) (r : WrittenKronecker) : Type 0 where
   pub least : Least cost m r.choice
   pub cost_is : r.cost ≡ cost r.choice
   pub products_are : r.products ≡ products r.choice
@@ -24,7 +24,7 @@ pub record Cheapest (cost products : ℕ → ℕ) (m : ℕ) (r : Found) : Type 0
 pub least_below_lem : (g : ℕ → ℕ) (m : ℕ) → 0 < m → Least g m (least_below g m)
 least_below_lem g = first_least_lem g (λ y x. ltb (g y) (g x)) (λ y x. refl)
 
-module _ (cost products : ℕ → ℕ) (m : ℕ) (r : Found) where
+module _ (cost products : ℕ → ℕ) (m : ℕ) (r : WrittenKronecker) where
   -- .. and the only one
   pub cheapest_is : Cheapest cost products m r → r.choice ≡ least_below cost m
   cheapest_is C = in_unique cost 0 m r.choice (least_below cost m) C.least (least_below_lem cost m (omega (arith, C.least.inside)))
@@ -42,8 +42,8 @@ module _ (cost products : ℕ → ℕ) (m : ℕ) (r : Found) where
   }
 
 -- of the choices below t and the m after them
-pub cheapest_both : (cost products : ℕ → ℕ) (t m : ℕ) (x y : Found) → Cheapest cost products t x → Cheapest (λ i. cost (t + i)) (λ i. products (t + i)) m y
-    → (end : ℕ) → end ≡ t + m → (r : Found) → r ≡ lesser_from x y t → Cheapest cost products end r
+pub cheapest_both : (cost products : ℕ → ℕ) (t m : ℕ) (x y : WrittenKronecker) → Cheapest cost products t x → Cheapest (λ i. cost (t + i)) (λ i. products (t + i)) m y
+    → (end : ℕ) → end ≡ t + m → (r : WrittenKronecker) → r ≡ lesser_from x y t → Cheapest cost products end r
 unfolding lesser_from
 cheapest_both cost products t m x y X Y end e r er =
     subst₂ (Cheapest cost products) (sym e) (sym er) (go (ltb y.cost x.cost) refl)
@@ -71,7 +71,7 @@ abbrev pub entry : List ℕ → ℕ → ℕ
 entry l i = get_or l i 0
 
 -- the least entry is the cheapest of them all
-pub entry_cheapest : (l : List ℕ) (r : Found) → 0 < length l → LeastEntry l r → Cheapest (entry l) (entry l) (length l) r
+pub entry_cheapest : (l : List ℕ) (r : WrittenKronecker) → 0 < length l → LeastEntry l r → Cheapest (entry l) (entry l) (length l) r
 entry_cheapest l r h L = is_cheapest (entry l) (entry l) (length l) r h L.choice_is L.cost_is L.products_are
 
 -- the cheapest of those below i: passing them one after the other finds it for all

@@ -10,7 +10,7 @@ use Rattle.bits.proofs.Below.{length_list_below, get_or_list_below}
 use Rattle.cube.specs.Cubes.{one}
 use Rattle.polarity.proofs.Ranks.{cost_most}
 use Rattle.trees.proofs.Prices.{length_products, cost_tree}
-use Rattle.kronecker.specs.declared.Found.{Found}
+use Rattle.kronecker.specs.declared.WrittenKronecker.{WrittenKronecker}
 use Rattle.kronecker.specs.Choices.{choice_tree, choice_list, choice_cost, best_choice}
 use Rattle.kronecker.specs.Words.{products_of, products_of_all, Covers, cost_in, FoundIn, FoundIs}
 use Rattle.kronecker.proofs.search.Ranges.{cheapest_is, cheapest_alike, entry}
@@ -25,7 +25,7 @@ module _ (n : ℕ) (f : ℕ → ℕ) (l : List ℕ) (e : l ≡ products_of_all n
   unfolding products_of_all
   all_covers = record { long = ap length e ∙ length_list_below (3 ^ n) (products_of n f); at = λ x h. omega (arith, all_at x h) }
 
-  pub found_all : n ≤ 6 → (r : Found) → FoundIn n f l r → FoundIs n f r
+  pub found_all : n ≤ 6 → (r : WrittenKronecker) → FoundIn n f l r → FoundIs n f r
   unfolding best_choice
   found_all few r F =
       let products : (x : ℕ) → x < 3 ^ n → get_or l x 0 ≡ length (choice_list n x f) = λ x h. all_at x h ∙ sym (length_products (choice_tree n x) 0 one f) in

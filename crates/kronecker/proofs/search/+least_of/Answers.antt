@@ -5,7 +5,7 @@ use Prim.Native.Nat.{ℕ}
 use native.Mathlib.Omega.{arith}
 use lib.Seq.{length-take-le}
 use Rattle.bits.specs.Bits.{bit}
-use Rattle.kronecker.specs.declared.Found.{Found}
+use Rattle.kronecker.specs.declared.WrittenKronecker.{WrittenKronecker}
 use Rattle.kronecker.specs.Words.{Covers, FoundIn}
 use Rattle.kronecker.proofs.search.Parts.{found_few, Parted, table_few, half_few, first_some, middle, last, parts_found, lowest_some, lowest_most, lowest_found}
 use Rattle.kronecker.proofs.search.+least_of.Goals as goal
@@ -23,7 +23,7 @@ lowest-requires t c = lowest_most _ _ (none t (goal.at.lowest-requires t c).Then
 
 pub returns-then-left-eq0 : goal.returns-then-left-eq0
 returns-then-left-eq0 t c =
-    subst₂ (λ (k : ℕ) (r : Found). FoundIn k (bit c.args.w) c.args.table.now r) (sym c.if-left-eq0.true) (sym c.lowest.ensures) (lowest_found _ _ (none t (goal.at.returns-then-left-eq0 t c).Then-left-eq0))
+    subst₂ (λ (k : ℕ) (r : WrittenKronecker). FoundIn k (bit c.args.w) c.args.table.now r) (sym c.if-left-eq0.true) (sym c.lowest.ensures) (lowest_found _ _ (none t (goal.at.returns-then-left-eq0 t c).Then-left-eq0))
 
 -- with one
 pub least_of_one-requires : goal.least_of_one-requires

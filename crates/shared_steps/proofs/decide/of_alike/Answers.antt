@@ -14,4 +14,4 @@ returns-in-Refuse c = search alike_refused
 
 pub returns-in_default : goal.returns-in_default
 unfolding move_of
-returns-in_default c = alike_unlike _ _ _ _ c.if-a-b.false c.in_default.not-Refuse (ap move_of c.refused.ensures)
+returns-in_default c = alike_unlike _ _ _ _ c.if-a-b.false c.in_default.not-Refuse (ap move_of c.refuse.ensures)
