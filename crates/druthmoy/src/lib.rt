@@ -1,6 +1,7 @@
 //! The calls that crate druthmoy_c exports for C and Rust: every answer is eight words.
 #![tactic(auto)]
 
+// Stays: a function for each call: the C interface, and the theorems of promises cite each by its path.
 pub mod maps;
 
 ghost use Rattle.std.specs.Prelude.{◌≡◌, length, get_or};

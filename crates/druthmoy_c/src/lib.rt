@@ -1,6 +1,7 @@
 //! The calls of crate `druthmoy`, exported for C and Rust: a slice passes as a pointer and a length, and every answer is eight words.
 #![tactic(auto)]
 
+// Stays: a function for each call: the C interface, and the theorems of promises cite each by its path.
 pub mod maps;
 
 ghost use Rattle.std.specs.Prelude.{◌≡◌, length, get_or};

@@ -24,6 +24,7 @@ fn lowest_wrong(bad: usize, e: usize, right: bool) -> usize
 }
 
 /// The first wrong entry of an index, or the count. Each place is looked for at its entry, so that one pass over the list is enough.
+// Stays: the count for none, and 33 in `wrong_start`: both are `first_apart`, which has the number that is looked through.
 fn wrong_entry(list: &[u8], count: usize, s: [u64; GROUPS], index: &[u8]) -> usize
     requires count_in_bounds { (count ≤ length list.now / record_width) × (count ≤ most_records) }
     requires started { Started (literals_at (cubes_of list.now)) count s }

@@ -11,7 +11,7 @@ use records::Refusal;
 pub const GROUPS: usize = 33;
 
 /// What the build answers: the count, with the start of each group, counted in entries; or a refusal, and then each start is 0.
-/// Stays: a start of each group beside the count; a refusal promises them too, all 0.
+// Stays: the starts beside the answer; `build_starts`, the clause `starts_value` of `build`: a refusal has them too, all 0.
 #[derive(Clone, Copy, Debug, PartialEq, Eq)]
 pub struct Indexed {
     pub answer: Result<usize, Refusal>,

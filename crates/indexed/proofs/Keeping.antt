@@ -18,12 +18,15 @@ use Rattle.cube.specs.Cubes.{good, Good}
 use Rattle.cube.specs.Lists.{cubes, record_width, most_records}
 use Rattle.cube.proofs.Codes.{good_parts}
 use Rattle.cube.proofs.Lists.{lawful, good_at}
+use Rattle.steps.specs.Moves.{next}
+use Rattle.steps.specs.Steps.{Step, step}
 use Rattle.script.specs.Carrying.{Carries}
 use Rattle.script.proofs.Carrying.{carries_ready}
 use Rattle.index.specs.Index.{literals_at, list_index}
 use Rattle.index.specs.Counting.{ClearBehind}
 use Rattle.index.proofs.Entries.{length_index}
 use Rattle.index.proofs.Accepted.{good_grouped}
+use Rattle.indexed.specs.Calls.{index_advanced}
 use Rattle.indexed.specs.Keeping.{IndexKept}
 
 -- ---- an index buffer that is zero behind its entries
@@ -76,3 +79,14 @@ module _ (n count cap : ℕ) (w : List ℕ) (c : Carries cubes (good n) n count 
         is = e ∙ ap (λ (k : ℕ). image places k (list_index l)) (sym long);
         behind = subst (ClearBehind (length l)) (sym e) (subst (λ (k : ℕ). ClearBehind k (image places room (list_index l))) entries behind);
       }
+
+-- ---- after a step, whichever it was
+
+module _ (n cap : ℕ) (x : Step) (l m : List Cube) (e : step n cap x l ≡ next m) where
+  -- the index of the list that the step leaves, in a buffer of so many bytes
+  pub next_beside : (room : ℕ) → image places room (list_index m) ≡ index_advanced room (step n cap x l)
+  next_beside room = sym (ap (index_advanced room) e)
+
+  -- so the index beside it is that list's
+  pub next_index : (index : List ℕ) → IndexKept cap m index → index ≡ index_advanced (length index) (step n cap x l)
+  next_index index k = k.is ∙ next_beside (length index)

@@ -21,7 +21,7 @@ const NO_STARTS: [u64; GROUPS] = [0; GROUPS];
 // Stays: `begun` and `starts` are promised by value on a refusal too (the contract of `run_indexed`).
 /// What a run with an index answers: whether it came to the steps, since a refusal before the first one has written nothing; what run answers; and the start
 /// of each group at the end, each 0 where the run is refused.
-#[derive(Clone, Copy)]
+#[derive(Clone, Copy, Debug, PartialEq, Eq)]
 pub struct IndexedRun {
     pub begun: bool,
     pub answer: Result<Peaked, Refusal>,

@@ -1,4 +1,4 @@
--- A work buffer that is ready for a step: any kind of record, by what each of them has to pass.
+-- Inside: a work buffer that is ready for a step: any kind of record, by what each of them has to pass.
 -- Assumes nothing.
 use Rattle.std.specs.Prelude.{◌≡◌, ℕ, ◌*◌, ◌/◌, ◌%◌, ◌≤◌, Bool, true, List, length}
 use Rattle.bits.specs.Sums.{All, first_bad}

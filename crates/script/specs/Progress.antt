@@ -7,7 +7,7 @@ use Rattle.script.specs.declared.Ended.{Ended}
 use Rattle.records.specs.declared.Refusal.{Refusal}
 use Rattle.records.specs.Records.{Codec, records, list_of, capacity_of}
 use Rattle.records.specs.Answers.{Outcome}
-use Rattle.records.proofs.Checks.{checked}
+use Rattle.records.specs.Kinds.{checked}
 use Rattle.cube.specs.Cubes.{Good}
 use Rattle.cube.specs.Lists.{cubes, most_records}
 use Rattle.steps.specs.declared.StepRecord.{StepRecord}

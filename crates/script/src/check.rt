@@ -3,7 +3,7 @@ ghost use Rattle.std.specs.Prelude.{◌≡◌};
 ghost use Rattle.bits.specs.Sums.{first_bad};
 ghost use Rattle.records.specs.Records.{list_of};
 ghost use Rattle.records.specs.Answers.{counted};
-ghost use Rattle.records.proofs.Checks.{checked};
+ghost use Rattle.records.specs.Kinds.{checked};
 ghost use Rattle.script.specs.Scripts.{step_records, most_steps, fits};
 ghost use Rattle.script.specs.Calls.{check_script};
 
@@ -16,6 +16,7 @@ use steps::StepRecord;
 pub const MOST_STEPS: usize = 1024;
 
 /// Whether a step passes rule 9 over n variables: a row for each operation, and what it doesn't use is zero.
+// Stays: numbers, those of a record's bytes; the rule is about the fields that an operation doesn't use, which a `Step` hasn't.
 pub fn fits(n: usize, x: StepRecord) -> bool
     ensures { result ≡ fits n x }
 {

@@ -55,6 +55,8 @@ impl<'a, K: Runnable> WorkList<'a, K> {
     pub fn clear(&mut self)
         ensures same_reference { self.new.buffer.ghost_name ≡ self.old.buffer.ghost_name }
         ensures variables { self.new.n ≡ self.old.n }
+        ensures count { self.new.count ≡ 0 }
+        ensures capacity { self.new.cap ≡ self.old.cap }
         ensures bytes { self.new.buffer.now ≡ zeros (length self.old.buffer.now) }
     {
         records::clear(self.buffer);
@@ -72,6 +74,8 @@ impl<'a, K: Runnable> WorkList<'a, K> {
         ensures done { IfOk result (λ _. K.step self.old.n self.old.cap x (records K.codec self.old.count self.old.buffer.now) ≡ next (records K.codec self.new.count self.new.buffer.now)) }
         ensures most { IfOk result (λ _. self.new.count ≤ max self.old.cap self.old.count) }
         ensures refused { IfErr result (λ why. K.step self.old.n self.old.cap x (records K.codec self.old.count self.old.buffer.now) ≡ stop why) }
+        ensures kept { OnErr result (self.new.buffer.now ≡ self.old.buffer.now) }
+        ensures kept_count { OnErr result (self.new.count ≡ self.old.count) }
     {
         let count = K::do_step(self.buffer, self.n, self.count, self.cap, x)?;
         self.count = count;
@@ -90,12 +94,14 @@ impl<'a, K: Runnable> WorkList<'a, K> {
         requires kept { W.keeps self.old.cap (records K.codec self.old.count self.old.buffer.now) beside.old }
         ensures same_reference { self.new.buffer.ghost_name ≡ self.old.buffer.ghost_name }
         ensures variables { self.new.n ≡ self.old.n }
+        ensures capacity { self.new.cap ≡ self.old.cap }
         ensures length { length self.new.buffer.now ≡ length self.old.buffer.now }
         ensures beside_length { length beside.new ≡ length beside.old }
         ensures count { IfOk result (λ e. self.new.count ≡ e.count) }
         ensures stepping { SteppingBy K.codec (K.step self.old.n self.old.cap) (λ a. K.fine self.old.n a ≡ true) self.old.n self.old.cap self.old.count (list_of step_records script.now) (pend_by pend_record none_pending (list_of step_records script.now)) self.old.buffer.now self.new.buffer.now result }
         ensures kept { IfOk result (λ e. W.keeps self.old.cap (records K.codec e.count self.new.buffer.now) beside.new) }
         ensures cleared { OnErr result (beside.new ≡ zeros (length beside.old)) }
+        ensures none { OnErr result (self.new.count ≡ 0) }
     {
         let steps = script.len() / STEP_WIDTH;
         let mut pending = NONE_PENDING;
@@ -113,7 +119,7 @@ impl<'a, K: Runnable> WorkList<'a, K> {
             let work = &mut *self.buffer;
             W::after_step(work, cap, before, count, beside);
             peak = peak.max(count);
-            if x.op == 5 {
+            if x.is_letter() {
                 let pending_before = pending;
                 pending = pended(pending_before, x);
             }
@@ -132,6 +138,7 @@ impl<'a, K: Runnable> WorkList<'a, K> {
         ensures same_reference { self.new.buffer.ghost_name ≡ self.old.buffer.ghost_name }
         ensures variables { self.new.n ≡ self.old.n }
         ensures count { self.new.count ≡ self.old.count }
+        ensures capacity { self.new.cap ≡ self.old.cap }
         ensures length { length self.new.buffer.now ≡ length self.old.buffer.now }
         ensures undone { records K.codec self.new.count self.new.buffer.now ≡ map (K.on_cube (reordered v (inverse o))) (records K.codec self.old.count self.old.buffer.now) }
     {
@@ -146,6 +153,9 @@ impl<'a, K: Runnable> WorkList<'a, K> {
         requires few { variables ≤ self.old.n }
         requires orders { All (λ o. o < order_count) pending }
         ensures same_reference { self.new.buffer.ghost_name ≡ self.old.buffer.ghost_name }
+        ensures variables { self.new.n ≡ self.old.n }
+        ensures count { self.new.count ≡ self.old.count }
+        ensures capacity { self.new.cap ≡ self.old.cap }
         ensures length { length self.new.buffer.now ≡ length self.old.buffer.now }
         ensures bytes { self.new.buffer.now ≡ image K.codec (length self.old.buffer.now) (map (K.on_cube (restored variables pending)) (records K.codec self.old.count self.old.buffer.now)) }
     {
@@ -158,6 +168,9 @@ impl<'a, K: Runnable> WorkList<'a, K> {
     pub fn run(&mut self, script: &[u8]) -> Result<Peaked, Refusal>
         requires all { All (λ r. K.fits self.old.n r ≡ true) (list_of step_records script.now) }
         ensures same_reference { self.new.buffer.ghost_name ≡ self.old.buffer.ghost_name }
+        ensures variables { self.new.n ≡ self.old.n }
+        ensures count { IfOk result (λ p. self.new.count ≡ p.count) }
+        ensures capacity { self.new.cap ≡ self.old.cap }
         ensures answered { AnsweredBy K.codec (run_back K.on_cube (K.step self.old.n self.old.cap) self.old.n (list_of step_records script.now) (records K.codec self.old.count self.old.buffer.now)) self.old.buffer.now self.new.buffer.now result }
     {
         let Ended {

@@ -2,7 +2,7 @@
 ghost use Rattle.std.specs.Prelude.{◌≡◌, true, map, ◌≤◌, ◌<◌, length};
 ghost use Rattle.bits.specs.Sums.{All};
 ghost use Rattle.records.specs.Records.{Held, records, list_of, image, capacity_of};
-ghost use Rattle.records.proofs.Checks.{checked};
+ghost use Rattle.records.specs.Kinds.{checked};
 ghost use Rattle.cube.specs.Cubes.{Good};
 ghost use Rattle.cube.specs.Lists.{cubes, cubes_of, cube_capacity, most_records, most_variables};
 ghost use Rattle.cube.specs.Calls.{check_list};
@@ -25,6 +25,7 @@ use steps::{StepRecord, StepRefusal};
 pub const NONE_PENDING: [u8; MOST_VARIABLES] = [0; MOST_VARIABLES];
 
 /// What is pending after one more step: the order of an L step follows that of its variable.
+// Stays: every number from 5 on is an L step here, as `meaning` of steps has it, and not 5 alone, as `is_letter` has it.
 pub fn pended(pending: [u8; MOST_VARIABLES], x: StepRecord) -> [u8; MOST_VARIABLES]
     ensures { result ≡ pend_step pending (meaning x) }
 {

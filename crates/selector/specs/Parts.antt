@@ -1,4 +1,4 @@
--- Lists end to end, cut by their lengths one after the other.
+-- Inside: lists end to end, cut by their lengths one after the other.
 -- Assumes nothing.
 use Rattle.std.specs.Prelude.{ℕ, List, [], ◌∷◌, take, drop}
 

@@ -61,6 +61,7 @@ fn show_lists(
 
 /// The reasons of a map: refusals 24, 26 and 5, then those of reasons on the lists in turn; or the slot, with the places of all bits at the front of the output, end
 /// to end, and how many each list has in the numbers.
+// Stays: lists and lengths are two buffers in the C interface, and `ReasonsInto` and its theorems are over both.
 pub fn reasons_into(
     n: usize,
     lists: &[u8],

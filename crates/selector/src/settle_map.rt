@@ -104,6 +104,7 @@ fn settle_lists(
 
 /// Settles a map: refusals 24, 26 and 5, then those of settle on the lists in turn; or the total cost and the lengths of the burned lists, which fill the front
 /// of the output.
+// Stays: lists and lengths are two buffers in the C interface, and `job` and its theorems are over both.
 pub fn settle_map(
     n: usize,
     lists: &[u8],

@@ -31,6 +31,7 @@ fn slot_bits(n: usize, lists: Lists<'_>, a: u64) -> Result<usize, MapRefusal>
 }
 
 /// A label's slot number: refusals 24 and 26, then those of value on the lists in turn; or the slot.
+// Stays: lists and lengths are two buffers in the C interface, and `slot_outcome` and its theorems are over both.
 pub fn slot(n: usize, lists: &[u8], lengths: &[u64], a: u64) -> Result<usize, MapRefusal>
     ensures { map_told result ≡ slot_outcome n lists.now lengths.now a }
 {

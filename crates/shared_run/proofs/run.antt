@@ -1,2 +1,3 @@
 -- The laws that only the functions of `run` need.
+pub mod Undoing
 pub mod Checked

@@ -1,3 +1,4 @@
 pub mod SharedScripts
+pub mod Listed
 pub mod SharedRun
 pub mod Calls

@@ -1,15 +1,9 @@
 -- The scripts for lists of shared products. Document 02, Nine; document 01, "The steps of a script" and "Refusal numbers and places".
 -- Assumes nothing.
-use Rattle.std.specs.Prelude.{◌≡◌, Bool, true, cond, ◌&&◌, List, [], ◌∷◌, map, ℕ, ◌/◌, ◌%◌, eqb, leb, length}
+use Rattle.std.specs.Prelude.{Bool, cond, ◌&&◌, List, [], ◌∷◌, map, ℕ, ◌/◌, ◌%◌, eqb, leb, length}
 use Rattle.records.specs.Records.{list_of}
 use Rattle.records.specs.Answers.{Outcome, accepted, unless, unless_at}
 use Rattle.steps.specs.declared.StepRecord.{StepRecord}
-use Rattle.bits.proofs.Sums.{all_each}
-use Rattle.shared.specs.SharedRecord.{shares, shares_of, fine, Fine}
-use Rattle.shared.specs.Calls.{check_shared}
-use Rattle.shared.proofs.SharedRecord.{parts_fine}
-use Rattle.shared.proofs.Lists.{AcceptedShared, shared_accepts}
-use Rattle.script.specs.Carrying.{Listed}
 use Rattle.script.specs.Scripts.{step_records, step_width, most_steps, fits}
 use Rattle.shared_steps.specs.SharedSteps.{SharedStep, merge_operation, shared_meaning}
 
@@ -32,9 +26,3 @@ check_shared_script n b =
 -- the steps of a script's bytes
 unfoldable pub shared_steps_of : List ℕ → List SharedStep
 shared_steps_of b = map shared_meaning (list_of step_records b)
-
--- what an accepted list is, as a script runs on it
-pub shared_listed : (n : ℕ) (b v : List ℕ) → check_shared n b ≡ accepted v → Listed shares (fine n) n b
-shared_listed n b v e =
-    let a : AcceptedShared n b = shared_accepts n b v e in
-    record { few = a.few; whole = a.whole; short = a.short; each = all_each (Fine n) (λ r. fine n r ≡ true) (parts_fine n) (shares_of b) a.good }

@@ -5,7 +5,8 @@ ghost use Rattle.shared.specs.SharedRecord.{sharing, shares, fine};
 ghost use Rattle.shared.specs.Calls.{check_shared};
 ghost use Rattle.shared.proofs.SharedRecord.{shared_lawful, shared_bytes, fine_parts, parts_fine};
 ghost use Rattle.shared_steps.specs.SharedSteps.{shared_meaning, shared_step, on_cube};
-ghost use Rattle.shared_run.specs.SharedScripts.{shared_fits, shared_listed};
+ghost use Rattle.shared_run.specs.SharedScripts.{shared_fits};
+ghost use Rattle.shared_run.specs.Listed.{shared_listed};
 
 use crate::check;
 use records::Refusal;

@@ -4,7 +4,6 @@ use mathlib.Core.Path.{◌≡◌, sym, ap, ap₂, ◌∙◌, subst}
 use mathlib.Core.Bool.{Bool, true, cond}
 use Prim.Native.Nat.{ℕ, ◌+◌}
 use native.Mathlib.Omega.{arith}
-use borrow.Author.Tests.{eq-eqb, ne_eqb}
 use Rattle.records.specs.Records.{records}
 use Rattle.records.proofs.Records.{length_records, length_list}
 use Rattle.steps.specs.Steps.{meaning}
@@ -56,16 +55,16 @@ loop-place-preserved g c =
     let p = c.loop-place in
     let q = c.step.new.self in
     let x = c.step_at-x.result in
-    let on : c.if-x-eq5.pending ≡ pend_record p.pending x =
-    elim c.if-x-eq5.branch [
-      | goal.then-x-eq5 w ↦ w.pending-is ∙ w.pended-pending.ensures ∙ sym (ap (λ (b : Bool). cond b (pend_step p.pending (meaning x)) p.pending) (eq-eqb x.op 5 w.if-x-eq5.true))
-      | goal.else-x-eq5 w ↦ w.pending-is ∙ sym (ap (λ (b : Bool). cond b (pend_step p.pending (meaning x)) p.pending) (ne_eqb x.op 5 w.if-x-eq5.false))
+    let on : c.if-is_letter.pending ≡ pend_record p.pending x =
+    elim c.if-is_letter.branch [
+      | goal.then-is_letter w ↦ w.pending-is ∙ w.pended-pending.ensures ∙ sym (ap (λ (b : Bool). cond b (pend_step p.pending (meaning x)) p.pending) (sym c.is_letter.ensures ∙ w.if-is_letter.true))
+      | goal.else-is_letter w ↦ w.pending-is ∙ sym (ap (λ (b : Bool). cond b (pend_step p.pending (meaning x)) p.pending) (sym c.is_letter.ensures ∙ w.if-is_letter.false))
     ] in (
-      subst (RunningBy K.codec (K.step s.n s.cap) pend_record s.count _ s.buffer.now (p.place + 1) q.buffer.now c.if-x-eq5.pending q.count) (sym c.max-peak.ensures)
+      subst (RunningBy K.codec (K.step s.n s.cap) pend_record s.count _ s.buffer.now (p.place + 1) q.buffer.now c.if-is_letter.pending q.count) (sym c.max-peak.ensures)
           (running_more K.codec (K.step s.n s.cap) pend_record s.count _ s.buffer.now p.place p.self.buffer.now p.pending p.self.count p.peak i.0 x
           (steps_on c.args.script.now p.place x c.step_at-x.ensures c.loop-place-test.true) q.count q.buffer.now
           (ap₂ (λ (n cap : ℕ). K.step n cap x (records K.codec p.self.count p.self.buffer.now)) (sym i.2) (sym i.3) ∙ c.in_default.ensures.done)
-          c.step.ensures.length c.if-x-eq5.pending on),
+          c.step.ensures.length c.if-is_letter.pending on),
       c.step.ensures.same_reference ∙ i.1,
       c.step.ensures.variables ∙ i.2,
       c.step.ensures.capacity ∙ i.3,

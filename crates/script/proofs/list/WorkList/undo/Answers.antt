@@ -22,6 +22,7 @@ loop-v-init g c =
       λ i. s.buffer.ghost_name,
       λ i. s.n,
       λ i. s.count,
+      λ i. s.cap,
       λ i. length s.buffer.now,
       back_none K.on_cube K.fine g.met.K.Runnable.on_same c.args.pending s.n _ (carries_all K.codec (K.fine s.n) (λ a. K.fine s.n a ≡ true) s.n s.count s.cap s.buffer.now s.ready),
     )
@@ -40,8 +41,9 @@ loop-v-preserved g c =
       e.same_reference ∙ i.0,
       e.variables ∙ i.1,
       e.count ∙ i.2,
-      e.length ∙ i.3,
-      back_more K.on_cube K.fine g.met.K.Runnable.on_same g.met.K.Runnable.on_twice c.loop-v.v c.args.pending _ _ _ i.4 e.undone
+      e.capacity ∙ i.3,
+      e.length ∙ i.4,
+      back_more K.on_cube K.fine g.met.K.Runnable.on_same g.met.K.Runnable.on_twice c.loop-v.v c.args.pending _ _ _ i.5 e.undone
           ∙ ap (λ (v : ℕ). map (K.on_cube (restored v c.args.pending)) (records K.codec c.args.self.now.count c.args.self.now.buffer.now)) (sym (add-one c.loop-v.v)),
     )
 
@@ -52,4 +54,4 @@ returns-clause-bytes g c =
     let s = c.args.self.now in
     let all : c.loop-v.v ≡ c.args.variables = omega (arith, c.loop-v-test.false) in
     c.loop-v.self.ready.held
-    ∙ ap₂ (image K.codec) i.3 (i.4 ∙ ap (λ (v : ℕ). map (K.on_cube (restored v c.args.pending)) (records K.codec s.count s.buffer.now)) all)
+    ∙ ap₂ (image K.codec) i.4 (i.5 ∙ ap (λ (v : ℕ). map (K.on_cube (restored v c.args.pending)) (records K.codec s.count s.buffer.now)) all)
