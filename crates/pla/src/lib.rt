@@ -9,7 +9,8 @@ use shared::Shared;
 
 /// What the lines of a text have said so far: the number of inputs, of outputs and of products, each UNSAID until it is said; whether the type is; at which line the number of
 /// products was stated; and how many products there were.
-// Stays: a number that no line can say, in place of an Option: `names::named` and `product::lacking`, which the documents name, answer for every header.
+// Stays: a number that no line can say, in place of an Option: `unsaid`, `nothing_said` and `inputs_said` and its like (specs), over which the theorems of
+// text_promises stand, have it so for every header.
 #[derive(Clone, Copy, Debug, PartialEq, Eq)]
 pub struct Header {
     pub inputs: usize,
@@ -21,7 +22,7 @@ pub struct Header {
 }
 
 /// What a line says: something to know, or nothing; a product; or that the text ends.
-#[derive(Clone, Copy)]
+#[derive(Clone, Copy, Debug, PartialEq, Eq)]
 pub enum Line {
     Knows(Header),
     Has(Header, Shared),

@@ -39,7 +39,7 @@ fn mark(b: u32) -> u8
 }
 
 /// The characters of the outputs below m, output 0 first.
-// Stays: a loop like that of `put_cube`; one over a closure would be no shorter than the two.
+// Stays: a loop of one call, like that of `put_cube`; one call for both would take a closure for the character and a contract over it, longer than the two.
 fn put_outputs(out: &mut [u8], at: usize, m: u32, outputs: u32) -> usize
     ensures { Laid out.old at (outputs_text m outputs) result out.new }
 {

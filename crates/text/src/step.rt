@@ -42,6 +42,7 @@ pub fn put_field(out: &mut [u8], at: usize, used: bool, lead: &[u8], x: usize) -
 }
 
 /// A step at a place of a buffer, and the next place.
+// Stays: numbers for operations, those of a record's bytes; which fields each uses is said of them by `uses_v` and its like (specs of script).
 pub fn put_step(out: &mut [u8], at: usize, x: StepRecord) -> usize
     ensures { Laid out.old at (step_text (meaning x)) result out.new }
 {
@@ -109,6 +110,7 @@ fn uses_j(op: u8) -> bool
 }
 
 /// The fields of an operation at a place of a text.
+// Stays: a number for an operation, whose word stood in the text; the record with its fields is only made here.
 #[tactic(auto, unfolding(crate::specs::Reading::fields_at))]
 fn fields_at(text: &[u8], at: usize, op: u8) -> Result<Read<StepRecord>, WrongAt>
     ensures { result ≡ fields_at op text.now at }
