@@ -16,6 +16,7 @@ use trees::WrittenTree;
 use writer::Written;
 
 /// A value as a row shows it.
+// Stays: a trait beside `Display`, which types of other crates can't be given here.
 pub trait Shown {
     ghost text: { Self → List ℕ };
 

@@ -1,6 +1,9 @@
 //! What a call leaves in the buffers that it was lent.
+ghost use Rattle.std.specs.Prelude.{◌≤◌, ◌↔◌, IsTrue, length};
+
 use cube::{Cube, list};
 use std::fmt;
+use text::cubes;
 
 /// Bytes of a buffer that is shown whole; of a longer one the last ones are.
 const MOST_SHOWN: usize = 257;
@@ -8,7 +11,9 @@ const MOST_SHOWN: usize = 257;
 const LAST_SHOWN: usize = 26;
 
 /// Whether a buffer is shown whole.
-pub fn is_whole(bytes: &[u8]) -> bool {
+pub fn is_whole(bytes: &[u8]) -> bool
+    ensures { IsTrue result ↔ (length bytes.now ≤ 257) }
+{
     bytes.len() <= MOST_SHOWN
 }
 
@@ -35,7 +40,7 @@ impl fmt::Display for Bytes<'_> {
 }
 
 /// A cube over n variables: a character for each, variable 0 first; nothing where a cube has not so many.
-#[derive(Clone, Copy)]
+#[derive(Clone, Copy, Debug)]
 pub struct Spelt {
     pub n: usize,
     pub cube: Cube,
@@ -46,14 +51,10 @@ impl fmt::Display for Spelt {
         if list::MOST_VARIABLES < self.n {
             return Ok(());
         }
-        for v in 0..self.n as u32 {
-            f.write_str(match self.cube.code_at(v) {
-                0 => "0",
-                1 => "1",
-                _ => "-",
-            })?;
-        }
-        Ok(())
+        let mut characters = [0; list::MOST_VARIABLES];
+        let end = cubes::put_cube(&mut characters, 0, self.n as u32, self.cube);
+        let spelt = characters.get(..end).unwrap_or(&[]);
+        f.write_str(str::from_utf8(spelt).unwrap_or(""))
     }
 }
 

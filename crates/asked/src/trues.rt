@@ -8,6 +8,7 @@ use text_files::at_most_32;
 /// Characters of a cube and its newline, at most.
 const LINE_BYTES: usize = cube::list::MOST_VARIABLES + 1;
 
+// Stays: a lent buffer and where its text ends; `text` lays a cube so.
 /// A place and its product, on a line.
 fn product(rt: &impl Print, n: usize, place: usize, c: Cube) {
     let _ = print!(rt; "{place} ");

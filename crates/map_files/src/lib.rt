@@ -68,9 +68,8 @@ pub fn settle_named<R: Files + AllocGlobal + Print>(
 }
 
 /// The program: the line of standard input, `map.cub` and `map.scr`.
-pub fn run<R: Files + AllocGlobal + Print + Input>(rt: &R) {
-    match line::read(rt, line::VARIABLE_BYTES) {
-        Ok(line) => settle_named(rt, &line, b"map.cub", b"map.scr"),
-        Err(_) => print::line(rt, Told::OutOfMemory),
-    }
+pub fn run<R: Files + AllocGlobal + Print>(rt: &R) {
+    let mut first = [0; line::VARIABLE_BYTES];
+    let count = line::read(&mut first);
+    settle_named(rt, &first[..count], b"map.cub", b"map.scr");
 }

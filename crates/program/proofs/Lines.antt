@@ -3,7 +3,7 @@
 use mathlib.Core.Path.{◌≡◌, refl, sym, subst, ap, ◌∙◌}
 use mathlib.Core.Bool.{Bool, true, false, cond, ◌&&◌}
 use mathlib.Core.List.{List, [], ◌∷◌, append-nil}
-use Rattle.std.proofs.Common.{Option, Some, None, Result, Ok, Err}
+use Rattle.std.proofs.Common.{Option, Some, None, Ok, Err}
 use Prim.Native.Nat.{ℕ, suc, ◌+◌, ◌*◌, ◌-◌, ◌≤◌, ◌<◌}
 use native.Mathlib.Omega.{arith}
 use lib.Dec.{leb, eqb}
@@ -14,7 +14,7 @@ use Rattle.cube.specs.Lists.{most_variables}
 use Rattle.text.specs.declared.Read.{Read}
 use Rattle.text.specs.declared.WrongAt.{WrongAt}
 use Rattle.text.specs.Numbers.{is_digit, decimal}
-use Rattle.text.specs.Reading.{Reading, read_to, wrong_at, digits_from, number_in}
+use Rattle.text.specs.Reading.{Reading, digits_from, number_in}
 use Rattle.text.proofs.ReadBack.{number_back}
 use Rattle.program.specs.Lines.{all_digits, decimal_after, decimal_of, line_number, variables_line}
 

@@ -1,10 +1,10 @@
 //! Lines of standard input, and the number of a line of digits.
 ghost use Rattle.std.specs.Prelude.{◌≡◌, ◌≤◌, IfOk, vec_len};
+ghost use Rattle.io.specs.Counts.{IsPrefixLen};
 ghost use Rattle.program.specs.Lines.{line_number, variables_line};
 
 use std::alloc::AllocError;
-use std::io;
-use std::io::{BufRead, Read};
+use std::io::{BufRead, ErrorKind, Read};
 use text::number;
 
 /// The digits of the line that gives the number of variables, at most.
@@ -13,13 +13,40 @@ const VARIABLE_DIGITS: usize = 2;
 /// Bytes of that line that are read: one more than its digits, by which it is too long.
 pub const VARIABLE_BYTES: usize = VARIABLE_DIGITS + 1;
 
-/// Reads a line, and nothing after it, as far as it is taken; its newline is left out. It ends too where the input ends or can't be read.
-pub fn read<R: Input + AllocGlobal>(rt: &R, most: usize) -> Result<Vec<u8>, AllocError>
+/// The number of standard input.
+const STANDARD_INPUT: i32 = 0;
+
+/// The next byte of the line; none at its newline, or where the input ends or can't be read.
+fn next_byte() -> Option<u8> {
+    let mut byte = [0u8; 1];
+    let count = io::read_full(STANDARD_INPUT, &mut byte);
+    if count == 0 || byte[0] == b'\n' {
+        return None;
+    }
+    Some(byte[0])
+}
+
+/// Reads a line, and nothing after it, to the front of a buffer, as far as that goes. Answers how many bytes it has, its newline left out. It ends too where the input ends
+/// or can't be read.
+pub fn read(line: &mut [u8]) -> usize
+    ensures { IsPrefixLen result line.new }
+{
+    for k in 0..line.len() {
+        match next_byte() {
+            Some(byte) => line[k] = byte,
+            None => return k,
+        }
+    }
+    line.len()
+}
+
+/// The same, as a vector of at most so many bytes.
+pub fn read_line<R: Input + AllocGlobal>(rt: &R, most: usize) -> Result<Vec<u8>, AllocError>
     ensures { IfOk result (λ line. vec_len line ≤ most) }
 {
     let mut line = Vec::new(rt.alloc());
     if let Err(error) = rt.reader().take(most as u64).read_until(b'\n', &mut line) {
-        if error.kind() == io::ErrorKind::OutOfMemory {
+        if error.kind() == ErrorKind::OutOfMemory {
             return Err(AllocError);
         }
     }

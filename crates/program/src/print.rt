@@ -20,6 +20,7 @@ pub fn line<T: Display + Drop>(rt: &impl Print, said: T) {
     let _ = rt.println(said);
 }
 
+// Stays: a lent buffer and where its text ends; `text` lays a cube so, and its contract says which bytes.
 /// A cube and its newline at the front of a line, which has room for them, and how long they are.
 fn spell(n: usize, c: Cube, line: &mut [u8]) -> usize
     requires { (n ≤ most_variables) × (n < length line.old) }

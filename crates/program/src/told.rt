@@ -18,8 +18,8 @@ impl fmt::Display for Told {
         match self {
             Told::NoFile => write!(f, "no file"),
             Told::OutOfMemory => write!(f, "out of memory"),
-            Told::Refused(r) => write!(f, "refused {} at {}", r.number, r.place),
-            Told::InBit(r, bit) => write!(f, "refused {} at {} in bit {bit}", r.number, r.place),
+            Told::Refused(refusal) => write!(f, "{refusal}"),
+            Told::InBit(refusal, bit) => write!(f, "{refusal} in bit {bit}"),
         }
     }
 }

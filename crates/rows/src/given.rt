@@ -2,7 +2,7 @@
 use crate::head::Head;
 
 /// The numbers of a row and its parts.
-#[derive(Drop)]
+#[derive(Debug, Drop)]
 pub struct Given {
     pub head: Head,
     pub first: Vec<u8>,

@@ -1,4 +1,6 @@
 //! A row that is read from its front on, and why it has no answer.
+ghost use Rattle.std.specs.Prelude.{◌≡◌, ◌+◌, ◌↔◌, IsOk, IsTrue, length};
+
 use std::alloc::AllocError;
 use std::io;
 use std::str::FromStr;
@@ -30,7 +32,10 @@ pub struct Reader<'a> {
 }
 
 impl<'a> Reader<'a> {
-    pub fn new(row: &'a [u8]) -> Reader<'a> {
+    /// A row of which nothing is read yet.
+    pub fn new(row: &'a [u8]) -> Reader<'a>
+        ensures { length result.rest.now ≡ result.length }
+    {
         Reader {
             rest: row,
             length: row.len(),
@@ -48,7 +53,9 @@ impl<'a> Reader<'a> {
     }
 
     /// Takes a word where it stands here, and says whether it does.
-    pub fn skip(&mut self, word: &[u8]) -> bool {
+    pub fn skip(&mut self, word: &[u8]) -> bool
+        ensures { IsTrue result → length self.new.rest.now + length word.now ≡ length self.old.rest.now }
+    {
         match self.rest.strip_prefix(word) {
             Some(rest) => {
                 self.rest = rest;
@@ -96,7 +103,9 @@ impl<'a> Reader<'a> {
     }
 
     /// Whether the row is read to its end.
-    pub fn end(&self) -> Result<(), RowError> {
+    pub fn end(&self) -> Result<(), RowError>
+        ensures { IsOk result ↔ (length self.now.rest.now ≡ 0) }
+    {
         if self.rest.is_empty() {
             return Ok(());
         }

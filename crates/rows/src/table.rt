@@ -36,16 +36,28 @@ fn table_of<R: Input + AllocGlobal>(rt: &R) -> Result<Vec<u8>, AllocError> {
     }
 }
 
+/// What of a row's answer ends the program: that there is no memory.
+fn going_on(answered: io::Result<()>) -> io::Result<()> {
+    match answered {
+        Err(error) if error.kind() == ErrorKind::OutOfMemory => Err(error),
+        // A row that can't be written is passed over: whoever reads the table compares it.
+        _ => Ok(()),
+    }
+}
+
 /// All rows of standard input. The last may lack its newline.
 pub fn answer_all<C: Answers, R: Input + Print + AllocGlobal>(rt: &R) -> io::Result<()> {
     let table = table_of(rt)?;
     let mut out = BufWriter::new(rt.alloc(), io::writer(rt))?;
     if table.len() as u64 == TABLE_BYTES {
-        writeln!(out, "the table is too long")?;
-        return out.flush();
+        going_on(writeln!(out, "the table is too long"))?;
+    } else {
+        for row in table.split_inclusive(|b| *b == b'\n') {
+            let row = row.strip_suffix(b"\n").unwrap_or(row);
+            going_on(answer_row::<C, _>(&mut out, rt.alloc(), row))?;
+        }
     }
-    for row in table.split_inclusive(|b| *b == b'\n') {
-        answer_row::<C, _>(&mut out, rt.alloc(), row.strip_suffix(b"\n").unwrap_or(row))?;
-    }
-    out.flush()
+    // What can't be written is passed over here too.
+    let _ = out.flush();
+    Ok(())
 }

@@ -15,6 +15,7 @@ use std::rt::Files;
 /// Bytes of a path, at most.
 const PATH_BYTES: usize = 64;
 
+// Stays: a lent buffer and where its text ends; docs/CONTRACTS.md names `lay_path` and `put_path`.
 /// The path of a bit's file, laid to the front of a buffer, and its end.
 fn lay_path(folder: &[u8], k: usize, ending: &[u8], path: &mut [u8]) -> usize
     ensures { Laid path.old 0 (bit_path folder.now k ending.now) result path.new }

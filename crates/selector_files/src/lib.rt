@@ -114,11 +114,10 @@ pub fn selector_named<R: Files + AllocGlobal + Print>(
 
 /// The program: two lines of standard input, of which the second may be empty or missing, and the files of the folder that it is run in. A first line that is longer
 /// than what is read of it is refused, whatever is read as the second.
-pub fn run<R: Files + AllocGlobal + Print + Input>(rt: &R) {
-    let first = line::read(rt, line::VARIABLE_BYTES);
-    let second = line::read(rt, label::LABEL_BYTES);
-    match (first, second) {
-        (Ok(line), Ok(label)) => selector_named(rt, &line, &label, b""),
-        _ => printed::line(rt, Told::OutOfMemory),
-    }
+pub fn run<R: Files + AllocGlobal + Print>(rt: &R) {
+    let mut first = [0; line::VARIABLE_BYTES];
+    let count = line::read(&mut first);
+    let mut second = [0; label::LABEL_BYTES];
+    let digits = line::read(&mut second);
+    selector_named(rt, &first[..count], &second[..digits], b"");
 }

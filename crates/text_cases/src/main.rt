@@ -32,7 +32,7 @@ fn with_row<R: Files + AllocGlobal + Print>(rt: &R, row: &[u8]) -> Result<(), Al
 /// The rows up to the first that has no character.
 fn main(rt: HostRuntime) -> Result<(), AllocError> {
     for _ in 0..MOST_ROWS {
-        let row = line::read(&rt, ROW_BYTES)?;
+        let row = line::read_line(&rt, ROW_BYTES)?;
         if row.is_empty() {
             break;
         }

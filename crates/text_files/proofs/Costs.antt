@@ -1,18 +1,18 @@
 -- The cost of a list by what it counts.
 -- Assumes nothing.
-use mathlib.Core.Path.{◌≡◌, sym, ap, ◌∙◌}
+use mathlib.Core.Path.{◌≡◌, ap, ◌∙◌}
 use mathlib.Core.Bool.{Bool, true, false}
 use mathlib.Core.List.{List}
-use Prim.Native.Nat.{ℕ, ◌-◌, ◌*◌, ◌/◌, ◌≤◌, ◌<◌}
+use Prim.Native.Nat.{ℕ, ◌-◌, ◌/◌, ◌≤◌, ◌<◌}
 use native.Mathlib.Omega.{arith}
 use lib.ListN.{length}
 use Rattle.bits.specs.Sums.{one_if}
 use Rattle.records.proofs.Records.{length_list}
 use Rattle.cube.specs.declared.Cube.{Cube}
-use Rattle.cube.specs.Lists.{record_width, cubes, cubes_of, most_records}
+use Rattle.cube.specs.Lists.{cubes, cubes_of, most_records}
 use Rattle.polarity.specs.declared.Counts.{Counts}
 use Rattle.polarity.specs.Ranks.{counts_of}
-use Rattle.polarity.specs.Cost.{cost, some_bare}
+use Rattle.polarity.specs.Cost.{cost}
 
 -- how many records a list's bytes are
 pub few : (b : List ℕ) → length b / 8 ≤ 4096 → length (cubes_of b) ≤ most_records

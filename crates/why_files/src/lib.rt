@@ -17,6 +17,7 @@ const PLACES_BYTES: usize = place::PLACE_WIDTH * cube::list::MOST_RECORDS;
 /// A place's digits, at most five of a number of two bytes, and its newline.
 const LINE_BYTES: usize = 6;
 
+// Stays: a lent buffer and where its text ends; docs/CONTRACTS.md names `spell`.
 /// A place in decimal and its newline at the front of a line, which has room for them, and how long they are.
 fn spell(place: u16, line: &mut [u8]) -> usize
     requires { length (decimal place) < length line.old }
@@ -76,11 +77,10 @@ pub fn why_named<R: Files + AllocGlobal + Print>(
 }
 
 /// The program: two lines of standard input, and `map.cub`. A first line that is longer than what is read of it is refused, whatever is read as the second.
-pub fn run<R: Files + AllocGlobal + Print + Input>(rt: &R) {
-    let first = line::read(rt, line::VARIABLE_BYTES);
-    let second = line::read(rt, label::LABEL_BYTES);
-    match (first, second) {
-        (Ok(line), Ok(label)) => why_named(rt, &line, &label, b"map.cub"),
-        _ => print::line(rt, Told::OutOfMemory),
-    }
+pub fn run<R: Files + AllocGlobal + Print>(rt: &R) {
+    let mut first = [0; line::VARIABLE_BYTES];
+    let count = line::read(&mut first);
+    let mut second = [0; label::LABEL_BYTES];
+    let digits = line::read(&mut second);
+    why_named(rt, &first[..count], &second[..digits], b"map.cub");
 }
