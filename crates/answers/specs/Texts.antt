@@ -1,10 +1,9 @@
 -- What a row shows of an answer.
 -- Assumes nothing.
-use Rattle.std.specs.Prelude.{ℕ, Bool, true, false, List, ◌++◌, Result, Ok, Err, codes}
+use Rattle.std.specs.Prelude.{ℕ, Bool, true, false, List, ◌++◌, Option, Some, None, Result, Ok, Err, codes}
 use Rattle.std.specs.Fmt.{decimal}
 use Rattle.records.specs.declared.Refusal.{Refusal}
-use Rattle.settling.specs.declared.Fixed.{Fixed}
-use Rattle.settling.specs.declared.Fixed.TheVariants.{Polarity, Absent}
+use Rattle.polarity.specs.declared.BestPolarity.{BestPolarity}
 use Rattle.settling.specs.declared.Settlement.{Settlement}
 
 -- a refusal: its number, its place and its third answer
@@ -33,9 +32,9 @@ abbrev pub counts_text : ℕ → ℕ → ℕ → List ℕ
 counts_text given peak script = codes "given " ++ decimal given ++ codes " peak " ++ decimal peak ++ codes " script " ++ decimal script
 
 -- the best polarity and its size, a stroke for each where there is none
-abbrev pub fixed_text : Fixed → List ℕ
-fixed_text (Polarity p size) = two p size
-fixed_text Absent = codes "- -"
+abbrev pub fixed_text : Option BestPolarity → List ℕ
+fixed_text (Some best) = two best.polarity best.products
+fixed_text None = codes "- -"
 
 abbrev pub settlement_text : Settlement → List ℕ
 settlement_text s = counts_text s.given s.peak s.script ++ codes " fixed " ++ fixed_text s.fixed ++ codes " burned " ++ decimal s.burned

@@ -9,7 +9,7 @@ use polarity::BestPolarity;
 use reasons::TrueProducts;
 use records::Refusal;
 use script::Peaked;
-use settling::{Fixed, Settlement};
+use settling::Settlement;
 use shared_run::SharedSettlement;
 use std::fmt;
 use trees::WrittenTree;
@@ -139,7 +139,7 @@ impl Shown for WrittenKronecker {
 /// The best polarity and its size, with a stroke for each where there is none.
 #[derive(Clone, Copy)]
 struct BestForm {
-    fixed: Fixed,
+    fixed: Option<BestPolarity>,
 }
 
 impl fmt::Display for BestForm {
@@ -147,8 +147,8 @@ impl fmt::Display for BestForm {
 
     fn fmt<W: fmt::Write>(&self, f: &mut fmt::Formatter<W>) -> fmt::Result {
         match self.fixed {
-            Fixed::Polarity(polarity, size) => write!(f, "{polarity} {size}"),
-            Fixed::Absent => f.write_str("- -"),
+            Some(best) => best.show(f),
+            None => f.write_str("- -"),
         }
     }
 }

@@ -2,11 +2,10 @@
 #![tactic(auto)]
 
 use cksum::checksum;
-use std::io;
 
-fn main(rt: HostRuntime) -> io::Result<()> {
+fn main(rt: HostRuntime) {
     for text in [b"".as_slice(), b"a", b"123456789", &[0; 300]] {
-        println!(rt; "{}", checksum(text))?;
+        // A line that can't be written is passed over: whoever reads the lines compares them.
+        let _ = println!(rt; "{}", checksum(text));
     }
-    Ok(())
 }

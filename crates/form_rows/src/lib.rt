@@ -1,8 +1,8 @@
 //! The rows whose calls take a vector or coefficients: the call made, and what it answers and leaves written.
 #![tactic(auto)]
 
-use answers::answer::Answer;
-use answers::left::{Bytes, Left};
+use answers::left::Left;
+use answers::row;
 use kronecker::choice;
 use polarity::{choose, form, transform, vector};
 use rows::call::BitsCall;
@@ -11,44 +11,16 @@ use std::io;
 use std::io::Write;
 use trees::tree;
 
-fn test<W: Write>(out: &mut W, n: usize, bits: &[u8]) -> io::Result<()> {
-    let result = vector::check_vector(n, bits);
-    write!(out, "{}", Answer { result })
-}
-
-fn best<W: Write>(out: &mut W, n: usize, bits: &[u8]) -> io::Result<()> {
-    let result = choose::best_polarity(n, bits);
-    write!(out, "{}", Answer { result })
-}
-
-fn tree<W: Write>(out: &mut W, n: usize, bits: &[u8], lent: &mut [u8]) -> io::Result<()> {
-    let result = tree::write_tree(n, bits, lent);
+fn tree<W: Write>(out: &mut W, n: usize, bits: &[u8], bytes: &mut [u8]) -> io::Result<()> {
+    let result = tree::write_tree(n, bits, bytes);
     let count = result.ok().map(|tree| tree.products);
-    write!(
-        out,
-        "{}{}",
-        Answer { result },
-        Left {
-            n,
-            count,
-            bytes: lent
-        }
-    )
+    row::with_cubes(out, result, Left { n, count, bytes })
 }
 
-fn kronecker<W: Write>(out: &mut W, n: usize, bits: &[u8], lent: &mut [u8]) -> io::Result<()> {
-    let result = choice::write_kronecker(n, bits, lent);
+fn kronecker<W: Write>(out: &mut W, n: usize, bits: &[u8], bytes: &mut [u8]) -> io::Result<()> {
+    let result = choice::write_kronecker(n, bits, bytes);
     let count = result.ok().map(|list| list.products);
-    write!(
-        out,
-        "{}{}",
-        Answer { result },
-        Left {
-            n,
-            count,
-            bytes: lent
-        }
-    )
+    row::with_cubes(out, result, Left { n, count, bytes })
 }
 
 fn form<W: Write>(
@@ -56,42 +28,11 @@ fn form<W: Write>(
     n: usize,
     bits: &[u8],
     polarity: u64,
-    lent: &mut [u8],
+    bytes: &mut [u8],
 ) -> io::Result<()> {
-    let result = form::write_form(n, bits, polarity, lent);
+    let result = form::write_form(n, bits, polarity, bytes);
     let count = result.ok();
-    write!(
-        out,
-        "{}{}",
-        Answer { result },
-        Left {
-            n,
-            count,
-            bytes: lent
-        }
-    )
-}
-
-fn coefficients<W: Write>(
-    out: &mut W,
-    n: usize,
-    bits: &[u8],
-    polarity: u64,
-    lent: &mut [u8],
-) -> io::Result<()> {
-    let result = transform::coefficients(n, bits, polarity, lent);
-    write!(out, "{}{}", Answer { result }, Bytes { bytes: lent })
-}
-
-fn back<W: Write>(
-    out: &mut W,
-    n: usize,
-    bits: &[u8],
-    polarity: u64,
-    lent: &mut [u8],
-) -> io::Result<()> {
-    let result = transform::vector_back(n, bits, polarity, lent);
-    write!(out, "{}{}", Answer { result }, Bytes { bytes: lent })
+    row::with_cubes(out, result, Left { n, count, bytes })
 }
 
 /// A call on a vector or on coefficients, in a lent buffer.
@@ -105,11 +46,17 @@ pub fn on_bits<W: Write>(
     let bits = given.first.as_slice();
     let polarity = given.head.given as u64;
     match call {
-        BitsCall::Test => test(out, n, bits),
-        BitsCall::Best => best(out, n, bits),
+        BitsCall::Test => row::answer(out, vector::check_vector(n, bits)),
+        BitsCall::Best => row::answer(out, choose::best_polarity(n, bits)),
         BitsCall::Form => form(out, n, bits, polarity, lent),
-        BitsCall::Coefficients => coefficients(out, n, bits, polarity, lent),
-        BitsCall::Back => back(out, n, bits, polarity, lent),
+        BitsCall::Coefficients => {
+            let result = transform::coefficients(n, bits, polarity, lent);
+            row::with_bytes(out, result, lent)
+        }
+        BitsCall::Back => {
+            let result = transform::vector_back(n, bits, polarity, lent);
+            row::with_bytes(out, result, lent)
+        }
         BitsCall::Tree => tree(out, n, bits, lent),
         BitsCall::Kronecker => kronecker(out, n, bits, lent),
     }

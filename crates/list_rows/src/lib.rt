@@ -4,8 +4,8 @@
 mod starts;
 pub mod with_index;
 
-use answers::answer::Answer;
 use answers::left::{Bytes, Left};
+use answers::row;
 use compactor::compact;
 use converters::{narrow_from_wide, wide_from_narrow};
 use cube::{list, value};
@@ -16,51 +16,16 @@ use std::io;
 use std::io::Write;
 use writer::write;
 
-fn check<W: Write>(out: &mut W, n: usize, list: &[u8]) -> io::Result<()> {
-    let result = list::check(n, list);
-    write!(out, "{}", Answer { result })
-}
-
-fn value<W: Write>(out: &mut W, n: usize, list: &[u8], a: u64) -> io::Result<()> {
-    let result = value::value(n, list, a);
-    write!(out, "{}", Answer { result })
-}
-
-fn reasons<W: Write>(
-    out: &mut W,
-    n: usize,
-    list: &[u8],
-    a: u64,
-    lent: &mut [u8],
-) -> io::Result<()> {
-    let result = reasons::reasons(n, list, a, lent);
-    write!(out, "{}{}", Answer { result }, Bytes { bytes: lent })
-}
-
-fn vector<W: Write>(out: &mut W, n: usize, list: &[u8], lent: &mut [u8]) -> io::Result<()> {
-    let result = value::truth_vector(n, list, lent);
-    write!(out, "{}{}", Answer { result }, Bytes { bytes: lent })
-}
-
 fn run<W: Write>(
     out: &mut W,
     n: usize,
     list: &[u8],
     script: &[u8],
-    lent: &mut [u8],
+    bytes: &mut [u8],
 ) -> io::Result<()> {
-    let result = run::run(n, list, script, lent);
+    let result = run::run(n, list, script, bytes);
     let count = result.ok().map(|ran| ran.count);
-    write!(
-        out,
-        "{}{}",
-        Answer { result },
-        Left {
-            n,
-            count,
-            bytes: lent
-        }
-    )
+    row::with_cubes(out, result, Left { n, count, bytes })
 }
 
 fn write<W: Write>(
@@ -71,44 +36,14 @@ fn write<W: Write>(
     script: &mut [u8],
 ) -> io::Result<()> {
     let result = write::write_script(n, list, work, script);
-    let answer = Answer { result };
-    write!(
-        out,
-        "{answer}{}{}",
-        Bytes { bytes: work },
-        Bytes { bytes: script }
-    )
+    row::with_bytes(out, result, work)?;
+    write!(out, "{}", Bytes { bytes: script })
 }
 
-fn compact<W: Write>(
-    out: &mut W,
-    n: usize,
-    count: usize,
-    script: &[u8],
-    lent: &mut [u8],
-) -> io::Result<()> {
-    let result = compact::compact(n, count, script, lent);
-    write!(out, "{}{}", Answer { result }, Bytes { bytes: lent })
-}
-
-fn wide<W: Write>(out: &mut W, n: usize, list: &[u8], lent: &mut [u8]) -> io::Result<()> {
-    let result = wide_from_narrow::wide_from_narrow(n, list, lent);
+fn wide<W: Write>(out: &mut W, n: usize, list: &[u8], bytes: &mut [u8]) -> io::Result<()> {
+    let result = wide_from_narrow::wide_from_narrow(n, list, bytes);
     let count = result.ok();
-    write!(
-        out,
-        "{}{}",
-        Answer { result },
-        Left {
-            n,
-            count,
-            bytes: lent
-        }
-    )
-}
-
-fn narrow<W: Write>(out: &mut W, n: usize, list: &[u8], lent: &mut [u8]) -> io::Result<()> {
-    let result = narrow_from_wide::narrow_from_wide(n, list, lent);
-    write!(out, "{}{}", Answer { result }, Bytes { bytes: lent })
+    row::with_cubes(out, result, Left { n, count, bytes })
 }
 
 /// A call on a list or a script, in a lent buffer; the script of a write goes into a second one.
@@ -123,14 +58,26 @@ pub fn on_list<W: Write>(
     let number = given.head.given;
     let list = given.first.as_slice();
     match call {
-        ListCall::Check => check(out, n, list),
-        ListCall::Value => value(out, n, list, number as u64),
-        ListCall::Reasons => reasons(out, n, list, number as u64, lent),
-        ListCall::Vector => vector(out, n, list, lent),
+        ListCall::Check => row::answer(out, list::check(n, list)),
+        ListCall::Value => row::answer(out, value::value(n, list, number as u64)),
+        ListCall::Reasons => {
+            let result = reasons::reasons(n, list, number as u64, lent);
+            row::with_bytes(out, result, lent)
+        }
+        ListCall::Vector => {
+            let result = value::truth_vector(n, list, lent);
+            row::with_bytes(out, result, lent)
+        }
         ListCall::Run => run(out, n, list, given.second.as_slice(), lent),
         ListCall::Write => write(out, n, list, lent, second),
-        ListCall::Compact => compact(out, n, number, list, lent),
+        ListCall::Compact => {
+            let result = compact::compact(n, number, list, lent);
+            row::with_bytes(out, result, lent)
+        }
         ListCall::Wide => wide(out, n, list, lent),
-        ListCall::Narrow => narrow(out, n, list, lent),
+        ListCall::Narrow => {
+            let result = narrow_from_wide::narrow_from_wide(n, list, lent);
+            row::with_bytes(out, result, lent)
+        }
     }
 }

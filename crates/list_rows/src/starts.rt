@@ -14,6 +14,7 @@ fn number8_at(bytes: &[u8], p: usize) -> u64 {
 /// A start for each eight bytes; 0 for those that aren't there.
 pub(crate) fn starts_of(bytes: &[u8]) -> [u64; GROUPS] {
     let mut starts = [0; GROUPS];
+    // Stays: by places; the last eight bytes may lack some, and `chunks` gives no length that fits a number's.
     for m in 0..GROUPS {
         starts[m] = number8_at(bytes, 8 * m);
     }

@@ -1,7 +1,7 @@
 //! The rows whose calls make or take an index: the call made, and what it answers and leaves written.
 use crate::starts::{Starts, starts_of};
-use answers::answer::Answer;
 use answers::left::{Bytes, Left};
+use answers::row;
 use index::{build, group};
 use rows::call::IndexCall;
 use rows::given::Given;
@@ -10,15 +10,9 @@ use std::io::Write;
 
 fn index<W: Write>(out: &mut W, n: usize, list: &[u8], index: &mut [u8]) -> io::Result<()> {
     let made = build::build(n, list, index);
-    let result = made.answer;
+    row::with_bytes(out, made.answer, index)?;
     let starts = made.starts;
-    write!(
-        out,
-        "{}{}{}",
-        Answer { result },
-        Bytes { bytes: index },
-        Starts { starts }
-    )
+    write!(out, "{}", Starts { starts })
 }
 
 /// What the sibling answers, and the part that is handed back.
@@ -29,8 +23,7 @@ fn group<W: Write>(out: &mut W, given: &Given) -> io::Result<()> {
     let starts = starts_of(given.third.as_slice());
     let number = given.head.given;
     let result = group::group_count(n, list, index, starts, number);
-    let bytes = group::group(n, list, index, starts, number);
-    write!(out, "{}{}", Answer { result }, Bytes { bytes })
+    row::with_bytes(out, result, group::group(n, list, index, starts, number))
 }
 
 fn indexed<W: Write>(
@@ -40,25 +33,12 @@ fn indexed<W: Write>(
     index: &mut [u8],
 ) -> io::Result<()> {
     let n = given.head.n;
-    let ran = indexed::run_indexed(
-        n,
-        given.first.as_slice(),
-        given.second.as_slice(),
-        work,
-        index,
-    );
+    let list = given.first.as_slice();
+    let ran = indexed::run_indexed(n, list, given.second.as_slice(), work, index);
     let result = ran.answer;
     let count = result.ok().map(|done| done.count);
-    write!(
-        out,
-        "{}{}",
-        Answer { result },
-        Left {
-            n,
-            count,
-            bytes: work
-        }
-    )?;
+    let bytes = work;
+    row::with_cubes(out, result, Left { n, count, bytes })?;
     let starts = ran.starts;
     write!(out, "{}{}", Bytes { bytes: index }, Starts { starts })?;
     write!(out, " begun {}", u8::from(ran.begun))

@@ -1,5 +1,5 @@
 //! The line of counts that `settle` prints.
-use settling::{Fixed, Settlement};
+use settling::Settlement;
 use std::fmt;
 
 /// A settlement as its line of counts.
@@ -11,8 +11,8 @@ impl fmt::Display for Counts {
         let s = self.0;
         write!(f, "in {} peak {} script {}", s.given, s.peak, s.script)?;
         match s.fixed {
-            Fixed::Polarity(p, size) => write!(f, " fixed {p} {size}")?,
-            Fixed::Absent => write!(f, " fixed - -")?,
+            Some(best) => write!(f, " fixed {} {}", best.polarity, best.products)?,
+            None => write!(f, " fixed - -")?,
         }
         write!(f, " out {}", s.burned)
     }

@@ -56,6 +56,7 @@ fn all_read(reader: &Reader<'_>, head: Head) -> Result<(), RowError> {
 }
 
 /// The rows whose calls are those of `selector`.
+#[derive(Clone, Copy, Debug)]
 pub struct Maps;
 
 impl Answers for Maps {

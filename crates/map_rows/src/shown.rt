@@ -6,7 +6,7 @@ use selector::{MOST_LISTS, MapRefusal};
 use std::fmt;
 
 /// The number, or the refusal, with the list that is refused.
-#[derive(Clone, Copy)]
+#[derive(Clone, Copy, Debug)]
 pub(crate) struct Told {
     pub answer: Result<usize, MapRefusal>,
 }

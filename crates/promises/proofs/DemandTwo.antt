@@ -12,7 +12,7 @@ use borrow.Author.Tests.{le-leb, lt-leb}
 use lib.Bits.{bit_and}
 use lib.Dec.{eqb}
 use lib.ListN.{length, get_or}
-use Rattle.std.specs.Prelude.{Ok}
+use Rattle.std.specs.Prelude.{Some, None, Ok}
 use Rattle.bits.specs.Bits.{bit}
 use Rattle.bits.specs.Sums.{sum, one_if, All}
 use Rattle.bits.specs.Below.{LeastThen}
@@ -39,7 +39,6 @@ use Rattle.polarity.specs.Forms.{parity_within, coefficient, form_from, form_lis
 use Rattle.polarity.specs.Vectors.{byte_at, Vector, coefficient_vector, vector_back}
 use Rattle.polarity.proofs.Theorems as theorems
 use Rattle.polarity.proofs.Uniqueness as uniqueness
-use Rattle.settling.specs.declared.Fixed.TheVariants as fixed_is
 use Rattle.settling.specs.declared.Settlement.{Settlement}
 use Rattle.settling.specs.Candidates.{best_form, fixed_of}
 use Rattle.settling.specs.Calls.{settled}
@@ -254,11 +253,13 @@ module _ (n : ℕ) (list script work out : List ℕ) (s : Settlement) (work' out
 
   -- fixed: the best polarity of the given list's function, by its truth vector, and its size; none above 8 variables
   pub fixed_few : n ≤ vector_variables → s.fixed
-      ≡ fixed_is.Polarity (best_polarity n (byte_at (truth_vector n (cubes_of list))))
-      (size n (best_polarity n (byte_at (truth_vector n (cubes_of list)))) (byte_at (truth_vector n (cubes_of list))))
+      ≡ Some (record {
+        polarity = best_polarity n (byte_at (truth_vector n (cubes_of list)));
+        products = size n (best_polarity n (byte_at (truth_vector n (cubes_of list)))) (byte_at (truth_vector n (cubes_of list)));
+      })
   unfolding fixed_of best_form
   fixed_few h = ap (λ (t : Settlement). t.fixed) acc.is ∙ simp (le-leb n vector_variables h)
 
-  pub fixed_many : vector_variables < n → s.fixed ≡ fixed_is.Absent
+  pub fixed_many : vector_variables < n → s.fixed ≡ None
   unfolding fixed_of
   fixed_many h = ap (λ (t : Settlement). t.fixed) acc.is ∙ simp (lt-leb n vector_variables h)

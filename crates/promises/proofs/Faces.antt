@@ -6,11 +6,10 @@ use mathlib.Core.List.{List, [], ◌∷◌}
 use Prim.Native.Nat.{ℕ, ◌≤◌}
 use native.Mathlib.Omega.{arith}
 use lib.ListN.{get_or}
-use Rattle.std.specs.Prelude.{Ok}
+use Rattle.std.specs.Prelude.{Option, Some, None, Ok}
 use Rattle.records.specs.declared.Refusal.{Refusal}
 use Rattle.records.specs.Answers.{Outcome, accepted, refused}
-use Rattle.settling.specs.declared.Fixed.{Fixed}
-use Rattle.settling.specs.declared.Fixed.TheVariants as fixed_is
+use Rattle.polarity.specs.declared.BestPolarity.{BestPolarity}
 use Rattle.settling.specs.declared.Settlement.{Settlement}
 use Rattle.settling.specs.Calls.{settled}
 use Rattle.druthmoy.specs.Faces.{eight, words, settled_words, with_start}
@@ -78,11 +77,11 @@ module _ (c : Call) (answer : List ℕ) (buffers : List (List ℕ)) (F : Faced c
 
 -- ---- settle
 
-settled_counts : (s : Settlement) (f : Fixed) → s.fixed ≡ f
+settled_counts : (s : Settlement) (f : Option BestPolarity) → s.fixed ≡ f
     → settled_words (settled (Ok s)) ≡ 0 ∷ 0 ∷ s.given ∷ s.peak ∷ s.script ∷ polarity_word f ∷ size_word f ∷ s.burned ∷ []
 unfolding settled_words words
-settled_counts s (fixed_is.Polarity p size) e = rw e
-settled_counts s fixed_is.Absent e = rw e
+settled_counts s (Some best) e = rw e
+settled_counts s None e = rw e
 
 -- Where word 0 of `dm_settle` is 0, the map was settled: the words 2 to 7 are its counts, and the buffers are those of an accepted call, so that
 -- demand 3 holds of the list that the output buffer begins with.

@@ -1,6 +1,6 @@
 -- The call `settle`: what it answers, and what it leaves in its buffers. Document 01, "Settling" and "Refusal numbers and places".
 -- Assumes nothing.
-use Rattle.std.specs.Prelude.{ℕ, List, [], ◌∷◌, ◌++◌, leb, length, Result}
+use Rattle.std.specs.Prelude.{ℕ, List, [], ◌∷◌, ◌++◌, leb, length, Option, Some, None, Result}
 use Rattle.settling.specs.declared.Settlement.{Settlement}
 use Rattle.records.specs.declared.Refusal.{Refusal}
 use Rattle.records.specs.Records.{image, zeros}
@@ -8,10 +8,9 @@ use Rattle.records.specs.Answers.{Outcome, accepted, refused, unless, and_then, 
 use Rattle.cube.specs.declared.Cube.{Cube}
 use Rattle.cube.specs.Lists.{most_variables, cubes, cubes_of, cube_capacity}
 use Rattle.cube.specs.Calls.{check_list}
+use Rattle.polarity.specs.declared.BestPolarity.{BestPolarity}
 use Rattle.script.specs.Run.{Ran, stopped, ended}
 use Rattle.script.specs.Calls.{check_script, run_of, at_step}
-use Rattle.settling.specs.declared.Fixed.{Fixed}
-use Rattle.settling.specs.declared.Fixed.TheVariants as fixed_is
 use Rattle.settling.specs.Candidates.{burned_list, fixed_of}
 
 -- "Settle: the same; 5 tests work, then output, against the given count", before any step
@@ -23,9 +22,9 @@ check_settle n list script work out =
     (check_script n script)))
 
 -- the best polarity and its size; nothing above 8 variables
-abbrev pub fixed_values : Fixed → List ℕ
-fixed_values (fixed_is.Polarity p size) = p ∷ size ∷ []
-fixed_values fixed_is.Absent = []
+abbrev pub fixed_values : Option BestPolarity → List ℕ
+fixed_values (Some best) = best.polarity ∷ best.products ∷ []
+fixed_values None = []
 
 -- "The counts are: given, peak, script's result, best polarity and its size .., burned"
 abbrev pub ran_settled : ℕ → List Cube → Ran Cube → Outcome

@@ -1,14 +1,13 @@
 -- The candidates of a settled map, and the one that is burned. Document 01, "Settling"; document 02, Two and Six.
 -- Assumes nothing.
-use Rattle.std.specs.Prelude.{ℕ, zero, suc, cond, List, leb, length}
+use Rattle.std.specs.Prelude.{ℕ, zero, suc, cond, List, leb, length, Option, Some, None}
 use Rattle.cube.specs.declared.Cube.{Cube}
 use Rattle.cube.specs.Lists.{truth_vector, vector_variables}
+use Rattle.polarity.specs.declared.BestPolarity.{BestPolarity}
 use Rattle.polarity.specs.Cost.{cheaper}
 use Rattle.polarity.specs.Forms.{form_list, best_polarity}
 use Rattle.polarity.specs.Vectors.{byte_at}
 use Rattle.trees.specs.Least.{tree_list}
-use Rattle.settling.specs.declared.Fixed.{Fixed}
-use Rattle.settling.specs.declared.Fixed.TheVariants as fixed_is
 
 -- the best polarity of a list's function, and "the form of the best polarity"
 abbrev pub best_of : ℕ → List Cube → ℕ
@@ -41,5 +40,5 @@ abbrev pub candidate_count : ℕ → ℕ
 candidate_count n = cond (leb n vector_variables) 4 2
 
 -- "best polarity and its size", which there are for at most 8 variables
-unfoldable pub fixed_of : ℕ → List Cube → Fixed
-fixed_of n given = cond (leb n vector_variables) (fixed_is.Polarity (best_of n given) (length (best_form n given))) fixed_is.Absent
+unfoldable pub fixed_of : ℕ → List Cube → Option BestPolarity
+fixed_of n given = cond (leb n vector_variables) (Some (record { polarity = best_of n given; products = length (best_form n given) })) None

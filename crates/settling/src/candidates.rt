@@ -7,7 +7,7 @@ ghost use Rattle.settling.specs.Candidates.{burned_list};
 ghost use Rattle.settling.specs.Choice.{candidate_of, better_of, StandsFor, FormCounts, FormsAre, FormIs, Choosable};
 ghost use Rattle.records.specs.Answers.{Accepts};
 
-use crate::{BestForm, Candidate, Fixed, Forms, Origin};
+use crate::{BestForm, Candidate, Forms, Origin};
 use polarity::{BestPolarity, Counts, form};
 
 /// The better of two candidates: the later one where it ranks lower, else the earlier.
@@ -71,8 +71,13 @@ pub(crate) fn choose(n: usize, list: &[u8], res: &[u8], best: BestForm) -> Candi
     let fixed = best.fixed;
     let vector = best.vector;
     match fixed {
-        Fixed::Absent => two,
-        Fixed::Polarity(p, size) => {
+        None => two,
+        Some(
+            BestPolarity {
+                polarity: p,
+                products: size,
+            },
+        ) => {
             let form = candidate(count_form(vector, p, size), Origin::Form(p));
             let tree = candidate(best.tree, Origin::Tree);
             better(better(two, form), tree)
@@ -89,21 +94,8 @@ fn best_of(n: usize, list: &[u8], vector: &mut [u8]) -> Forms
 {
     let _ = cube::value::truth_vector(n, list, vector);
     let tree = trees::tree::count_tree(n, vector);
-    match polarity::choose::best_polarity(n, vector) {
-        Ok(
-            BestPolarity {
-                polarity: p,
-                products: size,
-            },
-        ) => Forms {
-            fixed: Fixed::Polarity(p, size),
-            tree,
-        },
-        Err(_) => Forms {
-            fixed: Fixed::Absent,
-            tree,
-        },
-    }
+    let fixed = polarity::choose::best_polarity(n, vector).ok();
+    Forms { fixed, tree }
 }
 
 /// The best polarity of the given list's function and what the tree's list counts, with the truth vector, where there are at most 8 variables.
@@ -114,7 +106,7 @@ pub(crate) fn best_form(n: usize, list: &[u8]) -> BestForm
     let mut vector = [0u8; 256];
     if cube::value::VECTOR_VARIABLES < n {
         return BestForm {
-            fixed: Fixed::Absent,
+            fixed: None,
             tree: Counts {
                 products: 0,
                 constant: false,

@@ -6,29 +6,22 @@ pub mod candidates;
 pub mod settle;
 mod tree;
 
-use polarity::Counts;
+use polarity::{BestPolarity, Counts};
 
-/// The best polarity and its size, for at most 8 variables.
-#[derive(Clone, Copy)]
-pub enum Fixed {
-    Polarity(usize, usize),
-    Absent,
-}
-
-/// What a settled map's counts are.
+/// What a settled map's counts are; the best polarity and its size for at most 8 variables.
 #[derive(Clone, Copy)]
 pub struct Settlement {
     pub given: usize,
     pub peak: usize,
     pub script: usize,
-    pub fixed: Fixed,
+    pub fixed: Option<BestPolarity>,
     pub burned: usize,
 }
 
-/// The fixed-polarity candidate, and how many products are burned.
+/// The best polarity and its size, for at most 8 variables, and how many products are burned.
 #[derive(Clone, Copy)]
 pub struct Burning {
-    pub fixed: Fixed,
+    pub fixed: Option<BestPolarity>,
     pub burned: usize,
 }
 
@@ -48,17 +41,17 @@ pub struct Candidate {
     pub origin: Origin,
 }
 
-/// Of a function: the best polarity and its size, and what the tree's list counts.
+/// Of a function: the best polarity and its size, where there is one, and what the tree's list counts.
 #[derive(Clone, Copy)]
 pub struct Forms {
-    pub fixed: Fixed,
+    pub fixed: Option<BestPolarity>,
     pub tree: Counts,
 }
 
-/// The best polarity and its size, and for at most 8 variables what the tree's list counts and the truth vector that both are of.
+/// The best polarity and its size, where there is one, and for at most 8 variables what the tree's list counts and the truth vector that both are of.
 #[derive(Clone, Copy)]
 pub struct BestForm {
-    pub fixed: Fixed,
+    pub fixed: Option<BestPolarity>,
     pub tree: Counts,
     pub vector: [u8; 256],
 }

@@ -1,6 +1,6 @@
 //! Settling a list of cubes: the call made, and what it answers and leaves written.
-use answers::answer::Answer;
 use answers::left::Bytes;
+use answers::row;
 use rows::given::Given;
 use settling::settle;
 use std::io;
@@ -14,18 +14,8 @@ pub fn settle_cubes<W: Write>(
     burned: &mut [u8],
 ) -> io::Result<()> {
     let n = given.head.n;
-    let result = settle::settle(
-        n,
-        given.first.as_slice(),
-        given.second.as_slice(),
-        work,
-        burned,
-    );
-    let answer = Answer { result };
-    write!(
-        out,
-        "{answer}{}{}",
-        Bytes { bytes: work },
-        Bytes { bytes: burned }
-    )
+    let list = given.first.as_slice();
+    let result = settle::settle(n, list, given.second.as_slice(), work, burned);
+    row::with_bytes(out, result, work)?;
+    write!(out, "{}", Bytes { bytes: burned })
 }

@@ -6,7 +6,7 @@ mod products;
 
 use crate::products::Products;
 use answers::answer::Answer;
-use answers::left::Bytes;
+use answers::row;
 pub use cubes::settle_cubes;
 use rows::call::SharedCall;
 use rows::given::Given;
@@ -15,36 +15,16 @@ use shared_run::{run, settle};
 use std::io;
 use std::io::Write;
 
-fn check<W: Write>(out: &mut W, n: usize, list: &[u8]) -> io::Result<()> {
-    let result = list::check(n, list);
-    write!(out, "{}", Answer { result })
-}
-
-/// The word of all outputs' values.
-fn value<W: Write>(out: &mut W, n: usize, list: &[u8], a: u64) -> io::Result<()> {
-    let result = value::value(n, list, a);
-    write!(out, "{}", Answer { result })
-}
-
 fn run<W: Write>(
     out: &mut W,
     n: usize,
     list: &[u8],
     script: &[u8],
-    work: &mut [u8],
+    bytes: &mut [u8],
 ) -> io::Result<()> {
-    let result = run::run(n, list, script, work);
+    let result = run::run(n, list, script, bytes);
     let count = result.ok().map(|ran| ran.count);
-    write!(
-        out,
-        "{}{}",
-        Answer { result },
-        Products {
-            n,
-            count,
-            bytes: work
-        }
-    )
+    write!(out, "{}{}", Answer { result }, Products { n, count, bytes })
 }
 
 /// The counts, the work buffer, and the output with its products.
@@ -53,26 +33,13 @@ fn settle<W: Write>(
     n: usize,
     given: &Given,
     work: &mut [u8],
-    burned: &mut [u8],
+    bytes: &mut [u8],
 ) -> io::Result<()> {
-    let result = settle::settle(
-        n,
-        given.first.as_slice(),
-        given.second.as_slice(),
-        work,
-        burned,
-    );
+    let list = given.first.as_slice();
+    let result = settle::settle(n, list, given.second.as_slice(), work, bytes);
     let count = result.ok().map(|settled| settled.burned);
-    write!(out, "{}{}", Answer { result }, Bytes { bytes: work })?;
-    write!(
-        out,
-        "{}",
-        Products {
-            n,
-            count,
-            bytes: burned
-        }
-    )
+    row::with_bytes(out, result, work)?;
+    write!(out, "{}", Products { n, count, bytes })
 }
 
 /// A call on shared products, in a lent buffer; the output of settling is a second one.
@@ -86,8 +53,9 @@ pub fn on_shared<W: Write>(
     let n = given.head.n;
     let list = given.first.as_slice();
     match call {
-        SharedCall::Check => check(out, n, list),
-        SharedCall::Value => value(out, n, list, given.head.given as u64),
+        SharedCall::Check => row::answer(out, list::check(n, list)),
+        // The word of all outputs' values.
+        SharedCall::Value => row::answer(out, value::value(n, list, given.head.given as u64)),
         SharedCall::Run => run(out, n, list, given.second.as_slice(), lent),
         SharedCall::Settle => settle(out, n, given, lent, second),
     }

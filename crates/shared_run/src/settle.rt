@@ -28,6 +28,7 @@ fn burn(list: &[u8], res: &[u8], out: &mut [u8]) -> usize
 }
 
 /// Settles a list of shared products: the refusals of run, where 5 tests work and then output; or the counts, with the list to burn in the output.
+// Stays: beside it stands the settle of cubes with the same tests; but what is compared, burned and answered is its own in each, and a trait for that is longer than what it saves.
 pub fn settle(
     n: usize,
     list: &[u8],

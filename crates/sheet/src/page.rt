@@ -1,8 +1,9 @@
 //! What stands on the sheet.
 use crate::sentences;
 use cube::list::RECORD_WIDTH;
+use polarity::BestPolarity;
 use rewritten::rewrite::{form_of, vector_of};
-use settling::{Fixed, Settlement};
+use settling::Settlement;
 use text_files::job::{Job, System};
 use text_files::load::Map;
 use text_files::told::Told;
@@ -72,14 +73,14 @@ fn is_form<'a, R: System, E: Print>(
     job: &Job<'a, R, E>,
     n: usize,
     list: &[u8],
-    fixed: Fixed,
+    fixed: Option<BestPolarity>,
     burned: &[u8],
 ) -> Result<bool, Told<'a>> {
     match fixed {
-        Fixed::Absent => Ok(false),
-        Fixed::Polarity(p, _) => {
+        None => Ok(false),
+        Some(found) => {
             let vector = vector_of(job, n, list)?;
-            let form = form_of(job.rt, n, &vector, p)?;
+            let form = form_of(job.rt, n, &vector, found.polarity)?;
             Ok(form.as_slice() == burned)
         }
     }
@@ -92,7 +93,7 @@ fn by<'a, R: System, E: Print>(
     n: usize,
     list: &[u8],
     script: &[u8],
-    fixed: Fixed,
+    fixed: Option<BestPolarity>,
     burned: &[u8],
 ) -> Result<&'static str, Told<'a>> {
     if is_result(job.rt, n, list, script, burned)? {
@@ -107,12 +108,15 @@ fn by<'a, R: System, E: Print>(
     Ok("the list of the cheapest tree")
 }
 
-fn best(rt: &impl Print, fixed: Fixed) {
+fn best(rt: &impl Print, fixed: Option<BestPolarity>) {
     match fixed {
-        Fixed::Polarity(p, size) => {
-            let _ = println!(rt; "\nbest polarity {p}, products of its form {size}");
+        Some(found) => {
+            let _ = println!(rt;
+                "\nbest polarity {}, products of its form {}",
+                found.polarity, found.products
+            );
         }
-        Fixed::Absent => {
+        None => {
             put(
                 rt,
                 "\nbest polarity: not looked for, there are more than 8 inputs\n",

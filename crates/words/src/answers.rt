@@ -8,7 +8,7 @@ use kronecker::WrittenKronecker;
 use polarity::BestPolarity;
 use reasons::TrueProducts;
 use script::Peaked;
-use settling::{Fixed, Settlement};
+use settling::Settlement;
 use shared_run::SharedSettlement;
 use trees::WrittenTree;
 use writer::Written;
@@ -134,8 +134,12 @@ impl Answer for Settlement {
         let script = self.script as u64;
         let burned = self.burned as u64;
         match self.fixed {
-            Fixed::Polarity(p, size) => [given, peak, script, p as u64, size as u64, burned],
-            Fixed::Absent => [given, peak, script, ABSENT, ABSENT, burned],
+            Some(best) => {
+                let polarity = best.polarity as u64;
+                let size = best.products as u64;
+                [given, peak, script, polarity, size, burned]
+            }
+            None => [given, peak, script, ABSENT, ABSENT, burned],
         }
     }
 }

@@ -1,7 +1,7 @@
 -- What a list and a form count; the better of two candidates stands for the better list, and the candidates in turn stand for the list to burn.
 -- Assumes nothing.
 use mathlib.Core.Bool.{Bool, not, true, false, cond}
-use mathlib.Core.List.{List}
+use mathlib.Core.List.{List, [], ◌∷◌}
 use mathlib.Core.Path.{◌≡◌, refl, sym, ap, ◌∙◌, ap₂, subst}
 use Prim.Native.Nat.{ℕ, zero, suc, ◌/◌, ◌%◌, ◌^◌, ◌≤◌, ◌<◌}
 use native.Mathlib.Nat.{mod-eq_of_lt}
@@ -12,6 +12,7 @@ use lib.ListN.{length, take}
 use lib.Pow.{pow_pos, pow_mono}
 use lib.Seq.{get_or-take}
 use lib.Bits.{bit_xor}
+use Rattle.std.specs.Prelude.{Option, Some, None}
 use Rattle.records.proofs.Counting.{Counting, counted_all}
 use Rattle.records.proofs.Records.{length_list}
 use Rattle.cube.specs.Lists.{cubes, cubes_of, record_width, vector_variables, truth_vector}
@@ -20,16 +21,17 @@ use Rattle.cube.specs.Cubes.{bare}
 use Rattle.polarity.specs.Forms.{parity_within, coefficient, form_list}
 use Rattle.polarity.specs.Ranks.{counts_of, rank_of, rank}
 use Rattle.polarity.specs.Vectors.{byte_at, Vector}
+use Rattle.polarity.specs.declared.BestPolarity.{BestPolarity}
 use Rattle.polarity.specs.declared.Counts.{Counts}
 use Rattle.polarity.proofs.Forms.{form_counts, form_most}
 use Rattle.polarity.proofs.Parities.{parity_zero, parity_low, parity_lt}
 use Rattle.polarity.proofs.Ranks.{cheaper_rank}
 use Rattle.polarity.proofs.Theorems.{best_has_least_rank}
+use Rattle.settling.specs.Calls.{fixed_values}
 use Rattle.settling.specs.Candidates.{best_of, best_form, tree_form, better, burned_list, fixed_of}
 use Rattle.settling.specs.Choice.{FormCounts, candidate_of, better_of, StandsFor, FormIs}
 use Rattle.settling.specs.declared.BestForm.{BestForm}
 use Rattle.settling.specs.declared.Candidate.{Candidate}
-use Rattle.settling.specs.declared.Fixed.TheVariants as fixed_is
 use Rattle.settling.specs.declared.Origin.{Origin}
 use Rattle.settling.specs.declared.Origin.TheVariants as origin_is
 use Rattle.settling.proofs.Forming.{truth_vector_is}
@@ -66,7 +68,10 @@ candidate_is counts origin r e = ap (λ (x : ℕ). record { rank = x; origin = o
 
 -- ---- the form of the best polarity
 
-module _ (n : ℕ) (given : List Cube) (best : BestForm) (F : FormIs n given best) (p size : ℕ) (e : best.fixed ≡ fixed_is.Polarity p size) where
+abbrev best_as : ℕ → ℕ → Option BestPolarity
+best_as p size = Some (record { polarity = p; products = size })
+
+module _ (n : ℕ) (given : List Cube) (best : BestForm) (F : FormIs n given best) (p size : ℕ) (e : best.fixed ≡ best_as p size) where
   record Found : Type 0 where
     few : n ≤ vector_variables
     there : leb n vector_variables ≡ true
@@ -78,9 +83,11 @@ module _ (n : ℕ) (given : List Cube) (best : BestForm) (F : FormIs n given bes
   found = go (leb n vector_variables) refl (sym e ∙ F.fixed)
     where
       go : (b : Bool) → leb n vector_variables ≡ b
-          → fixed_is.Polarity p size ≡ cond b (fixed_is.Polarity (best_of n given) (length (best_form n given))) fixed_is.Absent → Found
-      go true t z = record { few = leb-true _ _ t; there = t; p_is = cc; size_is = cc }
-      go false t z = let no : ◌≡◌ {A = ℕ} 0 1 = cc in absurd (omega arith)
+          → best_as p size ≡ cond b (best_as (best_of n given) (length (best_form n given))) None → Found
+      go true t z =
+          let both : p ∷ size ∷ [] ≡ best_of n given ∷ length (best_form n given) ∷ [] = ap fixed_values z in
+          record { few = leb-true _ _ t; there = t; p_is = cc; size_is = cc }
+      go false t z = let no : ◌≡◌ {A = ℕ} 2 0 = ap (λ (f : Option BestPolarity). length (fixed_values f)) z in absurd (omega arith)
 
   inside : p < 2 ^ n
   inside = subst (λ (q : ℕ). q < 2 ^ n) (sym found.p_is) (best_has_least_rank n (byte_at (truth_vector n given))).inside
@@ -123,16 +130,16 @@ module _ (n : ℕ) (result given : List Cube) where
         (better_stands result given _ _ (record { rank_is = ap rank_of es; list_is = refl; named = tt }) (record { rank_is = ap rank_of eg; list_is = refl; named = tt }))
 
     -- above 8 variables there is no form and no tree
-    pub chosen_two : best.fixed ≡ fixed_is.Absent → StandsFor n result given (burned_list n result given) two
+    pub chosen_two : best.fixed ≡ None → StandsFor n result given (burned_list n result given) two
     unfolding burned_list fixed_of
     chosen_two e = go (leb n vector_variables) (sym F.fixed ∙ e)
       where
-        go : (b : Bool) → cond b (fixed_is.Polarity (best_of n given) (length (best_form n given))) fixed_is.Absent ≡ fixed_is.Absent
+        go : (b : Bool) → cond b (best_as (best_of n given) (length (best_form n given))) None ≡ None
             → StandsFor n result given (cond b (better (better (better result given) (best_form n given)) (tree_form n given)) (better result given)) two
-        go true z = let no : ◌≡◌ {A = ℕ} 0 1 = cc in absurd (omega arith)
+        go true z = let no : ◌≡◌ {A = ℕ} 2 0 = ap (λ (f : Option BestPolarity). length (fixed_values f)) z in absurd (omega arith)
         go false z = two_stands
 
-    module _ (p size : ℕ) (e : best.fixed ≡ fixed_is.Polarity p size) (cf : Counts) (counts : FormCounts best.vector p size cf)
+    module _ (p size : ℕ) (e : best.fixed ≡ best_as p size) (cf : Counts) (counts : FormCounts best.vector p size cf)
         (form : Candidate) (ef : form ≡ candidate_of cf (origin_is.Form p)) (tree : Candidate) (et : tree ≡ candidate_of best.tree origin_is.Tree) where
       tree_stands : StandsFor n result given (tree_form n given) tree
       unfolding tree_form

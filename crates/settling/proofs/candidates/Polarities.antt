@@ -9,7 +9,8 @@ use borrow.Author.Tests.{le-leb, lt-leb}
 use lib.Dec.{leb}
 use lib.ListN.{length, drop_of_length-le}
 use lib.Seq.{take_at}
-use Rattle.std.specs.Prelude.{Result, Ok, Err}
+use Rattle.std.specs.Prelude.{Some, None, Result, Ok, Err}
+use Rattle.std.specs.Result.{result_ok}
 use Rattle.bits.proofs.Below.{length_list_below}
 use Rattle.polarity.specs.declared.BestPolarity.{BestPolarity}
 use Rattle.records.specs.declared.Refusal.{Refusal}
@@ -26,7 +27,6 @@ use Rattle.polarity.specs.Vectors.{byte_at, Vector}
 use Rattle.polarity.specs.Calls.{best_outcome, found}
 use Rattle.trees.specs.Least.{tree_list}
 use Rattle.settling.specs.declared.Forms.{Forms}
-use Rattle.settling.specs.declared.Fixed.TheVariants as fixed_is
 use Rattle.settling.specs.Candidates.{best_of, best_form, tree_form, fixed_of}
 use Rattle.settling.specs.Choice.{FormsAre, FormIs}
 use Rattle.settling.proofs.Forming.{truth_vector_is, vector_accepted}
@@ -53,17 +53,16 @@ module _ (n : ℕ) (list : List ℕ) (p : Accepts (check_list vector_variables n
         and_then_lem _ _ _ (vector_accepted n v vector_is_vector)
         ∙ ap (λ (t : List ℕ). accepted (best_polarity n (byte_at t) ∷ size n (best_polarity n (byte_at t)) (byte_at t) ∷ [])) ev
 
-    pub best_polarity_found : (r : Result BestPolarity Refusal) (q s : ℕ) → r ≡ Ok (record { polarity = q; products = s }) → found r ≡ best_outcome n v → fixed_is.Polarity q s ≡ fixed_of n (cubes_of list)
+    -- it is found, never refused
+    pub best_polarity_found : (r : Result BestPolarity Refusal) → found r ≡ best_outcome n v → result_ok r ≡ fixed_of n (cubes_of list)
     unfolding fixed_of
-    best_polarity_found r q s er e =
-        let both : accepted (q ∷ s ∷ []) ≡ accepted (best_of n (cubes_of list) ∷ length (best_form n (cubes_of list)) ∷ []) = ap found (sym er) ∙ e ∙ best_is_found in
-        let eq : q ≡ best_of n (cubes_of list) = cc in
-        let es : s ≡ length (best_form n (cubes_of list)) = cc in
-        ap₂ fixed_is.Polarity eq es
-        ∙ sym (ap (λ (b : Bool). cond b (fixed_is.Polarity (best_of n (cubes_of list)) (length (best_form n (cubes_of list)))) fixed_is.Absent) (le-leb _ _ few))
-
-    pub best_polarity_not_refused : (r : Result BestPolarity Refusal) (q : Refusal) → r ≡ Err q → found r ≡ best_outcome n v → ⊥
-    best_polarity_not_refused r q er e = not_both (sym best_is_found ∙ sym e ∙ ap found er)
+    best_polarity_found (Ok best) e =
+        let both : accepted (best.polarity ∷ best.products ∷ []) ≡ accepted (best_of n (cubes_of list) ∷ length (best_form n (cubes_of list)) ∷ []) = e ∙ best_is_found in
+        let ep : best.polarity ≡ best_of n (cubes_of list) = cc in
+        let es : best.products ≡ length (best_form n (cubes_of list)) = cc in
+        ap₂ (λ (p size : ℕ). Some (record { polarity = p; products = size })) ep es
+        ∙ sym (ap (λ (b : Bool). cond b (Some (record { polarity = best_of n (cubes_of list); products = length (best_form n (cubes_of list)) })) None) (le-leb _ _ few))
+    best_polarity_found (Err why) e = absurd (not_both (sym best_is_found ∙ sym e))
 
 -- ---- the vector and its best polarity together
 
@@ -75,10 +74,10 @@ passed_few n list p h =
     record { values = p.values; is = simp (le-leb _ _ h) q.1 }
 
 module _ (n : ℕ) (given : List Cube) where
-  pub form_absent : vector_variables < n → (c : Counts) (v : List ℕ) → FormIs n given (record { fixed = fixed_is.Absent; tree = c; vector = v })
+  pub form_absent : vector_variables < n → (c : Counts) (v : List ℕ) → FormIs n given (record { fixed = None; tree = c; vector = v })
   unfolding fixed_of
   form_absent h c v = record {
-    fixed = sym (ap (λ (t : Bool). cond t (fixed_is.Polarity (best_of n given) (length (best_form n given))) fixed_is.Absent) (lt-leb n vector_variables h));
+    fixed = sym (ap (λ (t : Bool). cond t (Some (record { polarity = best_of n given; products = length (best_form n given) })) None) (lt-leb n vector_variables h));
     tree = λ few. absurd (omega arith);
     vector = λ few. absurd (omega arith);
   }

@@ -1,11 +1,9 @@
 -- `settle::settle` meets its contract.
 -- Assumes nothing.
-use mathlib.Core.Path.{refl, sym, ap, ◌∙◌}
+use mathlib.Core.Path.{refl, sym}
 use native.Mathlib.Omega.{arith}
 use lib.Seq.{length-take-le}
 use Rattle.records.proofs.Answers.{handed_on}
-use Rattle.records.specs.Answers.{counted}
-use Rattle.script.specs.Calls.{finished}
 use Rattle.script.proofs.Outcomes.{passed}
 use Rattle.settling.proofs.settle.Settling.{list_refused, room_work, work_short, out_short, run_refused, result_few, result_end, run_burns, run_settled}
 use Rattle.settling.proofs.settle.settle.Goals as goal
