@@ -4,6 +4,8 @@ use mathlib.Core.Path.{◌≡◌, refl, sym, ap, ◌∙◌}
 use mathlib.Core.List.{List}
 use Prim.Native.Nat.{ℕ}
 use Rattle.bits.specs.Outcomes.{Determined}
+use Rattle.bits.specs.Packed.{alone}
+use Rattle.bits.specs.declared.packed.Packed.{Packed}
 use Rattle.bits.proofs.bit.Kinds as bit_kinds
 use Rattle.bits.proofs.bit.Reads as bit_reads
 use Rattle.bits.proofs.packed.Packed.of.Kinds as packed_of_kinds
@@ -34,6 +36,30 @@ use Rattle.bits.proofs.word.raise_word.Kinds as raise_word_kinds
 use Rattle.bits.proofs.word.raise_word.Reads as raise_word_reads
 use Rattle.bits.proofs.packing.put_bits.Kinds as put_bits_kinds
 use Rattle.bits.proofs.packing.put_bits.Reads as put_bits_reads
+use Rattle.bits.proofs.passes.U64Bits.of.Kinds as word_of_kinds
+use Rattle.bits.proofs.passes.U64Bits.of.Reads as word_of_reads
+use Rattle.bits.proofs.passes.U64Bits.put.Kinds as word_put_kinds
+use Rattle.bits.proofs.passes.U64Bits.put.Reads as word_put_reads
+use Rattle.bits.proofs.passes.U64Bits.lowered.Kinds as word_lowered_kinds
+use Rattle.bits.proofs.passes.U64Bits.lowered.Reads as word_lowered_reads
+use Rattle.bits.proofs.passes.U64Bits.raised.Kinds as word_raised_kinds
+use Rattle.bits.proofs.passes.U64Bits.raised.Reads as word_raised_reads
+use Rattle.bits.proofs.passes.U64Bits.sum.Kinds as word_sum_kinds
+use Rattle.bits.proofs.passes.U64Bits.sum.Reads as word_sum_reads
+use Rattle.bits.proofs.passes.U64Bits.words.Kinds as word_words_kinds
+use Rattle.bits.proofs.passes.U64Bits.words.Reads as word_words_reads
+use Rattle.bits.proofs.passes.PackedBits.of.Kinds as four_words_of_kinds
+use Rattle.bits.proofs.passes.PackedBits.of.Reads as four_words_of_reads
+use Rattle.bits.proofs.passes.PackedBits.put.Kinds as four_words_put_kinds
+use Rattle.bits.proofs.passes.PackedBits.put.Reads as four_words_put_reads
+use Rattle.bits.proofs.passes.PackedBits.lowered.Kinds as four_words_lowered_kinds
+use Rattle.bits.proofs.passes.PackedBits.lowered.Reads as four_words_lowered_reads
+use Rattle.bits.proofs.passes.PackedBits.raised.Kinds as four_words_raised_kinds
+use Rattle.bits.proofs.passes.PackedBits.raised.Reads as four_words_raised_reads
+use Rattle.bits.proofs.passes.PackedBits.sum.Kinds as four_words_sum_kinds
+use Rattle.bits.proofs.passes.PackedBits.sum.Reads as four_words_sum_reads
+use Rattle.bits.proofs.passes.PackedBits.words.Kinds as four_words_words_kinds
+use Rattle.bits.proofs.passes.PackedBits.words.Reads as four_words_words_reads
 
 -- equal to the same
 pub same {ℓ} : {A : Type ℓ} {x y z : A} → x ≡ z → y ≡ z → x ≡ y
@@ -87,3 +113,51 @@ raise_word_determined κs a z z' ws ws' p q = (same p q, refl)
 
 pub put_bits_determined : Determined 1 put_bits_kinds.ps put_bits_kinds.r put_bits_reads.Learnt
 put_bits_determined κs a z z' ws ws' p q = (refl, ap (λ (b : List ℕ). (tt, (b, tt))) (same p q))
+
+-- ---- the bits of a vector, in one word
+
+-- the word, read back
+word_back : Packed → ℕ
+word_back w = w.a
+
+word_known : (x : ℕ) → word_back (alone x) ≡ x
+unfolding word_back
+word_known x = refl
+
+pub word_of_determined : Determined 1 word_of_kinds.ps word_of_kinds.r word_of_reads.Learnt
+word_of_determined κs a z z' ws ws' p q = (same_told alone word_back word_known p q, refl)
+
+pub word_put_determined : Determined 1 word_put_kinds.ps word_put_kinds.r word_put_reads.Learnt
+word_put_determined κs a z z' ws ws' p q = (refl, ap (λ (b : List ℕ). (tt, (b, tt))) (same p q))
+
+pub word_lowered_determined : Determined 0 word_lowered_kinds.ps word_lowered_kinds.r word_lowered_reads.Learnt
+word_lowered_determined κs a z z' ws ws' p q = (same_told alone word_back word_known p q, refl)
+
+pub word_raised_determined : Determined 0 word_raised_kinds.ps word_raised_kinds.r word_raised_reads.Learnt
+word_raised_determined κs a z z' ws ws' p q = (same_told alone word_back word_known p q, refl)
+
+pub word_sum_determined : Determined 0 word_sum_kinds.ps word_sum_kinds.r word_sum_reads.Learnt
+word_sum_determined κs a z z' ws ws' p q = (same_told alone word_back word_known p q, refl)
+
+pub word_words_determined : Determined 0 word_words_kinds.ps word_words_kinds.r word_words_reads.Learnt
+word_words_determined κs a z z' ws ws' p q = (same p q, refl)
+
+-- ---- the same in four words
+
+pub four_words_of_determined : Determined 1 four_words_of_kinds.ps four_words_of_kinds.r four_words_of_reads.Learnt
+four_words_of_determined κs a z z' ws ws' p q = (same p q, refl)
+
+pub four_words_put_determined : Determined 1 four_words_put_kinds.ps four_words_put_kinds.r four_words_put_reads.Learnt
+four_words_put_determined κs a z z' ws ws' p q = (refl, ap (λ (b : List ℕ). (tt, (b, tt))) (same p q))
+
+pub four_words_lowered_determined : Determined 0 four_words_lowered_kinds.ps four_words_lowered_kinds.r four_words_lowered_reads.Learnt
+four_words_lowered_determined κs a z z' ws ws' p q = (same p q, refl)
+
+pub four_words_raised_determined : Determined 0 four_words_raised_kinds.ps four_words_raised_kinds.r four_words_raised_reads.Learnt
+four_words_raised_determined κs a z z' ws ws' p q = (same p q, refl)
+
+pub four_words_sum_determined : Determined 0 four_words_sum_kinds.ps four_words_sum_kinds.r four_words_sum_reads.Learnt
+four_words_sum_determined κs a z z' ws ws' p q = (same p q, refl)
+
+pub four_words_words_determined : Determined 0 four_words_words_kinds.ps four_words_words_kinds.r four_words_words_reads.Learnt
+four_words_words_determined κs a z z' ws ws' p q = (same p q, refl)

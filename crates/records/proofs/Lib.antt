@@ -14,4 +14,5 @@ pub mod Scattering
 pub mod Behind
 pub mod Answers
 pub mod Checks
+pub mod Reasons
 pub mod Determined

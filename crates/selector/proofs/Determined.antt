@@ -11,6 +11,10 @@ use Rattle.selector.specs.declared.MapRefusal.{MapRefusal}
 use Rattle.selector.specs.Refusals.{of_map, of_list}
 use Rattle.selector.specs.declared.ByList.{ByList}
 use Rattle.selector.specs.Answers.{MapOutcome, map_accepted, map_refused, list_refused, refused_at, map_told}
+use Rattle.selector.proofs.MapRefusalFromRefusal.from.Kinds as from_kinds
+use Rattle.selector.proofs.MapRefusalFromRefusal.from.Reads as from_reads
+use Rattle.selector.proofs.MapRefusal.of_list.Kinds as of_list_kinds
+use Rattle.selector.proofs.MapRefusal.of_list.Reads as of_list_reads
 use Rattle.selector.proofs.slot.slot.Kinds as slot_kinds
 use Rattle.selector.proofs.slot.slot.Reads as slot_reads
 use Rattle.selector.proofs.map_reasons.reasons_into.Kinds as reasons_into_kinds
@@ -34,6 +38,12 @@ map_known (Err e) = same_refusal e.refusal e.list
     same_refusal : (r : Refusal) (l : Option ℕ) → map_back (refused_at r l) ≡ Err (record { refusal = r; list = l })
     same_refusal r None = refl
     same_refusal r (Some k) = refl
+
+pub from_determined : Determined 0 from_kinds.ps from_kinds.r from_reads.Learnt
+from_determined κs a z z' ws ws' p q = (same p q, refl)
+
+pub of_list_determined : Determined 0 of_list_kinds.ps of_list_kinds.r of_list_reads.Learnt
+of_list_determined κs a z z' ws ws' p q = (same p q, refl)
 
 pub slot_determined : Determined 2 slot_kinds.ps slot_kinds.r slot_reads.Learnt
 slot_determined κs a z z' ws ws' p q = (same_told map_told map_back map_known p q, refl)

@@ -3,13 +3,25 @@
 use mathlib.Core.Path.{◌≡◌, refl, ap}
 use mathlib.Core.List.{List}
 use Prim.Native.Nat.{ℕ}
+use denote.RattleType.{RattleType}
+use denote.Param.Laws.{Laws, IsCopy}
+use mir.Syntax.{Dict}
+use Rattle.std.specs.declared.clone.Clone as clone
+use Rattle.std.specs.Prelude.{◌<◌, Option, Some, None}
 use Rattle.bits.specs.Outcomes.{Determined}
 use Rattle.bits.proofs.Determined.{same, same_told}
 use Rattle.cube.specs.declared.Cube.{Cube}
 use Rattle.steps.specs.declared.Change.{Change}
 use Rattle.steps.specs.declared.Change.TheVariants as change_is
 use Rattle.steps.specs.Moves.{Move, refuse, drops, joins, splits, turns}
-use Rattle.steps.specs.Changes.{move_of}
+use Rattle.steps.specs.Changes.{move_of, step_of, Misplaced, masks_at}
+use Rattle.steps.specs.Steps.{Step, drop, join, split, turn, L}
+use Rattle.steps.specs.declared.operation.Step as operation
+use Rattle.steps.specs.declared.operation.Step.TheVariants as step_is
+use Rattle.steps.specs.declared.decides.Decides as decides
+use Rattle.records.specs.declared.reason.Reason.{Reason}
+use Rattle.records.proofs.Reasons.{one_reason}
+use Rattle.cube.specs.Lists.{most_variables}
 use Rattle.steps.proofs.decide.two_places.Kinds as two_places_kinds
 use Rattle.steps.proofs.decide.two_places.Reads as two_places_reads
 use Rattle.steps.proofs.decide.decide.Kinds as decide_kinds
@@ -32,6 +44,28 @@ use Rattle.steps.proofs.reorder.reorder.Kinds as reorder_kinds
 use Rattle.steps.proofs.reorder.reorder.Reads as reorder_reads
 use Rattle.steps.proofs.step.do_step.Kinds as do_step_kinds
 use Rattle.steps.proofs.step.do_step.Reads as do_step_reads
+use Rattle.steps.proofs.operation.StepFromStepRecord.from.Kinds as from_kinds
+use Rattle.steps.proofs.operation.StepFromStepRecord.from.Reads as from_reads
+use Rattle.steps.proofs.StepRecord.is_letter.Kinds as is_letter_kinds
+use Rattle.steps.proofs.StepRecord.is_letter.Reads as is_letter_reads
+use Rattle.steps.proofs.decide.misplaced.Kinds as misplaced_kinds
+use Rattle.steps.proofs.decide.misplaced.Reads as misplaced_reads
+use Rattle.steps.proofs.decide.refuse.Kinds as refuse_kinds
+use Rattle.steps.proofs.decide.refuse.Reads as refuse_reads
+use Rattle.steps.proofs.decides.Decides.record_at.Kinds as decides_record_at_kinds
+use Rattle.steps.proofs.decides.Decides.record_at.Reads as decides_record_at_reads
+use Rattle.steps.proofs.decides.Decides.put_record.Kinds as decides_put_record_kinds
+use Rattle.steps.proofs.decides.Decides.put_record.Reads as decides_put_record_reads
+use Rattle.steps.proofs.decides.Decides.recode.Kinds as decides_recode_kinds
+use Rattle.steps.proofs.decides.Decides.recode.Reads as decides_recode_reads
+use Rattle.steps.proofs.perform.drop_places.Kinds as drop_places_kinds
+use Rattle.steps.proofs.perform.drop_places.Reads as drop_places_reads
+use Rattle.steps.proofs.perform.join_places.Kinds as join_places_kinds
+use Rattle.steps.proofs.perform.join_places.Reads as join_places_reads
+use Rattle.steps.proofs.reorder.reorder_on.Kinds as reorder_on_kinds
+use Rattle.steps.proofs.reorder.reorder_on.Reads as reorder_on_reads
+use Rattle.steps.proofs.step.step_on.Kinds as step_on_kinds
+use Rattle.steps.proofs.step.step_on.Reads as step_on_reads
 
 -- the change that a move is, read back
 change_of : Move Cube → Change Cube
@@ -48,6 +82,42 @@ change_known change_is.Drop = refl
 change_known (change_is.Join c) = refl
 change_known (change_is.Split c d) = refl
 change_known (change_is.Turn c d) = refl
+
+-- the step by its operation, read back
+pub operation_of : Step → operation.Step
+operation_of (drop i j) = step_is.Drop i j
+operation_of (join i j) = step_is.Join i j
+operation_of (split v i) = step_is.Split v i
+operation_of (turn v i j) = step_is.Turn v i j
+operation_of (L v b) = step_is.L v b
+
+pub operation_known : (x : operation.Step) → operation_of (step_of x) ≡ x
+unfolding operation_of
+operation_known (step_is.Drop i j) = refl
+operation_known (step_is.Join i j) = refl
+operation_known (step_is.Split v i) = refl
+operation_known (step_is.Turn v i j) = refl
+operation_known (step_is.L v b) = refl
+
+pub from_determined : Determined 0 from_kinds.ps from_kinds.r from_reads.Learnt
+from_determined κs a z z' ws ws' p q = (same_told step_of operation_of operation_known p q, refl)
+
+pub is_letter_determined : Determined 0 is_letter_kinds.ps is_letter_kinds.r is_letter_reads.Learnt
+is_letter_determined κs a z z' ws ws' p q = (same p q, refl)
+
+-- one reason, or none, has the number that two places are refused by
+misplaced_once : (count i j : ℕ) (z z' : Option Reason) → Misplaced count i j z → Misplaced count i j z' → z ≡ z'
+misplaced_once count i j None None p q = refl
+misplaced_once count i j None (Some r) p q = absurd (q.1 (same q.0 p))
+misplaced_once count i j (Some r) None p q = absurd (p.1 (same p.0 q))
+misplaced_once count i j (Some r) (Some s) p q = ap Some (one_reason r s (same p.0 q.0))
+
+pub misplaced_determined : Determined 0 misplaced_kinds.ps misplaced_kinds.r misplaced_reads.Learnt
+misplaced_determined κs a z z' ws ws' p q = (misplaced_once _ _ _ z z' p q, refl)
+
+-- for what every kind of record holds
+pub refuse_determined : (T : RattleType) (laws : Laws T) → Determined 1 (refuse_kinds.ps T laws) (refuse_kinds.r T laws) (refuse_reads.Learnt T laws)
+refuse_determined T laws κs a z z' ws ws' p q = (same p q, refl)
 
 pub two_places_determined : Determined 0 two_places_kinds.ps two_places_kinds.r two_places_reads.Learnt
 two_places_determined κs a z z' ws ws' p q = (same p q, refl)
@@ -86,3 +156,36 @@ reorder_determined κs a z z' ws ws' p q = (refl, ap (λ (b : List ℕ). (b, (tt
 pub do_step_determined : Determined 1 do_step_kinds.ps do_step_kinds.r do_step_reads.Learnt
 do_step_determined κs a z z' ws ws' p q =
     (same p.0 q.0, ap (λ (b : List ℕ). (b, (tt, (tt, (tt, (tt, tt)))))) (same p.1 q.1))
+
+-- ---- for every kind of record whose steps are decided
+
+module _ (K Item : RattleType) (laws : Laws K) (item_laws : Laws Item) (copies : IsCopy Item) (decided : decides.Ghosts K.Denot Item.Denot) (decides : Dict)
+    (clones : clone.Ghosts Item.Denot) (clone : Dict) where
+  pub decides_record_at_determined : Determined 3 (decides_record_at_kinds.ps K Item laws item_laws copies) (decides_record_at_kinds.r K Item laws item_laws copies)
+      (decides_record_at_reads.Learnt K Item laws item_laws copies decided decides clones clone)
+  decides_record_at_determined κs a z z' ws ws' p q = (same p q, refl)
+
+  pub decides_put_record_determined : Determined 3 (decides_put_record_kinds.ps K Item laws item_laws copies) (decides_put_record_kinds.r K Item laws item_laws copies)
+      (decides_put_record_reads.Learnt K Item laws item_laws copies decided decides clones clone)
+  decides_put_record_determined κs a z z' ws ws' p q = (refl, ap (λ (b : List ℕ). (b, (tt, (tt, tt)))) (same p q))
+
+  -- where the masks are those of an order at a variable: of others the contract says nothing
+  pub decides_recode_determined : (v o : ℕ) → v < most_variables → Determined 3 (decides_recode_kinds.ps K Item laws item_laws copies) (decides_recode_kinds.r K Item laws item_laws copies)
+      (λ κs a z e. (a.0 ≡ masks_at v o) × decides_recode_reads.Learnt K Item laws item_laws copies decided decides clones clone κs a z e)
+  decides_recode_determined v o h κs a z z' ws ws' p q = (refl, ap (λ (b : List ℕ). (tt, (b, (tt, tt)))) (same (p.1.is v o h p.0) (q.1.is v o h q.0)))
+
+  pub drop_places_determined : Determined 3 (drop_places_kinds.ps K Item laws item_laws copies) (drop_places_kinds.r K Item laws item_laws copies)
+      (drop_places_reads.Learnt K Item laws item_laws copies decided decides clones clone)
+  drop_places_determined κs a z z' ws ws' p q = (same p.0 q.0, ap (λ (b : List ℕ). (b, (tt, (tt, (tt, tt))))) (same p.1 q.1))
+
+  pub join_places_determined : Determined 3 (join_places_kinds.ps K Item laws item_laws copies) (join_places_kinds.r K Item laws item_laws copies)
+      (join_places_reads.Learnt K Item laws item_laws copies decided decides clones clone)
+  join_places_determined κs a z z' ws ws' p q = (same p.0 q.0, ap (λ (b : List ℕ). (b, (tt, (tt, (tt, (tt, tt)))))) (same p.1 q.1))
+
+  pub reorder_on_determined : Determined 3 (reorder_on_kinds.ps K Item laws item_laws copies) (reorder_on_kinds.r K Item laws item_laws copies)
+      (reorder_on_reads.Learnt K Item laws item_laws copies decided decides clones clone)
+  reorder_on_determined κs a z z' ws ws' p q = (refl, ap (λ (b : List ℕ). (b, (tt, (tt, (tt, tt))))) (same p q))
+
+  pub step_on_determined : Determined 3 (step_on_kinds.ps K Item laws item_laws copies) (step_on_kinds.r K Item laws item_laws copies)
+      (step_on_reads.Learnt K Item laws item_laws copies decided decides clones clone)
+  step_on_determined κs a z z' ws ws' p q = (same p.answer q.answer, ap (λ (b : List ℕ). (b, (tt, (tt, (tt, (tt, tt)))))) (same p.buffer q.buffer))

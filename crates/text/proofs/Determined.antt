@@ -3,10 +3,12 @@
 use mathlib.Core.Path.{◌≡◌, refl, ap}
 use mathlib.Core.List.{List}
 use Prim.Native.Nat.{ℕ}
-use Rattle.bits.specs.Outcomes.{Determined}
+use Rattle.bits.specs.Outcomes.{Determined, DeterminedBy}
 use Rattle.bits.proofs.Determined.{same}
 use Rattle.text.proofs.place.byte_at.Kinds as byte_at_kinds
 use Rattle.text.proofs.place.byte_at.Reads as byte_at_reads
+use Rattle.text.proofs.place.rest.Kinds as rest_kinds
+use Rattle.text.proofs.place.rest.Reads as rest_reads
 use Rattle.text.proofs.place.put_byte.Kinds as put_byte_kinds
 use Rattle.text.proofs.place.put_byte.Reads as put_byte_reads
 use Rattle.text.proofs.place.put_text.Kinds as put_text_kinds
@@ -44,6 +46,10 @@ use Rattle.text.proofs.step.step_at.Reads as step_at_reads
 
 pub byte_at_determined : Determined 1 byte_at_kinds.ps byte_at_kinds.r byte_at_reads.Learnt
 byte_at_determined κs a z z' ws ws' p q = (same p q, refl)
+
+-- the bytes of the part that is handed back
+pub rest_determined : DeterminedBy 1 rest_kinds.ps rest_kinds.r (λ κs z. z.now) rest_reads.Learnt
+rest_determined κs a z z' ws ws' p q = (same p q, refl)
 
 pub put_byte_determined : Determined 1 put_byte_kinds.ps put_byte_kinds.r put_byte_reads.Learnt
 put_byte_determined κs a z z' ws ws' p q = (same p.place q.place, ap (λ (b : List ℕ). (b, (tt, (tt, tt)))) (same p.bytes q.bytes))

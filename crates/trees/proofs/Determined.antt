@@ -5,6 +5,17 @@ use mathlib.Core.List.{List}
 use Prim.Native.Nat.{ℕ}
 use lib.ListN.{get_or}
 use Rattle.std.specs.Prelude.{Result}
+use denote.RattleType.{RattleType}
+use denote.Builtin.{u64}
+use denote.Param.Laws.{Laws, IsCopy}
+use mir.Syntax.{Dict}
+use Rattle.std.specs.declared.clone.Clone as clone
+use Rattle.bits.specs.declared.passes.Bits as bits
+use Rattle.bits.specs.contracts.packed.Packed.{the_row}
+use Rattle.bits.specs.contracts.passes.U64Bits.TheImpl.{ghosts}
+use Rattle.bits.specs.contracts.passes.PackedBits.TheImpl.{ghosts as four_words}
+use Rattle.bits.specs.Packed.{alone}
+use Rattle.bits.specs.declared.packed.Packed.{Packed}
 use Rattle.bits.specs.Outcomes.{Determined}
 use Rattle.bits.proofs.Determined.{same, same_told}
 use Rattle.trees.specs.declared.WrittenTree.{WrittenTree}
@@ -12,6 +23,10 @@ use Rattle.records.specs.declared.Refusal.{Refusal}
 use Rattle.records.proofs.Answers.{answer_back, answer_known}
 use Rattle.records.specs.Answers.{Outcome}
 use Rattle.trees.specs.Calls.{listed}
+use Rattle.trees.proofs.node.first_half.Kinds as first_half_kinds
+use Rattle.trees.proofs.node.first_half.Reads as first_half_reads
+use Rattle.trees.proofs.node.second_half.Kinds as second_half_kinds
+use Rattle.trees.proofs.node.second_half.Reads as second_half_reads
 use Rattle.trees.proofs.node.first_cube.Kinds as first_cube_kinds
 use Rattle.trees.proofs.node.first_cube.Reads as first_cube_reads
 use Rattle.trees.proofs.node.second_cube.Kinds as second_cube_kinds
@@ -35,6 +50,42 @@ listed_back = answer_back listed_value
 pub listed_known : (r : Result WrittenTree Refusal) → listed_back (listed r) ≡ r
 unfolding listed_value listed_back
 listed_known = answer_known _ listed_value (λ a. refl)
+
+-- for the bits of every type that are told apart by what they show in four words, as those in one word are (`alone`), and those in four, which show themselves
+module _ (B : RattleType) (laws : Laws B) (copies : IsCopy B) (shows : bits.Ghosts B.Denot) (bits : Dict) (clones : clone.Ghosts B.Denot) (clone : Dict)
+    (apart : (x y : B.Denot) → shows.shown x ≡ shows.shown y → x ≡ y) where
+  pub first_half_determined : Determined 1 (first_half_kinds.ps B laws copies) (first_half_kinds.r B laws copies) (first_half_reads.Learnt B laws copies shows bits clones clone)
+  first_half_determined κs a z z' ws ws' p q = (apart z z' (same p q), refl)
+
+  pub second_half_determined : Determined 1 (second_half_kinds.ps B laws copies) (second_half_kinds.r B laws copies) (second_half_reads.Learnt B laws copies shows bits clones clone)
+  second_half_determined κs a z z' ws ws' p q = (apart z z' (same p q), refl)
+
+-- so in one word, whose bits are those of the first of four
+one_word : Packed → ℕ
+one_word w = w.a
+
+word_apart : (x y : ℕ) → alone x ≡ alone y → x ≡ y
+unfolding one_word
+word_apart x y e = ap one_word e
+
+module _ (laws : Laws u64) (copies : IsCopy u64) (bits : Dict) (clones : clone.Ghosts ℕ) (clone : Dict) where
+  pub word_first_half_determined : Determined 1 (first_half_kinds.ps u64 laws copies) (first_half_kinds.r u64 laws copies)
+      (first_half_reads.Learnt u64 laws copies ghosts bits clones clone)
+  word_first_half_determined = first_half_determined u64 laws copies ghosts bits clones clone word_apart
+
+  pub word_second_half_determined : Determined 1 (second_half_kinds.ps u64 laws copies) (second_half_kinds.r u64 laws copies)
+      (second_half_reads.Learnt u64 laws copies ghosts bits clones clone)
+  word_second_half_determined = second_half_determined u64 laws copies ghosts bits clones clone word_apart
+
+-- and in four
+module _ (laws : Laws the_row) (copies : IsCopy the_row) (bits : Dict) (clones : clone.Ghosts Packed) (clone : Dict) where
+  pub four_words_first_half_determined : Determined 1 (first_half_kinds.ps the_row laws copies) (first_half_kinds.r the_row laws copies)
+      (first_half_reads.Learnt the_row laws copies four_words bits clones clone)
+  four_words_first_half_determined = first_half_determined the_row laws copies four_words bits clones clone (λ x y e. e)
+
+  pub four_words_second_half_determined : Determined 1 (second_half_kinds.ps the_row laws copies) (second_half_kinds.r the_row laws copies)
+      (second_half_reads.Learnt the_row laws copies four_words bits clones clone)
+  four_words_second_half_determined = second_half_determined the_row laws copies four_words bits clones clone (λ x y e. e)
 
 pub first_cube_determined : Determined 0 first_cube_kinds.ps first_cube_kinds.r first_cube_reads.Learnt
 first_cube_determined κs a z z' ws ws' p q = (same p q, refl)

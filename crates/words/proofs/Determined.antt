@@ -12,6 +12,8 @@ use Rattle.std.specs.declared.clone.Clone as clone
 use Rattle.words.specs.declared.answers.Answer as answer
 use Rattle.words.proofs.put_answer.Kinds as put_answer_kinds
 use Rattle.words.proofs.put_answer.Reads as put_answer_reads
+use Rattle.words.proofs.answers.Answer.words.Kinds as words_kinds
+use Rattle.words.proofs.answers.Answer.words.Reads as words_reads
 use Rattle.words.proofs.put_indexed.Kinds as put_indexed_kinds
 use Rattle.words.proofs.put_indexed.Reads as put_indexed_reads
 use Rattle.words.proofs.start_at.Kinds as start_at_kinds
@@ -24,6 +26,10 @@ use Rattle.words.proofs.put_each.Kinds as put_each_kinds
 use Rattle.words.proofs.put_each.Reads as put_each_reads
 
 -- for every answer that has values
+pub words_determined : (A : RattleType) (laws : Laws A) (copies : IsCopy A) (values : answer.Ghosts A.Denot) (words : Dict) (clones : clone.Ghosts A.Denot) (clone : Dict)
+    → Determined 1 (words_kinds.ps A laws copies) (words_kinds.r A laws copies) (words_reads.Learnt A laws copies values words clones clone)
+words_determined A laws copies values words clones clone κs a z z' ws ws' p q = (same p q, refl)
+
 pub put_answer_determined : (A : RattleType) (laws : Laws A) (copies : IsCopy A) (values : answer.Ghosts A.Denot) (words : Dict)
     (clones : clone.Ghosts A.Denot) (clone : Dict)
     → Determined 2 (put_answer_kinds.ps A laws copies) (put_answer_kinds.r A laws copies)
