@@ -90,3 +90,14 @@ module _ (n cap : ℕ) (x : Step) (l m : List Cube) (e : step n cap x l ≡ next
   -- so the index beside it is that list's
   pub next_index : (index : List ℕ) → IndexKept cap m index → index ≡ index_advanced (length index) (step n cap x l)
   next_index index k = k.is ∙ next_beside (length index)
+
+-- ---- the same of the work buffer: before a step it has `before` cubes at its front, after it `count`
+
+module _ (n cap before count : ℕ) (x : Step) (work work' : List ℕ) (e : step n cap x (records cubes before work) ≡ next (records cubes count work')) where
+  -- the index of the cubes that the step leaves there is that of the step's list
+  pub next_in_work : (room : ℕ) → image places room (list_index (records cubes count work')) ≡ index_advanced room (step n cap x (records cubes before work))
+  next_in_work room = next_beside n cap x (records cubes before work) (records cubes count work') e room
+
+  -- and so is the index that is kept beside them
+  pub next_kept : (index : List ℕ) → IndexKept cap (records cubes count work') index → index ≡ index_advanced (length index) (step n cap x (records cubes before work))
+  next_kept index k = next_index n cap x (records cubes before work) (records cubes count work') e index k
