@@ -64,6 +64,17 @@ pub fn clear(buf: &mut [u8])
     buf.fill(0);
 }
 
+/// The bytes of list over those of buf, which has as many. They are copied one by one: the compiler makes a vector loop of it, and `copy_from_slice` a call of
+/// `memmove`, which whoever links the archive would have to bring.
+fn copy(buf: &mut [u8], list: &[u8])
+    requires { length buf.old ≡ length list.now }
+    ensures { buf.new ≡ list.now }
+{
+    for k in 0..buf.len() {
+        buf[k] = list[k];
+    }
+}
+
 /// The bytes of list at the front of buf, and zeros after them; nothing where they don't fit.
 pub fn fill(buf: &mut [u8], list: &[u8])
     ensures { buf.new ≡ filled_by buf.old list.now }
@@ -72,6 +83,6 @@ pub fn fill(buf: &mut [u8], list: &[u8])
         return;
     }
     let (front, rest) = buf.split_at_mut(list.len());
-    front.copy_from_slice(list);
+    copy(front, list);
     rest.fill(0);
 }

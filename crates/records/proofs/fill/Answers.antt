@@ -9,4 +9,4 @@ pub returns-then-buf-list : goal.returns-then-buf-list
 returns-then-buf-list c = sym (filled_not _ _ c.if-buf-list.true)
 
 pub returns : goal.returns
-returns c = ap₂ ◌++◌ c.copy_from_slice.ensures.after (c.fill.ensures.after (λ y h. h)) ∙ filled_parts _ _ _ c.split_at_mut-front.ensures.back_len
+returns c = ap₂ ◌++◌ c.copy.ensures (c.fill.ensures.after (λ y h. h)) ∙ filled_parts _ _ _ c.split_at_mut-front.ensures.back_len
