@@ -1,8 +1,9 @@
 //! The narrow record of a cube, two bytes of seen and two of value: the kind of record of old lists.
-ghost use Rattle.std.specs.Prelude.{refl};
+ghost use Rattle.std.specs.Prelude.{◌≡◌, refl, ◌+◌, ◌≤◌, length};
+ghost use Rattle.records.specs.Numbers.{number_at};
 ghost use Rattle.records.specs.declared.reason.Reason.TheVariants.{CutShort, TooManyRecords, BadRecord};
 ghost use Rattle.cube.specs.Cubes.{good, Good};
-ghost use Rattle.converters.specs.NarrowRecord.{narrow_width, narrow_cubes, narrow_variables};
+ghost use Rattle.converters.specs.NarrowRecord.{narrow_width, narrow_mask, narrow_cubes, narrow_variables};
 ghost use Rattle.cube.specs.Lists.{most_records};
 ghost use Rattle.converters.specs.Kinds.{narrow_laws};
 
@@ -19,6 +20,16 @@ pub const NARROW_WIDTH: usize = 2 * MASK_WIDTH;
 
 /// Variables of a list of narrow records, at most.
 pub const NARROW_VARIABLES: usize = 16;
+
+/// The mask in the two bytes from byte `at` on of a list that has them. A function of its own, whose part is of a known length: only then does the compiler read many
+/// masks at once, and not byte by byte.
+fn mask_at(list: &[u8], at: usize) -> u32
+    requires { at + narrow_mask ≤ length list.now }
+    ensures { result ≡ number_at narrow_mask list.now at }
+{
+    let end = at + MASK_WIDTH;
+    numbers::number2_at(&list[at..end], 0) as u32
+}
 
 /// The narrow records of cubes: four bytes each.
 #[derive(Clone, Copy, Debug, PartialEq, Eq)]
@@ -56,15 +67,15 @@ impl Kind for NarrowCubes {
     #[inline(always)]
     fn read(bytes: &[u8]) -> Cube {
         Cube {
-            seen: numbers::number2_at(bytes, 0) as u32,
-            value: numbers::number2_at(bytes, MASK_WIDTH) as u32,
+            seen: mask_at(bytes, 0),
+            value: mask_at(bytes, MASK_WIDTH),
         }
     }
 
     #[inline(always)]
     fn is_good_at(n: usize, bytes: &[u8]) -> bool {
-        let seen = numbers::number2_at(bytes, 0) as u32;
-        let value = numbers::number2_at(bytes, MASK_WIDTH) as u32;
+        let seen = mask_at(bytes, 0);
+        let value = mask_at(bytes, MASK_WIDTH);
         Cube { seen, value }.is_good(n)
     }
 
