@@ -1,4 +1,7 @@
 //! The lists or the scripts of a row, end to end, with their lengths.
+ghost use Rattle.std.specs.Prelude.{suc, ◌≤◌, IfOk, vec_len};
+ghost use Rattle.selector.specs.Maps.{most_lists};
+
 use rows::item::Kind;
 use rows::reader::Reader;
 use selector::MOST_LISTS;
@@ -20,10 +23,13 @@ fn parts_of(
     alloc: Global,
     kind: Kind,
     most: usize,
-) -> Result<Parts, AllocError> {
+) -> Result<Parts, AllocError>
+    ensures bytes { IfOk result (λ parts. vec_len parts.bytes ≤ most) }
+    ensures lengths { IfOk result (λ parts. vec_len parts.lengths ≤ suc most_lists) }
+{
     let mut bytes = Vec::new(alloc);
     let mut lengths = Vec::new(alloc);
-    for _ in 0..MOST_PARTS {
+    while lengths.len() < MOST_PARTS {
         let before = reader.place();
         let part = reader.part(alloc, kind, most.saturating_sub(bytes.len()))?;
         if reader.place() == before {
@@ -36,9 +42,11 @@ fn parts_of(
 }
 
 /// Takes the numbers that stand here with a space between them.
-fn numbers(reader: &mut Reader<'_>, alloc: Global) -> Result<Vec<u64>, AllocError> {
+fn numbers(reader: &mut Reader<'_>, alloc: Global) -> Result<Vec<u64>, AllocError>
+    ensures { IfOk result (λ numbers. vec_len numbers ≤ suc most_lists) }
+{
     let mut numbers = Vec::new(alloc);
-    for _ in 0..MOST_PARTS {
+    while numbers.len() < MOST_PARTS {
         let Some(number) = reader.number() else {
             break;
         };
@@ -54,7 +62,10 @@ pub(crate) fn read(
     alloc: Global,
     kind: Kind,
     most: usize,
-) -> Result<Parts, AllocError> {
+) -> Result<Parts, AllocError>
+    ensures bytes { IfOk result (λ parts. vec_len parts.bytes ≤ most) }
+    ensures lengths { IfOk result (λ parts. vec_len parts.lengths ≤ suc most_lists) }
+{
     let mut parts = parts_of(reader, alloc, kind, most)?;
     let _ = reader.skip(b" ");
     if reader.skip(b"lengths") {

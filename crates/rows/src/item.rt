@@ -1,4 +1,6 @@
 //! The items of a part: cubes, outputs, steps, bits, places or starts; bytes in hexadecimal, after an `x` up to the next space; and what stands in brackets, so many times.
+ghost use Rattle.std.specs.Prelude.{◌≡◌, IsNone};
+
 use crate::reader::Reader;
 use cube::Cube;
 use steps::StepRecord;
@@ -21,7 +23,7 @@ pub enum Kind {
 
 /// An item: what stands between items, and says what follows; how many times what stands since the last bracket is meant; or a number, whose bytes are meant, the low byte first.
 #[derive(Clone, Copy, Debug, PartialEq, Eq)]
-pub(crate) enum Item {
+pub enum Item {
     Separator,
     Hexadecimal,
     Bracket,
@@ -116,8 +118,8 @@ impl Reader<'_> {
         }
     }
 
-    /// Takes what stands here, where it is an item of the kind. `raw` says that hexadecimal digits are.
-    pub(crate) fn item(&mut self, kind: Kind, raw: bool) -> Option<Item> {
+    /// What stands here, where it is an item of the kind. Where it is none, the front of it may be taken.
+    fn item_here(&mut self, kind: Kind, raw: bool) -> Option<Item> {
         let between = match *self.rest.first()? {
             b' ' | b',' => Item::Separator,
             b'x' => Item::Hexadecimal,
@@ -128,5 +130,17 @@ impl Reader<'_> {
         };
         self.advance(1);
         Some(between)
+    }
+
+    /// Takes what stands here, where it is an item of the kind; nothing where it is none. `raw` says that hexadecimal digits are.
+    pub fn item(&mut self, kind: Kind, raw: bool) -> Option<Item>
+        ensures { IsNone result → self.new ≡ self.old }
+    {
+        let here = *self;
+        let item = self.item_here(kind, raw);
+        if item.is_none() {
+            *self = here;
+        }
+        item
     }
 }

@@ -2,6 +2,7 @@
 #![tactic(auto)]
 
 pub mod call;
+pub mod data;
 pub mod given;
 pub mod head;
 pub mod item;

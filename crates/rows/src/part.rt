@@ -1,80 +1,109 @@
 //! A part of a row, from its colon on, as bytes.
-ghost use Rattle.std.specs.Prelude.{◌≤◌, IfOk, IsTrue, vec_len};
+ghost use Rattle.std.specs.Prelude.{◌≡◌, ◌+◌, ◌≤◌, IfOk, IfSome, length, vec_len};
+ghost use Rattle.io.specs.Counts.{IsPrefixLen};
 
 use crate::item::{Item, Kind};
 use crate::reader::Reader;
 use std::alloc::{AllocError, Global};
 
-/// What a part has from a place on, until it is there so many times or the part has more than `most` bytes.
-fn repeat(part: &mut Vec<u8>, from: usize, times: u16, most: usize) -> Result<(), AllocError>
-    requires { from ≤ vec_len part.old }
-    ensures { vec_len part.old ≤ vec_len part.new }
+/// How many bytes a part of `size` has with so many more, where a buffer has room for them.
+fn longer_by(out: &[u8], size: usize, more: usize) -> Option<usize>
+    ensures { IfSome result (λ longer. (longer ≡ size + more) × (longer ≤ length out.now)) }
 {
-    let to = part.len();
-    for _ in 1..times {
-        if most < part.len() {
-            return Ok(());
-        }
-        part.extend_from_within(from..to)?;
+    let longer = size.checked_add(more)?;
+    if out.len() < longer {
+        return None;
     }
-    Ok(())
+    Some(longer)
 }
 
-/// The bytes of an item, at the end of a part; what was in brackets since `group`, so many times.
-fn put(part: &mut Vec<u8>, item: Item, group: usize, most: usize) -> Result<(), AllocError>
-    requires { group ≤ vec_len part.old }
-    ensures { vec_len part.old ≤ vec_len part.new }
+/// Bytes, at the end of a part; how many it has then, where there is room.
+fn put_bytes(out: &mut [u8], size: usize, bytes: &[u8]) -> Option<usize>
+    ensures { IfSome result (λ longer. (size ≤ longer) × (longer ≤ length out.new)) }
+{
+    let longer = longer_by(out, size, bytes.len())?;
+    out[size..longer].copy_from_slice(bytes);
+    Some(longer)
+}
+
+/// What a part of `to` bytes has from a place on, until it is there so many times; how many bytes it has then, where there is room.
+fn repeat(out: &mut [u8], from: usize, to: usize, times: u16) -> Option<usize>
+    requires ordered { from ≤ to }
+    requires in_bounds { to ≤ length out.old }
+    ensures { IfSome result (λ longer. (to ≤ longer) × (longer ≤ length out.new)) }
+{
+    let mut size = to;
+    for _ in 1..times {
+        let longer = longer_by(out, size, to - from)?;
+        out.copy_within(from..to, size);
+        size = longer;
+    }
+    Some(size)
+}
+
+/// The bytes of an item, at the end of a part; what was in brackets since `group`, so many times. Answers how many bytes it has then, where there is room.
+fn put(out: &mut [u8], size: usize, item: Item, group: usize) -> Option<usize>
+    requires ordered { group ≤ size }
+    requires in_bounds { size ≤ length out.old }
+    ensures { IfSome result (λ longer. (size ≤ longer) × (longer ≤ length out.new)) }
 {
     match item {
-        Item::Separator | Item::Hexadecimal | Item::Bracket => Ok(()),
-        Item::Times(times) => repeat(part, group, times, most),
-        Item::Byte(b) => part.extend_from_slice(&[b]),
-        Item::Place(place) => part.extend_from_slice(&place.to_le_bytes()),
-        Item::Outputs(outputs) => part.extend_from_slice(&outputs.to_le_bytes()),
-        Item::Record(number) => part.extend_from_slice(&number.to_le_bytes()),
+        Item::Separator | Item::Hexadecimal | Item::Bracket => Some(size),
+        Item::Times(times) => repeat(out, group, size, times),
+        Item::Byte(b) => put_bytes(out, size, &[b]),
+        Item::Place(place) => put_bytes(out, size, &place.to_le_bytes()),
+        Item::Outputs(outputs) => put_bytes(out, size, &outputs.to_le_bytes()),
+        Item::Record(number) => put_bytes(out, size, &number.to_le_bytes()),
     }
 }
 
 impl Reader<'_> {
-    /// Takes all items that stand here; says whether they have at most so many bytes.
-    fn items(&mut self, kind: Kind, most: usize, part: &mut Vec<u8>) -> Result<bool, AllocError>
-        requires { vec_len part.old ≤ most }
-        ensures { IfOk result (λ fits. IsTrue fits → vec_len part.new ≤ most) }
+    /// Takes all items that stand here; answers how many bytes they have, where there is room.
+    fn items(&mut self, kind: Kind, out: &mut [u8]) -> Option<usize>
+        ensures { IfSome result (λ size. size ≤ length out.new) }
     {
-        let mut group = part.len();
+        let mut size = 0;
+        let mut group = 0;
         let mut raw = false;
         for _ in 0..self.rest.len() {
-            let here = *self;
             let Some(item) = self.item(kind, raw) else {
-                *self = here;
-                return Ok(true);
+                return Some(size);
             };
-            put(part, item, group, most)?;
-            if most < part.len() {
-                return Ok(false);
-            }
+            size = put(out, size, item, group)?;
             raw = match item {
                 Item::Hexadecimal => true,
                 Item::Byte(_) => raw,
                 _ => false,
             };
             if item == Item::Bracket {
-                group = part.len();
+                group = size;
             }
         }
-        Ok(true)
+        Some(size)
     }
 
-    /// Takes the part that begins with a colon here, up to where something else stands: nothing where no colon stands, or where the part would have more than `most` bytes.
+    /// Takes the part that begins with a colon here, up to where something else stands, to the front of a buffer; answers how many bytes it has. Nothing is taken where no
+    /// colon stands, or where the buffer has no room for the part.
+    pub fn part_into(&mut self, kind: Kind, out: &mut [u8]) -> usize
+        ensures { IsPrefixLen result out.new }
+    {
+        let before = *self;
+        if self.skip(b":") {
+            if let Some(size) = self.items(kind, out) {
+                return size;
+            }
+        }
+        *self = before;
+        0
+    }
+
+    /// The same, as a vector: nothing is taken either where the part would have more than `most` bytes.
     pub fn part(&mut self, alloc: Global, kind: Kind, most: usize) -> Result<Vec<u8>, AllocError>
         ensures { IfOk result (λ part. vec_len part ≤ most) }
     {
-        let before = *self;
-        let mut part = Vec::new(alloc);
-        if self.skip(b":") && !self.items(kind, most, &mut part)? {
-            *self = before;
-            part.clear();
-        }
+        let mut part = vec![in alloc; 0; most]?;
+        let size = self.part_into(kind, &mut part);
+        part.truncate(size);
         Ok(part)
     }
 }

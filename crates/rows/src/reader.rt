@@ -97,7 +97,7 @@ impl<'a> Reader<'a> {
     }
 
     /// Takes a word where it stands here, and a number; 0 where there is none.
-    pub(crate) fn field(&mut self, word: &[u8]) -> usize {
+    pub fn field(&mut self, word: &[u8]) -> usize {
         let _ = self.skip(word);
         self.number().unwrap_or(0)
     }
