@@ -12,6 +12,10 @@ pub const LIST_BYTES: usize = cube::list::RECORD_WIDTH * (cube::list::MOST_RECOR
 /// Bytes of the script that are read: one step more than the most.
 pub const SCRIPT_BYTES: usize = script::check::STEP_WIDTH * (script::check::MOST_STEPS + 1);
 
+const _: () = prove!(LIST_BYTES == 32776);
+
+const _: () = prove!(SCRIPT_BYTES == 8200);
+
 /// A path that is no text in UTF-8 names no file: std takes no other.
 fn name_of(path: &[u8]) -> io::Result<&str> {
     str::from_utf8(path).map_err(|_| io::Error::from(ErrorKind::InvalidInput))

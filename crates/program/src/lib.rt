@@ -4,5 +4,6 @@
 pub mod file;
 pub mod label;
 pub mod line;
+pub mod part;
 pub mod print;
 pub mod told;

@@ -1,5 +1,5 @@
 //! The files of a map: `bit0`, `bit1` and so on, with an ending, loaded one after the other.
-ghost use Rattle.std.specs.Prelude.{◌≡◌, ◌≤◌, length, take};
+ghost use Rattle.std.specs.Prelude.{◌≡◌, ◌*◌, ◌≤◌, length, take, IfOk, vec_len};
 ghost use Rattle.io.specs.Counts.{IsPrefixLen};
 ghost use Rattle.text.specs.Places.{Laid};
 ghost use Rattle.selector.specs.Maps.{most_lists};
@@ -55,6 +55,8 @@ pub(crate) fn load_bits<R: Files + AllocGlobal>(
     most: usize,
 ) -> Result<Bits, Told>
     requires { most ≤ most_lists }
+    ensures few { IfOk result (λ bits. vec_len bits.lengths ≤ most) }
+    ensures short { IfOk result (λ bits. vec_len bits.bytes ≤ most * width) }
 {
     let mut bytes = Vec::new(rt.alloc());
     let mut lengths = Vec::new(rt.alloc());

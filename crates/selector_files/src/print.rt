@@ -3,7 +3,7 @@ ghost use Rattle.std.specs.Prelude.{◌≤◌, ◌<◌, length};
 ghost use Rattle.cube.specs.Lists.{most_variables};
 ghost use Rattle.selector.specs.Maps.{most_lists};
 
-use program::print;
+use program::{part, print};
 use records::place;
 
 /// A bit: how many products its list was given with and has now, and the list.
@@ -22,7 +22,7 @@ pub(crate) fn burned(rt: &impl Print, n: usize, lengths: &[u64], sizes: &[u64], 
 {
     let mut rest = lists;
     for (k, (given, size)) in lengths.iter().zip(sizes).enumerate() {
-        let (list, after) = rest.split_at(rest.len().min(*size as usize));
+        let (list, after) = part::split(*size as usize, rest);
         bit_list(rt, n, k, *given, list);
         rest = after;
     }
@@ -49,7 +49,7 @@ pub fn shown(rt: &impl Print, slot: usize, numbers: &[u64], bytes: &[u8])
     let mut rest = bytes;
     for (k, number) in numbers.iter().enumerate() {
         let size = (*number as usize).saturating_mul(place::PLACE_WIDTH);
-        let (places, after) = rest.split_at(rest.len().min(size));
+        let (places, after) = part::split(size, rest);
         bit_reasons(rt, slot, k, places);
         rest = after;
     }

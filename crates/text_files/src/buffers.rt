@@ -27,3 +27,13 @@ pub const VECTOR_BYTES: usize = 256;
 
 /// Bytes of a file of records that are loaded: one record more than the most.
 pub const PACKED_BYTES: usize = SHARES_BYTES + shared::list::SHARED_WIDTH;
+
+const _: () = prove!(TEXT_BYTES == 1048577);
+
+const _: () = prove!(SHARES_BYTES == 49152 && CUBES_BYTES == 32768 && STEPS_BYTES == 8192);
+
+const _: () = prove!(MAP_TEXT_BYTES == 270464 && SCRIPT_TEXT_BYTES == 22528);
+
+const _: () = prove!(PLACES_BYTES == 8192 && MAP_PLACES_BYTES == 98304);
+
+const _: () = prove!(VECTOR_BYTES == 256 && PACKED_BYTES == 49164);

@@ -10,10 +10,7 @@ pub mod told;
 
 ghost use Rattle.std.specs.Prelude.{◌≡◌, ◌≤◌};
 
-/// The first so many records of a buffer, each of so many bytes; the whole buffer where it has fewer.
-pub fn first_records(width: usize, count: usize, bytes: &[u8]) -> &[u8] {
-    &bytes[..bytes.len().min(count.saturating_mul(width))]
-}
+pub use program::part::first_records;
 
 /// A number of variables or of outputs as 32 bits: 32 in place of one that is larger.
 pub fn at_most_32(x: usize) -> u32

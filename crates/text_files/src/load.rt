@@ -1,4 +1,6 @@
 //! Files that are loaded.
+ghost use Rattle.std.specs.Prelude.{◌≤◌, IfOk, vec_len};
+
 use crate::buffers;
 use crate::told::{Told, Trouble};
 use program::file;
@@ -28,7 +30,9 @@ pub fn bytes<'a, R: Files + AllocGlobal>(
     rt: &R,
     path: &'a [u8],
     most: usize,
-) -> Result<Vec<u8>, Told<'a>> {
+) -> Result<Vec<u8>, Told<'a>>
+    ensures { IfOk result (λ bytes. vec_len bytes ≤ most) }
+{
     file::load(rt, path, most).map_err(|error| not_loaded(path, error))
 }
 

@@ -2,7 +2,10 @@
 use explain::InWords;
 use records::Refusal;
 use std::alloc::AllocError;
-use std::{fmt, io};
+use std::fmt;
+
+/// The descriptor of standard error.
+const STDERR: i32 = 2;
 
 /// What is wrong with a file, or with what is asked of it.
 #[derive(Clone, Copy, Debug, PartialEq, Eq)]
@@ -50,11 +53,15 @@ impl fmt::Display for Trouble<'_> {
 }
 
 impl Told<'_> {
-    /// What is told, on a line of its own. Words of the command need not be text, and are written as they are.
-    pub fn tell(&self, err: &impl Print) -> io::Result<()> {
+    /// What is told, on a line of its own; that standard output can't be written, on standard error, whatever `err` is. Words of the command need not be text, and are
+    /// written as they are.
+    pub fn tell(&self, err: &impl Print) -> std::io::Result<()> {
         match *self {
             Told::OutOfMemory => println!(err; "druthmoy: out of memory"),
-            Told::NotPrinted => println!(err; "druthmoy: standard output can't be written"),
+            Told::NotPrinted => {
+                let _ = io::write_all(STDERR, b"druthmoy: standard output can't be written\n");
+                Ok(())
+            }
             Told::OfFile(file, trouble) => {
                 err.write_all(b"druthmoy: ")?;
                 err.write_all(file)?;

@@ -2,12 +2,13 @@
 //! there are printed.
 #![tactic(auto)]
 
-ghost use Rattle.std.specs.Prelude.{◌≡◌, [], ◌∷◌, ◌++◌, ◌<◌, length, take};
+ghost use Rattle.std.specs.Prelude.{◌≡◌, [], ◌∷◌, ◌++◌, ◌*◌, ◌<◌, length, take};
 ghost use Rattle.io.specs.Counts.{IsPrefixLen};
+ghost use Rattle.records.specs.Places.{place_width};
 ghost use Rattle.text.specs.Numbers.{decimal};
 
 use program::told::Told;
-use program::{file, label, line, print};
+use program::{file, label, line, part, print};
 use records::{Reason, place};
 use std::rt::Files;
 
@@ -41,12 +42,18 @@ fn places(rt: &impl Print, bytes: &[u8]) {
     }
 }
 
+/// The bytes of the first so many places of a buffer; all of them where it has fewer.
+fn first_places(count: usize, bytes: &[u8]) -> &[u8]
+    ensures { result.now ≡ take (count * place_width) bytes.now }
+{
+    part::first_records(place::PLACE_WIDTH, count, bytes)
+}
+
 /// The reasons of a list at a label, and what is printed of them.
 fn show<R: AllocGlobal + Print>(rt: &R, n: usize, list: &[u8], a: u64) -> Result<(), Told> {
     let mut out = vec![in rt.alloc(); 0u8; PLACES_BYTES]?;
     let shown = reasons::reasons(n, list, a, &mut out)?;
-    out.truncate(shown.count.saturating_mul(place::PLACE_WIDTH));
-    places(rt, &out);
+    places(rt, first_places(shown.count, &out));
     Ok(())
 }
 
