@@ -1,5 +1,5 @@
 //! Files that are loaded, as far as they are taken, and files that are written.
-ghost use Rattle.std.specs.Prelude.{◌≤◌, IfOk, vec_len};
+ghost use Rattle.std.specs.Prelude.{◌≡◌, [], ◌∷◌, ◌≤◌, IfOk, vec_len};
 
 use std::fs::OpenFile;
 use std::io::{ErrorKind, Read, Write};
@@ -12,9 +12,12 @@ pub const LIST_BYTES: usize = cube::list::RECORD_WIDTH * (cube::list::MOST_RECOR
 /// Bytes of the script that are read: one step more than the most.
 pub const SCRIPT_BYTES: usize = script::check::STEP_WIDTH * (script::check::MOST_STEPS + 1);
 
-const _: () = prove!(LIST_BYTES == 32776);
-
-const _: () = prove!(SCRIPT_BYTES == 8200);
+/// Both by their values: a longer list and a longer script are refused, and not cut.
+pub fn limits() -> [usize; 2]
+    ensures { result ≡ 32776 ∷ 8200 ∷ [] }
+{
+    [LIST_BYTES, SCRIPT_BYTES]
+}
 
 /// A path that is no text in UTF-8 names no file: std takes no other.
 fn name_of(path: &[u8]) -> io::Result<&str> {

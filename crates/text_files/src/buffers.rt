@@ -1,4 +1,5 @@
 //! How long the buffers of the commands are.
+ghost use Rattle.std.specs.Prelude.{◌≡◌, [], ◌∷◌};
 
 /// Bytes of a text that are loaded: one more than is read, by which it is too long.
 pub const TEXT_BYTES: usize = lines::MOST_TEXT + 1;
@@ -28,12 +29,20 @@ pub const VECTOR_BYTES: usize = 256;
 /// Bytes of a file of records that are loaded: one record more than the most.
 pub const PACKED_BYTES: usize = SHARES_BYTES + shared::list::SHARED_WIDTH;
 
-const _: () = prove!(TEXT_BYTES == 1048577);
-
-const _: () = prove!(SHARES_BYTES == 49152 && CUBES_BYTES == 32768 && STEPS_BYTES == 8192);
-
-const _: () = prove!(MAP_TEXT_BYTES == 270464 && SCRIPT_TEXT_BYTES == 22528);
-
-const _: () = prove!(PLACES_BYTES == 8192 && MAP_PLACES_BYTES == 98304);
-
-const _: () = prove!(VECTOR_BYTES == 256 && PACKED_BYTES == 49164);
+/// All of them by their values, in the order above: a longer text is refused, and not cut, and the longest lists and scripts have room.
+pub fn lengths() -> [usize; 10]
+    ensures { result ≡ 1048577 ∷ 49152 ∷ 32768 ∷ 8192 ∷ 270464 ∷ 22528 ∷ 8192 ∷ 98304 ∷ 256 ∷ 49164 ∷ [] }
+{
+    [
+        TEXT_BYTES,
+        SHARES_BYTES,
+        CUBES_BYTES,
+        STEPS_BYTES,
+        MAP_TEXT_BYTES,
+        SCRIPT_TEXT_BYTES,
+        PLACES_BYTES,
+        MAP_PLACES_BYTES,
+        VECTOR_BYTES,
+        PACKED_BYTES,
+    ]
+}
