@@ -72,7 +72,7 @@ pub fn reasons_into(
 ) -> Result<usize, MapRefusal>
     ensures { ReasonsInto n lists.now lengths.now a out.old numbers.old result out.new numbers.new }
 {
-    check_map_reasons(lists, lengths, out.len())?;
+    check_map_reasons(lists, lengths, out.len()).map_err(|why| MapRefusal::from(why))?;
     let lists = Lists {
         bytes: lists,
         lengths,

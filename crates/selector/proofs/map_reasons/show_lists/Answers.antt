@@ -1,7 +1,7 @@
 -- `map_reasons::show_lists` meets its contract: the loop keeps `Showing`.
 -- Assumes nothing.
 use mathlib.Core.Path.{refl, sym, ap, ◌∙◌, subst}
-use Prim.Native.Nat.{ℕ, ◌+◌}
+use Prim.Native.Nat.{ℕ, ◌+◌, ◌*◌, ◌%◌, ◌^◌, ◌<◌}
 use native.Mathlib.Omega.{arith}
 use lib.ListN.{length}
 use Rattle.std.proofs.Common.{rules}
@@ -47,7 +47,8 @@ bounds-numbers-k c =
 pub with_bit-slot-requires : goal.with_bit-slot-requires
 with_bit-slot-requires c =
     let t = turn (Showing _ _ _ _ _ _ _ _ _) _ _ _ _ c.loop-k.invariant.0 c.loop-k.invariant.1 _ _ c.in-Some.ensures.steps.0 _ c.in-Some.ensures.steps.1 in
-    showing_bit _ _ _ _ _ c.requires _ _ _ _ _ t.0 t.1.below _ t.1.part_is _ refl _ c.show_part.ensures.result_value _ _ (ap reasoned c.in-Ok.is)
+    subst (λ (i : ℕ). (c.loop-k.slot < 2 ^ i) × ((i < most_lists) × (c.in-Ok.shown.count % 2 < 2))) (omega (arith, t.1.below, c.requires.lists_are.few))
+    (showing_bit _ _ _ _ _ c.requires _ _ _ _ _ t.0 t.1.below _ t.1.part_is _ refl _ c.show_part.ensures.result_value _ _ (ap reasoned c.in-Ok.is))
 
 pub overflow_mul-to : goal.overflow_mul-to
 overflow_mul-to c =
@@ -72,7 +73,7 @@ loop-k-preserved c =
     let t = turn (Showing _ _ _ _ _ _ _ _ _) _ _ _ _ c.loop-k.invariant.0 c.loop-k.invariant.1 _ _ c.in-Some.ensures.steps.0 _ c.in-Some.ensures.steps.1 in
     let next = c.in-Some.ensures.steps.2 ∙ ap (λ (i : ℕ). i + 1) (sym c.in-Some.ensures.steps.1) in (
       showing_more _ _ _ _ _ c.requires _ _ _ _ _ t.0 t.1.below _ t.1.part_is _ refl _ c.show_part.ensures.result_value _ _ (ap reasoned c.in-Ok.is)
-          _ c.show_part.ensures.out_after _ c.with_bit-slot.ensures _ next,
+          _ c.show_part.ensures.out_after _ (c.with_bit-slot.ensures ∙ ap (λ (i : ℕ). c.loop-k.slot + (c.in-Ok.shown.count % 2) * 2 ^ i) (omega (arith, t.1.below, c.requires.lists_are.few))) _ next,
       t.1.then _ next,
     )
 

@@ -6,6 +6,7 @@ use Prim.Native.Nat.{ℕ, ◌+◌, ◌≤◌}
 use native.Mathlib.Omega.{arith}
 use lib.ListN.{length}
 use Rattle.std.proofs.Common.{rules}
+use Rattle.std.proofs.lemmas.Grind.{common_steps}
 use Rattle.std.specs.Prelude.{Err}
 use Rattle.selector.proofs.Left.{parts_long, left_all, left_none, turn}
 use Rattle.selector.proofs.settle_map.Settling.{Settling, settling_none, settling_room, settling_index, settling_refused, settling_to, settling_total, settling_more, settling_rest, settling_done}
@@ -37,7 +38,7 @@ pub returns-in-Err : goal.returns-in-Err
 returns-in-Err c =
     let t = turn (Settling _ _ _ _ _ _ _) _ _ _ _ c.loop-k.invariant.0 c.loop-k.invariant.1 _ _ c.in-Some.ensures.steps.0.0 _ c.in-Some.ensures.steps.1 in
     let s = turn (Settling _ _ _ _ _ _ _) _ _ _ _ c.loop-k.invariant.0 c.loop-k.invariant.2 _ _ c.in-Some.ensures.steps.0.1 _ c.in-Some.ensures.steps.1 in
-    settling_refused _ _ c.requires _ _ _ _ _ _ t.0 t.1.below _ _ t.1.part_is s.1.part_is _ refl _ c.settle_part.ensures.part_told _ c.in-Err.is _ (length c.settle_part.new.out)
+    settling_refused _ _ c.requires _ _ _ _ _ _ t.0 t.1.below _ _ (grind (arith, common_steps, t.1.part_is)) (grind (arith, common_steps, s.1.part_is)) _ (omega arith) _ c.settle_part.ensures.part_told _ c.in-Err.is _ (length c.settle_part.new.out)
     c.clear.ensures (search (rules, c.loop-k.invariant.0.out_long)) _ (c.refused.ensures.0 ∙ ap Err c.of_list.ensures, c.refused.ensures.1)
 
 pub bounds-sizes-k : goal.bounds-sizes-k
@@ -50,30 +51,30 @@ pub overflow_add-total : goal.overflow_add-total
 overflow_add-total c =
     let t = turn (Settling _ _ _ _ _ _ _) _ _ _ _ c.loop-k.invariant.0 c.loop-k.invariant.1 _ _ c.in-Some.ensures.steps.0.0 _ c.in-Some.ensures.steps.1 in
     let s = turn (Settling _ _ _ _ _ _ _) _ _ _ _ c.loop-k.invariant.0 c.loop-k.invariant.2 _ _ c.in-Some.ensures.steps.0.1 _ c.in-Some.ensures.steps.1 in
-    omega (arith, settling_total _ _ c.requires _ _ _ _ _ _ t.0 t.1.below _ _ t.1.part_is s.1.part_is _ refl _ c.settle_part.ensures.part_told _ _ c.in-Ok.is, c.loop-k.invariant.0.out_long, c.well_formed)
+    omega (arith, settling_total _ _ c.requires _ _ _ _ _ _ t.0 t.1.below _ _ (grind (arith, common_steps, t.1.part_is)) (grind (arith, common_steps, s.1.part_is)) _ (omega arith) _ c.settle_part.ensures.part_told _ _ c.in-Ok.is, c.loop-k.invariant.0.out_long, c.well_formed)
 
 pub overflow_add-to : goal.overflow_add-to
 overflow_add-to c =
     let t = turn (Settling _ _ _ _ _ _ _) _ _ _ _ c.loop-k.invariant.0 c.loop-k.invariant.1 _ _ c.in-Some.ensures.steps.0.0 _ c.in-Some.ensures.steps.1 in
     let s = turn (Settling _ _ _ _ _ _ _) _ _ _ _ c.loop-k.invariant.0 c.loop-k.invariant.2 _ _ c.in-Some.ensures.steps.0.1 _ c.in-Some.ensures.steps.1 in
-    omega (arith, settling_to _ _ c.requires _ _ _ _ _ _ t.0 t.1.below _ _ t.1.part_is s.1.part_is _ refl _ c.settle_part.ensures.part_told _ _ c.in-Ok.is, c.loop-k.invariant.0.out_long, c.well_formed)
+    omega (arith, settling_to _ _ c.requires _ _ _ _ _ _ t.0 t.1.below _ _ (grind (arith, common_steps, t.1.part_is)) (grind (arith, common_steps, s.1.part_is)) _ (omega arith) _ c.settle_part.ensures.part_told _ _ c.in-Ok.is, c.loop-k.invariant.0.out_long, c.well_formed)
 
 pub loop-k-preserved : goal.loop-k-preserved
 loop-k-preserved c =
     let t = turn (Settling _ _ _ _ _ _ _) _ _ _ _ c.loop-k.invariant.0 c.loop-k.invariant.1 _ _ c.in-Some.ensures.steps.0.0 _ c.in-Some.ensures.steps.1 in
     let s = turn (Settling _ _ _ _ _ _ _) _ _ _ _ c.loop-k.invariant.0 c.loop-k.invariant.2 _ _ c.in-Some.ensures.steps.0.1 _ c.in-Some.ensures.steps.1 in
     let next = c.in-Some.ensures.steps.2 ∙ ap (λ (i : ℕ). i + 1) (sym c.in-Some.ensures.steps.1) in (
-      settling_more _ _ c.requires _ _ _ _ _ _ t.0 t.1.below _ _ t.1.part_is s.1.part_is _ refl _ c.settle_part.ensures.part_told _ _ c.in-Ok.is
+      settling_more _ _ c.requires _ _ _ _ _ _ t.0 t.1.below _ _ (grind (arith, common_steps, t.1.part_is)) (grind (arith, common_steps, s.1.part_is)) _ (omega arith) _ c.settle_part.ensures.part_told _ _ c.in-Ok.is
           _ c.settle_part.ensures.out_after (search rules) _ (search rules) _ next,
       t.1.then _ next,
       s.1.then _ next,
     )
 
 pub slice_bounds-clear-count : goal.slice_bounds-clear-count
-slice_bounds-clear-count c = settling_rest _ _ c.requires _ _ _ _ _ _ c.loop-k.invariant.0 c.loop-k.invariant.1.within
+slice_bounds-clear-count c = omega (arith, settling_rest _ _ c.requires _ _ _ _ _ _ c.loop-k.invariant.0 c.loop-k.invariant.1.within, c.loop-k.invariant.0.out_long, c.requires.room)
 
 pub slice_bounds-clear-start : goal.slice_bounds-clear-start
-slice_bounds-clear-start c = omega (arith, settling_rest _ _ c.requires _ _ _ _ _ _ c.loop-k.invariant.0 c.loop-k.invariant.1.within)
+slice_bounds-clear-start c = omega (arith, settling_rest _ _ c.requires _ _ _ _ _ _ c.loop-k.invariant.0 c.loop-k.invariant.1.within, c.loop-k.invariant.0.out_long, c.requires.room)
 
 pub returns : goal.returns
 returns c =

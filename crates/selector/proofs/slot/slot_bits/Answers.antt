@@ -1,8 +1,10 @@
 -- `slot::slot_bits` meets its contract: the loop keeps `Slotting`.
 -- Assumes nothing.
-use mathlib.Core.Path.{◌≡◌, sym, ap, ◌∙◌, subst}
+use mathlib.Core.Path.{◌≡◌, ap, ◌∙◌, subst}
 use Prim.Native.Nat.{ℕ, ◌+◌, ◌*◌, ◌^◌, ◌<◌}
+use native.Mathlib.Omega.{arith}
 use Rattle.std.proofs.Common.{rules}
+use Rattle.std.proofs.lemmas.Grind.{common_steps}
 use Rattle.std.specs.Prelude.{Err}
 use Rattle.cube.specs.Calls.{valued}
 use Rattle.selector.specs.declared.MapRefusal.{MapRefusal}
@@ -27,23 +29,23 @@ returns-in_err-found c =
     let made : c.in_err-found.field-0.0 ≡ of_list e.why c.in-Some.k = search (rules, e.known) in
     handed_map _ _ _ c.from_residual.ensures
     (ap (λ (f : MapRefusal). map_told (Err f)) (made ∙ ap (of_list e.why) c.in-Some.ensures.steps.1)
-    ∙ slotting_refused _ _ _ _ c.requires _ _ c.loop-k.invariant.0 x.below _ x.part_is _ c.value.ensures _ (ap valued e.is))
+    ∙ slotting_refused _ _ _ _ c.requires _ _ c.loop-k.invariant.0 x.below _ (grind (arith, common_steps, x.part_is)) _ c.value.ensures _ (ap valued e.is))
 
 pub with_bit-slot-requires : goal.with_bit-slot-requires
 with_bit-slot-requires c =
     let at = c.in-Some.ensures.steps.1 in
     let x = left_next _ _ _ _ c.loop-k.invariant.1 _ _ c.in-Some.ensures.steps.0 in
     let is = known_ok c.value.result _ c.in_ok-found.ensures.cases in
-    subst (λ (i : ℕ). (c.loop-k.slot < 2 ^ i) × ((i < most_lists) × (c.in_ok-found.found.bit < 2))) (sym at)
-    (slotting_bit _ _ _ _ c.requires _ _ c.loop-k.invariant.0 x.below _ x.part_is _ c.value.ensures _ _ (ap valued is))
+    subst (λ (i : ℕ). (c.loop-k.slot < 2 ^ i) × ((i < most_lists) × (c.in_ok-found.found.bit < 2))) (omega (arith, at, x.below, c.requires.few))
+    (slotting_bit _ _ _ _ c.requires _ _ c.loop-k.invariant.0 x.below _ (grind (arith, common_steps, x.part_is)) _ c.value.ensures _ _ (ap valued is))
 
 pub loop-k-preserved : goal.loop-k-preserved
 loop-k-preserved c =
     let at = c.in-Some.ensures.steps.1 in
     let x = left_next _ _ _ _ c.loop-k.invariant.1 _ _ c.in-Some.ensures.steps.0 in
     let is = known_ok c.value.result _ c.in_ok-found.ensures.cases in (
-      slotting_more _ _ _ _ c.requires _ _ c.loop-k.invariant.0 x.below _ x.part_is _ c.value.ensures _ _ (ap valued is) _
-          (c.with_bit-slot.ensures ∙ ap (λ (i : ℕ). c.loop-k.slot + c.in_ok-found.found.bit * 2 ^ i) at) _ c.in-Some.ensures.steps.2,
+      slotting_more _ _ _ _ c.requires _ _ c.loop-k.invariant.0 x.below _ (grind (arith, common_steps, x.part_is)) _ c.value.ensures _ _ (ap valued is) _
+          (c.with_bit-slot.ensures ∙ ap (λ (i : ℕ). c.loop-k.slot + c.in_ok-found.found.bit * 2 ^ i) (omega (arith, at, x.below, c.requires.few))) _ c.in-Some.ensures.steps.2,
       x.then _ c.in-Some.ensures.steps.2,
     )
 
