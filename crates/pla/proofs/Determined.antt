@@ -28,7 +28,7 @@ use Rattle.pla.specs.declared.names.Name.TheVariants.{Inputs, Outputs, Kind, Pro
 use Rattle.pla.specs.declared.names.UnknownName.{UnknownName}
 use Rattle.pla.specs.Products.{lacks}
 use Rattle.pla.specs.Pla.{line_is, read_pla}
-use Rattle.pla.proofs.Reasons.{reason_of, reason_known}
+use Rattle.records.proofs.Reasons.{reason_of, reason_known}
 use Rattle.pla.proofs.names.NameTryFromU8.try_from.Kinds as try_from_kinds
 use Rattle.pla.proofs.names.NameTryFromU8.try_from.Reads as try_from_reads
 use Rattle.pla.proofs.names.Name.of.Kinds as of_kinds

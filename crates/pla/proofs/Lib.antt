@@ -3,4 +3,3 @@ pub mod Products
 pub mod Saying
 pub mod Reading
 pub mod Determined
-pub mod Reasons

@@ -77,11 +77,12 @@ fn gathered(text: &[u8], out: &mut [u8]) -> Result<MapSize, Refusal>
         at = end + 1;
         match said {
             Line::Over => return finished(h, count, line),
+            // Field by field, here and below: a header that is assigned whole brings the bytes behind `esop`, where no field is, and each line would write them.
             Line::Knows(g) => {
-                h = g;
+                h = Header { ..g };
             }
             Line::Has(g, s) => {
-                h = g;
+                h = Header { ..g };
                 if s.outputs != 0 {
                     if room <= count {
                         return Err(Reason::TooManyProducts.at(line));
