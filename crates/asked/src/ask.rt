@@ -17,7 +17,7 @@ pub fn check_one(rt: &impl Print, n: usize, list: &[u8]) {
 }
 
 /// How large a map of several outputs is.
-pub fn check_shared(rt: &impl Print, map: &Map) {
+pub fn check_shared(rt: &impl Print, map: Map<'_>) {
     let products = map.products.len() / shared::list::SHARED_WIDTH;
     let _ = println!(rt;
         "inputs {} outputs {} products {products}",
@@ -31,7 +31,7 @@ pub fn why_one<'a, R: System, E: Print>(
     n: usize,
     list: &[u8],
 ) -> Result<(), Told<'a>> {
-    let mut places = vec![in job.rt.alloc(); 0u8; buffers::PLACES_BYTES]?;
+    let mut places = buffers::places();
     let shown = reasons::reasons(n, list, label_in(job.word), &mut places).map_err(
         |refusal| job.of_label(refusal),
     )?;
@@ -77,26 +77,33 @@ pub fn slot_one<'a, R: System, E: Print>(
 }
 
 /// The slot of a label, where there are several outputs.
-pub fn slot<'a, R: System, E: Print>(job: &Job<'a, R, E>, map: &Map) -> Result<(), Told<'a>> {
+pub fn slot<'a, R: System, E: Print>(job: &Job<'a, R, E>, map: Map<'_>) -> Result<(), Told<'a>> {
     if MOST_LISTS < map.outputs {
         return Err(job.whole(Reason::NotOneToTwelve.at(0)));
     }
-    let all = lists::lists_of(job.rt, map.outputs, &map.products)?;
-    slot_of(job, map.inputs, &all.bytes, &all.lengths)
+    let mut bytes = lists::buffer();
+    let mut lengths = [0u64; MOST_LISTS];
+    let all = lists::lists_of(map.outputs, map.products, &mut bytes, &mut lengths);
+    slot_of(job, map.inputs, all.bytes, all.lengths)
 }
 
 /// Why a label gets its slot, where there are several outputs: each bit, and the places of its products that are true, in the list of its output.
-pub fn why_shared<'a, R: System, E: Print>(job: &Job<'a, R, E>, map: &Map) -> Result<(), Told<'a>> {
+pub fn why_shared<'a, R: System, E: Print>(
+    job: &Job<'a, R, E>,
+    map: Map<'_>,
+) -> Result<(), Told<'a>> {
     if MOST_LISTS < map.outputs {
         return Err(job.whole(Reason::NotOneToTwelve.at(0)));
     }
-    let all = lists::lists_of(job.rt, map.outputs, &map.products)?;
-    let mut places = vec![in job.rt.alloc(); 0u8; buffers::MAP_PLACES_BYTES]?;
+    let mut bytes = lists::buffer();
+    let mut lengths = [0u64; MOST_LISTS];
+    let all = lists::lists_of(map.outputs, map.products, &mut bytes, &mut lengths);
+    let mut places = buffers::map_places();
     let a = label_in(job.word);
     let told = selector::map_reasons::map_reasons(
         map.inputs,
-        &all.bytes,
-        &all.lengths,
+        all.bytes,
+        all.lengths,
         a,
         &mut places,
     );

@@ -1,6 +1,8 @@
 //! The commands of the program `druthmoy`, on maps and scripts as text.
 #![tactic(auto)]
 
+ghost use Rattle.std.specs.Prelude.{◌≤◌};
+
 use asked::ask;
 use command_words::help;
 use command_words::verb::Verb;
@@ -8,13 +10,12 @@ use packed::binary;
 use records::Reason;
 use rewritten::{rewrite, settle};
 use sheet::page;
-use std::alloc::AllocError;
 use std::env::FillError;
 use std::rt::Env;
 use text_files::job::{Job, System};
 use text_files::load::Map;
 use text_files::told::Told;
-use text_files::{buffers, load};
+use text_files::{buffers, first_records, load};
 
 /// Bytes of a word, at most.
 const WORD_BYTES: usize = 4096;
@@ -23,7 +24,7 @@ const WORD_BYTES: usize = 4096;
 fn on_shared<'a, R: System, E: Print>(
     job: &Job<'a, R, E>,
     verb: Verb,
-    map: &Map,
+    map: Map<'_>,
 ) -> Result<(), Told<'a>> {
     match verb {
         Verb::Settle => settle::shared(job, map),
@@ -33,7 +34,7 @@ fn on_shared<'a, R: System, E: Print>(
         }
         Verb::Why => ask::why_shared(job, map),
         Verb::Slot => ask::slot(job, map),
-        Verb::Pack => binary::pack(job, &map.products),
+        Verb::Pack => binary::pack(job, map.products),
         Verb::Sheet => page::shared(job, map),
         _ => Err(job.whole(Reason::NotOneOutput.at(0))),
     }
@@ -67,16 +68,19 @@ fn on_one<'a, R: System, E: Print>(
 
 /// The map of the first word, and what the command does with it. A product in no output is not among the records of a map of one output.
 fn on_map<'a, R: System, E: Print>(job: &Job<'a, R, E>, verb: Verb) -> Result<(), Told<'a>> {
-    let map = load::map_of(job.rt, job.file)?;
+    let mut products = buffers::shares();
+    let map = load::map_of(job.rt, job.file, &mut products)?;
     if map.outputs != 1 {
-        return on_shared(job, verb, &map);
+        return on_shared(job, verb, map);
     }
-    let mut cubes = vec![in job.rt.alloc(); 0u8; buffers::CUBES_BYTES]?;
-    match outputs::list_of(0, &map.products, &mut cubes) {
-        Ok(count) => {
-            cubes.truncate(count.saturating_mul(cube::list::RECORD_WIDTH));
-            on_one(job, verb, map.inputs, &cubes)
-        }
+    let mut cubes = buffers::cubes();
+    match outputs::list_of(0, map.products, &mut cubes) {
+        Ok(count) => on_one(
+            job,
+            verb,
+            map.inputs,
+            first_records(cube::list::RECORD_WIDTH, count, &cubes),
+        ),
         Err(_) => Ok(()),
     }
 }
@@ -129,53 +133,43 @@ pub fn command<R: System, E: Print>(rt: &R, err: &E, name: &[u8], words: &[&[u8]
     with_words(rt, err, verb, words);
 }
 
-/// A word that the program was started with, or none where there are no more; one that is longer than the buffer has no byte.
-fn word_of<R: Env + AllocGlobal>(
-    rt: &R,
-    i: usize,
-    buffer: &mut [u8],
-) -> Result<Option<Vec<u8>>, AllocError> {
-    let mut word = Vec::new(rt.alloc());
+/// Word i that the program was started with, at the front of a buffer: it has no byte where it is missing or longer than the buffer.
+fn word_of<'a, R: Env>(rt: &R, i: usize, buffer: &'a mut [u8]) -> &'a [u8] {
     match rt.arg(i, buffer) {
-        Ok(end) => word.extend_from_slice(&buffer[..end])?,
-        Err(FillError::TooLong) => {}
-        Err(FillError::NotPresent) => return Ok(None),
+        Ok(end) => &buffer[..end],
+        Err(_) => &[],
     }
-    Ok(Some(word))
 }
 
-/// The words that the program was started with, its own name among them.
-fn words_of<R: Env + AllocGlobal>(rt: &R) -> Result<Vec<Vec<u8>>, AllocError> {
-    let mut buffer = vec![in rt.alloc(); 0u8; WORD_BYTES]?;
-    let mut words = Vec::new(rt.alloc());
-    for i in 0..usize::MAX {
-        let Some(word) = word_of(rt, i, &mut buffer)? else {
-            break;
-        };
-        words.push(word)?;
-    }
-    Ok(words)
-}
-
-/// The program with these words.
-fn with_args<R: System, E: Print>(rt: &R, err: &E, args: &[Vec<u8>]) -> Result<(), AllocError> {
-    let mut words = Vec::new(rt.alloc());
-    for arg in args.iter().skip(2) {
-        words.push(arg.as_slice())?;
-    }
-    match args.get(1) {
-        Some(name) => command(rt, err, name, &words),
-        None => {
-            let _ = err.println(help::MISUSED);
+/// How many words the program was started with, its own name among them; so many at most.
+fn words_among<R: Env>(rt: &R, most: usize) -> usize
+    ensures { result ≤ most }
+{
+    let mut byte = [0u8; 1];
+    for i in 0..most {
+        if let Err(FillError::NotPresent) = rt.arg(i, &mut byte) {
+            return i;
         }
     }
-    Ok(())
+    most
 }
 
-/// The program: its arguments.
+/// The program: its arguments. Those that come after the words that a command can take are only counted: with them it is misused.
 pub fn run<R: System + Env, E: Print>(rt: &R, err: &E) {
-    let told = words_of(rt).and_then(|args| with_args(rt, err, &args));
-    if told.is_err() {
-        let _ = Told::OutOfMemory.tell(err);
+    let mut name = [0u8; WORD_BYTES];
+    let mut first = [0u8; WORD_BYTES];
+    let mut second = [0u8; WORD_BYTES];
+    let mut third = [0u8; WORD_BYTES];
+    let words = [
+        word_of(rt, 2, &mut first),
+        word_of(rt, 3, &mut second),
+        word_of(rt, 4, &mut third),
+        b"",
+    ];
+    match words_among(rt, 6) {
+        0 | 1 => {
+            let _ = err.println(help::MISUSED);
+        }
+        count => command(rt, err, word_of(rt, 1, &mut name), &words[..count - 2]),
     }
 }

@@ -39,11 +39,11 @@ fn form<W: Write>(
 pub fn on_bits<W: Write>(
     out: &mut W,
     call: BitsCall,
-    given: &Given,
+    given: Given<'_>,
     lent: &mut [u8],
 ) -> io::Result<()> {
     let n = given.head.n;
-    let bits = given.first.as_slice();
+    let bits = given.first;
     let polarity = given.head.given as u64;
     match call {
         BitsCall::Test => row::answer(out, vector::check_vector(n, bits)),

@@ -50,13 +50,13 @@ fn wide<W: Write>(out: &mut W, n: usize, list: &[u8], bytes: &mut [u8]) -> io::R
 pub fn on_list<W: Write>(
     out: &mut W,
     call: ListCall,
-    given: &Given,
+    given: Given<'_>,
     lent: &mut [u8],
     second: &mut [u8],
 ) -> io::Result<()> {
     let n = given.head.n;
     let number = given.head.given;
-    let list = given.first.as_slice();
+    let list = given.first;
     match call {
         ListCall::Check => row::answer(out, list::check(n, list)),
         ListCall::Value => row::answer(out, value::value(n, list, number as u64)),
@@ -68,7 +68,7 @@ pub fn on_list<W: Write>(
             let result = value::truth_vector(n, list, lent);
             row::with_bytes(out, result, lent)
         }
-        ListCall::Run => run(out, n, list, given.second.as_slice(), lent),
+        ListCall::Run => run(out, n, list, given.second, lent),
         ListCall::Write => write(out, n, list, lent, second),
         ListCall::Compact => {
             let result = compact::compact(n, number, list, lent);

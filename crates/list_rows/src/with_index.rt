@@ -16,11 +16,11 @@ fn index<W: Write>(out: &mut W, n: usize, list: &[u8], index: &mut [u8]) -> io::
 }
 
 /// What the sibling answers, and the part that is handed back.
-fn group<W: Write>(out: &mut W, given: &Given) -> io::Result<()> {
+fn group<W: Write>(out: &mut W, given: Given<'_>) -> io::Result<()> {
     let n = given.head.n;
-    let list = given.first.as_slice();
-    let index = given.second.as_slice();
-    let starts = starts_of(given.third.as_slice());
+    let list = given.first;
+    let index = given.second;
+    let starts = starts_of(given.third);
     let number = given.head.given;
     let result = group::group_count(n, list, index, starts, number);
     row::with_bytes(out, result, group::group(n, list, index, starts, number))
@@ -28,13 +28,13 @@ fn group<W: Write>(out: &mut W, given: &Given) -> io::Result<()> {
 
 fn indexed<W: Write>(
     out: &mut W,
-    given: &Given,
+    given: Given<'_>,
     work: &mut [u8],
     index: &mut [u8],
 ) -> io::Result<()> {
     let n = given.head.n;
-    let list = given.first.as_slice();
-    let ran = indexed::run_indexed(n, list, given.second.as_slice(), work, index);
+    let list = given.first;
+    let ran = indexed::run_indexed(n, list, given.second, work, index);
     let result = ran.answer;
     let count = result.ok().map(|done| done.count);
     let bytes = work;
@@ -48,12 +48,12 @@ fn indexed<W: Write>(
 pub fn on_index<W: Write>(
     out: &mut W,
     call: IndexCall,
-    given: &Given,
+    given: Given<'_>,
     lent: &mut [u8],
     second: &mut [u8],
 ) -> io::Result<()> {
     match call {
-        IndexCall::Index => index(out, given.head.n, given.first.as_slice(), lent),
+        IndexCall::Index => index(out, given.head.n, given.first, lent),
         IndexCall::Group => group(out, given),
         IndexCall::Indexed => indexed(out, given, lent, second),
     }

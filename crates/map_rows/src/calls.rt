@@ -7,25 +7,19 @@ use selector::{map_reasons, settle_map, slot};
 use std::io;
 use std::io::Write;
 
-pub(crate) fn slot<W: Write>(out: &mut W, head: Head, map: &Parts) -> io::Result<()> {
-    let answer = slot::slot(
-        head.n,
-        map.bytes.as_slice(),
-        map.lengths.as_slice(),
-        head.given as u64,
-    );
+pub(crate) fn slot<W: Write>(out: &mut W, head: Head, map: Parts<'_>) -> io::Result<()> {
+    let answer = slot::slot(head.n, map.bytes, map.lengths, head.given as u64);
     writeln!(out, "{}", Told { answer })
 }
 
 pub(crate) fn reasons<W: Write>(
     out: &mut W,
     head: Head,
-    map: &Parts,
+    map: Parts<'_>,
     lent: &mut [u8],
 ) -> io::Result<()> {
     let a = head.given as u64;
-    let lists = map.bytes.as_slice();
-    let told = map_reasons::map_reasons(head.n, lists, map.lengths.as_slice(), a, lent);
+    let told = map_reasons::map_reasons(head.n, map.bytes, map.lengths, a, lent);
     let answer = told.answer;
     let each = told.each;
     writeln!(
@@ -41,17 +35,17 @@ pub(crate) fn reasons<W: Write>(
 pub(crate) fn settle<W: Write>(
     out: &mut W,
     n: usize,
-    map: &Parts,
-    scripts: &Parts,
+    map: Parts<'_>,
+    scripts: Parts<'_>,
     work: &mut [u8],
     burned: &mut [u8],
 ) -> io::Result<()> {
     let settled = settle_map::settle_map(
         n,
-        map.bytes.as_slice(),
-        map.lengths.as_slice(),
-        scripts.bytes.as_slice(),
-        scripts.lengths.as_slice(),
+        map.bytes,
+        map.lengths,
+        scripts.bytes,
+        scripts.lengths,
         work,
         burned,
     );

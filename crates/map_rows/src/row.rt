@@ -1,12 +1,14 @@
 //! A row: its parts read, its buffers lent, and its call made.
+use crate::parts::{MOST_PARTS, Parts};
 use crate::{calls, parts};
 use cube::list;
+use rows::data;
 use rows::head::Head;
 use rows::item::Kind;
 use rows::reader::{Reader, RowError};
 use rows::table::Answers;
 use script::check;
-use std::alloc::Global;
+use std::io;
 use std::io::Write;
 
 /// The calls on a map.
@@ -55,34 +57,75 @@ fn all_read(reader: &Reader<'_>, head: Head) -> Result<(), RowError> {
     head.within(MOST_ROOM)
 }
 
+/// Reasons, with its one buffer lent.
+fn reasons<W: Write>(out: &mut W, head: Head, map: Parts<'_>) -> io::Result<()> {
+    let mut lent = [UNTOUCHED; MOST_ROOM];
+    let size = data::within(head.room, &lent);
+    calls::reasons(out, head, map, &mut lent[..size])
+}
+
+/// Settling, with both buffers lent.
+fn settle<W: Write>(out: &mut W, head: Head, map: Parts<'_>, scripts: Parts<'_>) -> io::Result<()> {
+    let mut work = [UNTOUCHED; MOST_ROOM];
+    let size = data::within(head.room, &work);
+    let mut burned = [UNTOUCHED; MOST_ROOM];
+    let second = data::within(head.second, &burned);
+    calls::settle(
+        out,
+        head.n,
+        map,
+        scripts,
+        &mut work[..size],
+        &mut burned[..second],
+    )
+}
+
+/// Settling, whose scripts stand after their word.
+fn scripts_and_settle<W: Write>(
+    out: &mut W,
+    reader: &mut Reader<'_>,
+    head: Head,
+    map: Parts<'_>,
+) -> Result<(), RowError> {
+    let mut bytes = [0u8; SCRIPT_BYTES];
+    let mut lengths = [0u64; MOST_PARTS];
+    let _ = reader.skip(b"scripts");
+    let counts = parts::read(reader, Kind::Steps, &mut bytes, &mut lengths);
+    all_read(reader, head)?;
+    let scripts = Parts {
+        bytes: &bytes[..counts.bytes],
+        lengths: &lengths[..counts.lengths],
+    };
+    settle(out, head, map, scripts)?;
+    Ok(())
+}
+
 /// The rows whose calls are those of `selector`.
 #[derive(Clone, Copy, Debug)]
 pub struct Maps;
 
 impl Answers for Maps {
-    fn answer<W: Write>(out: &mut W, alloc: Global, row: &[u8]) -> Result<(), RowError> {
+    fn answer<W: Write>(out: &mut W, row: &[u8]) -> Result<(), RowError> {
         let mut reader = Reader::new(row);
         let call = call_of(&mut reader)?;
         let head = reader.head();
-        let map = parts::read(&mut reader, alloc, list_kind(head.n), MOST_ROOM)?;
+        let mut bytes = [0u8; MOST_ROOM];
+        let mut lengths = [0u64; MOST_PARTS];
+        let counts = parts::read(&mut reader, list_kind(head.n), &mut bytes, &mut lengths);
+        let map = Parts {
+            bytes: &bytes[..counts.bytes],
+            lengths: &lengths[..counts.lengths],
+        };
         match call {
             MapCall::Slot => {
                 all_read(&reader, head)?;
-                calls::slot(out, head, &map)?;
+                calls::slot(out, head, map)?;
             }
             MapCall::Reasons => {
                 all_read(&reader, head)?;
-                let mut lent = vec![in alloc; UNTOUCHED; head.room]?;
-                calls::reasons(out, head, &map, &mut lent)?;
+                reasons(out, head, map)?;
             }
-            MapCall::Settle => {
-                let _ = reader.skip(b"scripts");
-                let scripts = parts::read(&mut reader, alloc, Kind::Steps, SCRIPT_BYTES)?;
-                all_read(&reader, head)?;
-                let mut work = vec![in alloc; UNTOUCHED; head.room]?;
-                let mut burned = vec![in alloc; UNTOUCHED; head.second]?;
-                calls::settle(out, head.n, &map, &scripts, &mut work, &mut burned)?;
-            }
+            MapCall::Settle => scripts_and_settle(out, &mut reader, head, map)?,
         }
         Ok(())
     }

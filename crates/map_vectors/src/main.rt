@@ -3,8 +3,7 @@
 #![tactic(auto)]
 
 use map_rows::Maps;
-use std::io;
 
-fn main(rt: HostRuntime) -> io::Result<()> {
-    rows::table::answer_all::<Maps, _>(&rt)
+fn main(rt: HostRuntime) {
+    rows::table::answer_all::<Maps, _>(&rt);
 }

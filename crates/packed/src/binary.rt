@@ -17,7 +17,7 @@ pub fn pack_narrow<'a, R: System, E: Print>(
     n: usize,
     list: &[u8],
 ) -> Result<(), Told<'a>> {
-    let mut narrow = vec![in job.rt.alloc(); 0u8; buffers::CUBES_BYTES]?;
+    let mut narrow = buffers::cubes();
     let count = converters::narrow_from_wide::narrow_from_wide(n, list, &mut narrow).map_err(
         |refusal| job.whole(refusal),
     )?;
@@ -52,7 +52,7 @@ fn of_list<'a, R: System, E: Print>(
     let refused = |refusal| Told::OfFile(job.word, Trouble::AtRecord(refusal));
     match verb {
         Verb::UnpackNarrow => {
-            let mut wide = vec![in rt.alloc(); 0u8; buffers::CUBES_BYTES]?;
+            let mut wide = buffers::cubes();
             let count = converters::wide_from_narrow::wide_from_narrow(n, list, &mut wide).map_err(
                 refused,
             )?;
@@ -75,6 +75,7 @@ pub fn unpack<'a, R: System, E: Print>(job: &Job<'a, R, E>, verb: Verb) -> Resul
         let refusal = Reason::TooManyVariables.at(0);
         return Err(Told::OfFile(job.word, Trouble::Whole(refusal)));
     };
-    let list = load::bytes(job.rt, job.word, buffers::PACKED_BYTES)?;
-    of_list(job, verb, n, &list)
+    let mut list = buffers::packed();
+    let list = load::bytes(job.rt, job.word, &mut list)?;
+    of_list(job, verb, n, list)
 }

@@ -1,5 +1,6 @@
 //! Files that are loaded, as far as they are taken, and files that are written.
-ghost use Rattle.std.specs.Prelude.{◌≡◌, [], ◌∷◌, ◌≤◌, IfOk, vec_len};
+ghost use Rattle.std.specs.Prelude.{◌≡◌, [], ◌∷◌, ◌≤◌, IfOk, length};
+ghost use Rattle.io.specs.Counts.{IsPrefixLen};
 
 use std::fs::OpenFile;
 use std::io::{ErrorKind, Read, Write};
@@ -29,21 +30,38 @@ pub fn open<R: Files>(rt: &R, path: &[u8]) -> io::Result<R::File> {
     fs::open(rt, name_of(path)?)
 }
 
-/// At most so many bytes of an open file, from its front: what comes after them is not read. A file whose reading fails before that is not loaded.
-pub fn load_open<R: Files + AllocGlobal>(rt: &R, file: R::File, most: usize) -> io::Result<Vec<u8>>
-    ensures { IfOk result (λ bytes. vec_len bytes ≤ most) }
+/// Reads an open file to the front of a buffer, until that is full or the file ends; answers how many bytes it read.
+fn read_full<F: Read>(file: &mut F, buffer: &mut [u8]) -> io::Result<usize>
+    ensures { IfOk result (λ count. IsPrefixLen count buffer.new) }
 {
-    let mut bytes = Vec::new(rt.alloc());
-    file.take(most as u64).read_to_end(&mut bytes)?;
-    bytes.truncate(most);
-    Ok(bytes)
+    let mut count = 0;
+    for _ in 0..u64::MAX {
+        if count == buffer.len() {
+            break;
+        }
+        match file.read(&mut buffer[count..]) {
+            Ok(0) => break,
+            Ok(more) => count += more,
+            Err(error) if error.kind() == ErrorKind::Interrupted => {}
+            Err(error) => return Err(error),
+        }
+    }
+    Ok(count)
+}
+
+/// The bytes of an open file from its front on, at most as many as a buffer has: what comes after them is not read. A file whose reading fails before that is not loaded.
+pub fn load_open<'a, F: Read>(file: &mut F, buffer: &'a mut [u8]) -> io::Result<&'a [u8]>
+    ensures { IfOk result (λ bytes. length bytes.now ≤ length buffer.old) }
+{
+    let count = read_full(file, buffer)?;
+    Ok(&buffer[..count])
 }
 
 /// The same of the file of a name.
-pub fn load<R: Files + AllocGlobal>(rt: &R, path: &[u8], most: usize) -> io::Result<Vec<u8>>
-    ensures { IfOk result (λ bytes. vec_len bytes ≤ most) }
+pub fn load<'a, R: Files>(rt: &R, path: &[u8], buffer: &'a mut [u8]) -> io::Result<&'a [u8]>
+    ensures { IfOk result (λ bytes. length bytes.now ≤ length buffer.old) }
 {
-    load_open(rt, open(rt, path)?, most)
+    load_open(&mut open(rt, path)?, buffer)
 }
 
 /// Stores what was written to an open file, as far as the system tells: some file systems tell only then that they can't. Some files, as those of /proc, are never stored.

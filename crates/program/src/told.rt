@@ -1,13 +1,11 @@
 //! What the programs `settle`, `why` and `selector` tell where they give up.
 use records::Refusal;
-use std::alloc::AllocError;
 use std::{fmt, io};
 
 /// Why a program prints nothing of what it was asked for.
 #[derive(Clone, Copy, Debug, PartialEq, Eq)]
 pub enum Told {
     NoFile,
-    OutOfMemory,
     Refused(Refusal),
     /// A refusal of a bit's list or script, with the bit.
     InBit(Refusal, usize),
@@ -17,7 +15,6 @@ impl fmt::Display for Told {
     fn fmt<W: fmt::Write>(&self, f: &mut fmt::Formatter<W>) -> fmt::Result {
         match self {
             Told::NoFile => write!(f, "no file"),
-            Told::OutOfMemory => write!(f, "out of memory"),
             Told::Refused(refusal) => write!(f, "{refusal}"),
             Told::InBit(refusal, bit) => write!(f, "{refusal} in bit {bit}"),
         }
@@ -30,18 +27,9 @@ impl From<Refusal> for Told {
     }
 }
 
-impl From<AllocError> for Told {
-    fn from(_error: AllocError) -> Told {
-        Told::OutOfMemory
-    }
-}
-
 /// A file that can't be opened or read.
 impl From<io::Error> for Told {
-    fn from(error: io::Error) -> Told {
-        match error.kind() {
-            io::ErrorKind::OutOfMemory => Told::OutOfMemory,
-            _ => Told::NoFile,
-        }
+    fn from(_error: io::Error) -> Told {
+        Told::NoFile
     }
 }

@@ -10,7 +10,7 @@ use std::rt::Files;
 const TABLE_BYTES: usize = 65536;
 
 /// What is printed for the four parts of a row, of which those that are missing have no byte.
-fn case<R: Files + AllocGlobal + Print>(rt: &R, row: &[u8]) {
+fn case<R: Files + Print>(rt: &R, row: &[u8]) {
     let mut parts = row.splitn(4, |byte| *byte == b'|');
     let name = parts.next().unwrap_or(b"");
     let line = parts.next().unwrap_or(b"");
@@ -25,7 +25,7 @@ fn case<R: Files + AllocGlobal + Print>(rt: &R, row: &[u8]) {
 }
 
 /// One row: printed, and run where it is no remark.
-fn row<R: Files + AllocGlobal + Print>(rt: &R, row: &[u8]) {
+fn row<R: Files + Print>(rt: &R, row: &[u8]) {
     print::text(rt, row);
     print::text(rt, b"\n");
     if row.first() != Some(&b'#') {
@@ -34,7 +34,8 @@ fn row<R: Files + AllocGlobal + Print>(rt: &R, row: &[u8]) {
 }
 
 fn main(rt: HostRuntime) {
-    if let Ok(table) = file::load(&rt, b"cases", TABLE_BYTES) {
+    let mut table = [0u8; TABLE_BYTES];
+    if let Ok(table) = file::load(&rt, b"cases", &mut table) {
         for line in table.split_inclusive(|byte| *byte == b'\n') {
             row(&rt, line.strip_suffix(b"\n").unwrap_or(line));
         }

@@ -1,7 +1,6 @@
 //! Other lists and scripts: the easy script, the script without steps that undo each other, the cheapest tree, the best polarity.
 use cube::list::RECORD_WIDTH;
 use script::check::STEP_WIDTH;
-use std::alloc::AllocError;
 use text_files::cost::cost;
 use text_files::job::{Job, System};
 use text_files::told::Told;
@@ -14,8 +13,8 @@ pub fn easy<'a, R: System, E: Print>(
     list: &[u8],
 ) -> Result<(), Told<'a>> {
     let rt = job.rt;
-    let mut work = vec![in rt.alloc(); 0u8; buffers::CUBES_BYTES]?;
-    let mut script = vec![in rt.alloc(); 0u8; buffers::STEPS_BYTES]?;
+    let mut work = buffers::cubes();
+    let mut script = buffers::steps();
     let written = writer::write::write_script(n, list, &mut work, &mut script).map_err(
         |refusal| job.whole(refusal),
     )?;
@@ -31,27 +30,25 @@ pub fn compact<'a, R: System, E: Print>(
     list: &[u8],
 ) -> Result<(), Told<'a>> {
     let rt = job.rt;
-    let script = load::steps(rt, job.word)?;
-    let mut out = vec![in rt.alloc(); 0u8; buffers::STEPS_BYTES]?;
-    let left = compactor::compact::compact(n, list.len() / RECORD_WIDTH, &script, &mut out).map_err(
+    let mut script = buffers::steps();
+    let script = load::steps(rt, job.word, &mut script)?;
+    let mut out = buffers::steps();
+    let left = compactor::compact::compact(n, list.len() / RECORD_WIDTH, script, &mut out).map_err(
         |refusal| load::refused_step(rt, job.word, refusal),
     )?;
     let _ = println!(job.err; "steps {} left {left}", script.len() / STEP_WIDTH);
     show::steps(rt, first_records(STEP_WIDTH, left, &out))
 }
 
-/// The truth vector of a list.
-pub fn vector_of<'a, R: System, E: Print>(
+/// The truth vector of a list, in a buffer.
+pub fn vector_of<'a, 'b, R: System, E: Print>(
     job: &Job<'a, R, E>,
     n: usize,
     list: &[u8],
-) -> Result<Vec<u8>, Told<'a>> {
-    let mut vector = vec![in job.rt.alloc(); 0u8; buffers::VECTOR_BYTES]?;
-    let size = cube::value::truth_vector(n, list, &mut vector).map_err(|refusal| job.whole(
-        refusal,
-    ))?;
-    vector.truncate(size);
-    Ok(vector)
+    vector: &'b mut [u8],
+) -> Result<&'b [u8], Told<'a>> {
+    let size = cube::value::truth_vector(n, list, vector).map_err(|refusal| job.whole(refusal))?;
+    Ok(first_records(1, size, vector))
 }
 
 /// The list of the cheapest tree.
@@ -60,9 +57,10 @@ pub fn tree<'a, R: System, E: Print>(
     n: usize,
     list: &[u8],
 ) -> Result<(), Told<'a>> {
-    let vector = vector_of(job, n, list)?;
-    let mut out = vec![in job.rt.alloc(); 0u8; buffers::CUBES_BYTES]?;
-    let tree = trees::tree::write_tree(n, &vector, &mut out).map_err(|refusal| job.whole(refusal))?;
+    let mut vector = buffers::vector();
+    let vector = vector_of(job, n, list, &mut vector)?;
+    let mut out = buffers::cubes();
+    let tree = trees::tree::write_tree(n, vector, &mut out).map_err(|refusal| job.whole(refusal))?;
     let written = first_records(RECORD_WIDTH, tree.products, &out);
     let _ = println!(job.err;
         "products {} cost {}",
@@ -72,19 +70,14 @@ pub fn tree<'a, R: System, E: Print>(
     show::cubes(job.rt, n, written)
 }
 
-/// The form of a polarity, as records; it has none where it is refused.
-pub fn form_of<R: AllocGlobal>(
-    rt: &R,
-    n: usize,
-    vector: &[u8],
-    p: usize,
-) -> Result<Vec<u8>, AllocError> {
-    let mut coefficients = vec![in rt.alloc(); 0u8; vector.len()]?;
-    let _ = polarity::transform::coefficients(n, vector, p as u64, &mut coefficients);
-    let mut form = vec![in rt.alloc(); 0u8; buffers::CUBES_BYTES]?;
-    let products = polarity::form::write_form(n, &coefficients, p as u64, &mut form).unwrap_or(0);
-    form.truncate(products.saturating_mul(RECORD_WIDTH));
-    Ok(form)
+/// The form of a polarity, as records in a buffer; it has none where it is refused.
+pub fn form_of<'a>(n: usize, vector: &[u8], p: usize, form: &'a mut [u8]) -> &'a [u8] {
+    let mut coefficients = buffers::vector();
+    let size = vector.len().min(coefficients.len());
+    let coefficients = &mut coefficients[..size];
+    let _ = polarity::transform::coefficients(n, vector, p as u64, coefficients);
+    let products = polarity::form::write_form(n, coefficients, p as u64, form).unwrap_or(0);
+    first_records(RECORD_WIDTH, products, form)
 }
 
 /// The form of the best polarity.
@@ -93,11 +86,13 @@ pub fn best<'a, R: System, E: Print>(
     n: usize,
     list: &[u8],
 ) -> Result<(), Told<'a>> {
-    let vector = vector_of(job, n, list)?;
-    let best = polarity::choose::best_polarity(n, &vector).map_err(|refusal| job.whole(refusal))?;
+    let mut vector = buffers::vector();
+    let vector = vector_of(job, n, list, &mut vector)?;
+    let best = polarity::choose::best_polarity(n, vector).map_err(|refusal| job.whole(refusal))?;
     let p = best.polarity;
-    let form = form_of(job.rt, n, &vector, p)?;
+    let mut form = buffers::cubes();
+    let form = form_of(n, vector, p, &mut form);
     let products = form.len() / RECORD_WIDTH;
-    let _ = println!(job.err; "polarity {p} products {products} cost {}", cost(&form));
-    show::cubes(job.rt, n, &form)
+    let _ = println!(job.err; "polarity {p} products {products} cost {}", cost(form));
+    show::cubes(job.rt, n, form)
 }

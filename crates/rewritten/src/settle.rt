@@ -12,10 +12,11 @@ pub fn one<'a, R: System, E: Print>(
     list: &[u8],
 ) -> Result<(), Told<'a>> {
     let rt = job.rt;
-    let script = load::steps(rt, job.word)?;
-    let mut work = vec![in rt.alloc(); 0u8; buffers::CUBES_BYTES]?;
-    let mut out = vec![in rt.alloc(); 0u8; buffers::CUBES_BYTES]?;
-    let settled = settling::settle::settle(n, list, &script, &mut work, &mut out).map_err(
+    let mut script = buffers::steps();
+    let script = load::steps(rt, job.word, &mut script)?;
+    let mut work = buffers::cubes();
+    let mut out = buffers::cubes();
+    let settled = settling::settle::settle(n, list, script, &mut work, &mut out).map_err(
         |refusal| load::refused_step(rt, job.word, refusal),
     )?;
     let _ = println!(job.err; "{}", Counts(settled));
@@ -27,15 +28,16 @@ pub fn one<'a, R: System, E: Print>(
 }
 
 /// A map of several outputs, as shared products.
-pub fn shared<'a, R: System, E: Print>(job: &Job<'a, R, E>, map: &Map) -> Result<(), Told<'a>> {
+pub fn shared<'a, R: System, E: Print>(job: &Job<'a, R, E>, map: Map<'_>) -> Result<(), Told<'a>> {
     let rt = job.rt;
-    let script = load::steps(rt, job.word)?;
-    let mut work = vec![in rt.alloc(); 0u8; buffers::SHARES_BYTES]?;
-    let mut out = vec![in rt.alloc(); 0u8; buffers::SHARES_BYTES]?;
+    let mut script = buffers::steps();
+    let script = load::steps(rt, job.word, &mut script)?;
+    let mut work = buffers::shares();
+    let mut out = buffers::shares();
     let s = shared_run::settle::settle(
         map.inputs,
-        &map.products,
-        &script,
+        map.products,
+        script,
         &mut work,
         &mut out,
     ).map_err(|refusal| load::refused_step(rt, job.word, refusal))?;

@@ -2,10 +2,10 @@
 use crate::head::Head;
 
 /// The numbers of a row and its parts.
-#[derive(Debug, Drop)]
-pub struct Given {
+#[derive(Clone, Copy, Debug)]
+pub struct Given<'a> {
     pub head: Head,
-    pub first: Vec<u8>,
-    pub second: Vec<u8>,
-    pub third: Vec<u8>,
+    pub first: &'a [u8],
+    pub second: &'a [u8],
+    pub third: &'a [u8],
 }

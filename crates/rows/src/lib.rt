@@ -3,6 +3,7 @@
 
 pub mod call;
 pub mod data;
+mod gathered;
 pub mod given;
 pub mod head;
 pub mod item;

@@ -1,10 +1,9 @@
 //! A part of a row, from its colon on, as bytes.
-ghost use Rattle.std.specs.Prelude.{◌≡◌, ◌+◌, ◌≤◌, IfOk, IfSome, length, vec_len};
+ghost use Rattle.std.specs.Prelude.{◌≡◌, ◌+◌, ◌≤◌, IfSome, length};
 ghost use Rattle.io.specs.Counts.{IsPrefixLen};
 
 use crate::item::{Item, Kind};
 use crate::reader::Reader;
-use std::alloc::{AllocError, Global};
 
 /// How many bytes a part of `size` has with so many more, where a buffer has room for them.
 fn longer_by(out: &[u8], size: usize, more: usize) -> Option<usize>
@@ -18,7 +17,7 @@ fn longer_by(out: &[u8], size: usize, more: usize) -> Option<usize>
 }
 
 /// Bytes, at the end of a part; how many it has then, where there is room.
-fn put_bytes(out: &mut [u8], size: usize, bytes: &[u8]) -> Option<usize>
+pub(crate) fn put_bytes(out: &mut [u8], size: usize, bytes: &[u8]) -> Option<usize>
     ensures { IfSome result (λ longer. (size ≤ longer) × (longer ≤ length out.new)) }
 {
     let longer = longer_by(out, size, bytes.len())?;
@@ -95,15 +94,5 @@ impl Reader<'_> {
         }
         *self = before;
         0
-    }
-
-    /// The same, as a vector: nothing is taken either where the part would have more than `most` bytes.
-    pub fn part(&mut self, alloc: Global, kind: Kind, most: usize) -> Result<Vec<u8>, AllocError>
-        ensures { IfOk result (λ part. vec_len part ≤ most) }
-    {
-        let mut part = vec![in alloc; 0; most]?;
-        let size = self.part_into(kind, &mut part);
-        part.truncate(size);
-        Ok(part)
     }
 }

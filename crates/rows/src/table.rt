@@ -1,63 +1,91 @@
 //! A table from standard input, answered row by row.
+ghost use Rattle.std.specs.Prelude.{◌≡◌, length};
+ghost use Rattle.io.specs.Counts.{IsPrefixLen};
+
+use crate::gathered::Gathered;
 use crate::reader::RowError;
-use std::alloc::{AllocError, Global};
 use std::io;
-use std::io::{BufWriter, ErrorKind, Read, Write};
+use std::io::{ErrorKind, Read, Write};
 
 /// Bytes of a table, at most one fewer than these.
-const TABLE_BYTES: u64 = 65536;
+const TABLE_BYTES: usize = 65536;
+
+/// How many bytes of the answers are written together.
+const ANSWER_BYTES: usize = 8192;
 
 /// What a table's rows are calls of.
 pub trait Answers {
     /// Writes what the call of a row answers and leaves.
-    fn answer<W: Write>(out: &mut W, alloc: Global, row: &[u8]) -> Result<(), RowError>;
+    fn answer<W: Write>(out: &mut W, row: &[u8]) -> Result<(), RowError>;
 }
 
 /// A row as it stands, and after it its answer, or the place from which on it can't be read. A row that begins with `#` is a remark.
-fn answer_row<C: Answers, W: Write>(out: &mut W, alloc: Global, row: &[u8]) -> io::Result<()> {
+fn answer_row<C: Answers, W: Write>(out: &mut W, row: &[u8]) -> io::Result<()> {
     out.write_all(row)?;
     out.write_all(b"\n")?;
     if row.is_empty() || row[0] == b'#' {
         return Ok(());
     }
-    match C::answer(out, alloc, row) {
+    match C::answer(out, row) {
         Ok(()) => Ok(()),
         Err(RowError::Unread { place }) => writeln!(out, "= can't be read at {place}"),
         Err(RowError::Failed(error)) => Err(error),
     }
 }
 
-/// The bytes of standard input, as far as they are taken. They end too where it can't be read.
-fn table_of<R: Input + AllocGlobal>(rt: &R) -> Result<Vec<u8>, AllocError> {
-    let mut table = Vec::new(rt.alloc());
-    match rt.reader().take(TABLE_BYTES).read_to_end(&mut table) {
-        Err(error) if error.kind() == ErrorKind::OutOfMemory => Err(AllocError),
-        _ => Ok(table),
-    }
-}
-
-/// What of a row's answer ends the program: that there is no memory.
-fn going_on(answered: io::Result<()>) -> io::Result<()> {
-    match answered {
-        Err(error) if error.kind() == ErrorKind::OutOfMemory => Err(error),
+/// All rows of a table. The last may lack its newline.
+fn answer_rows<C: Answers, W: Write>(out: &mut W, table: &[u8]) {
+    for row in table.split_inclusive(|b| *b == b'\n') {
+        let row = row.strip_suffix(b"\n").unwrap_or(row);
         // A row that can't be written is passed over: whoever reads the table compares it.
-        _ => Ok(()),
+        let _ = answer_row::<C, _>(out, row);
     }
 }
 
-/// All rows of standard input. The last may lack its newline.
-pub fn answer_all<C: Answers, R: Input + Print + AllocGlobal>(rt: &R) -> io::Result<()> {
-    let table = table_of(rt)?;
-    let mut out = BufWriter::new(rt.alloc(), io::writer(rt))?;
-    if table.len() as u64 == TABLE_BYTES {
-        going_on(writeln!(out, "the table is too long"))?;
-    } else {
-        for row in table.split_inclusive(|b| *b == b'\n') {
-            let row = row.strip_suffix(b"\n").unwrap_or(row);
-            going_on(answer_row::<C, _>(&mut out, rt.alloc(), row))?;
+/// The bytes of standard input to the front of a buffer, as far as it has room; answers how many they are. They end too where it can't be read.
+fn read_table<R: Input>(rt: &R, table: &mut [u8]) -> usize
+    ensures { IsPrefixLen result table.new }
+{
+    let mut reader = rt.reader();
+    let mut size = 0;
+    for _ in 0..u64::MAX {
+        if size == table.len() {
+            break;
+        }
+        match reader.read(&mut table[size..]) {
+            Ok(0) => break,
+            Ok(count) => size += count,
+            Err(error) if error.kind() == ErrorKind::Interrupted => {}
+            Err(_) => break,
         }
     }
-    // What can't be written is passed over here too.
+    size
+}
+
+/// Room for a table. Its contract tells the length alone.
+fn table_room() -> [u8; TABLE_BYTES]
+    ensures { 65536 ≡ length result }
+{
+    [0; TABLE_BYTES]
+}
+
+/// Room for answers.
+fn answer_room() -> [u8; ANSWER_BYTES]
+    ensures { 8192 ≡ length result }
+{
+    [0; ANSWER_BYTES]
+}
+
+/// All rows of standard input. What can't be written is passed over.
+pub fn answer_all<C: Answers, R: Input + Print>(rt: &R) {
+    let mut table = table_room();
+    let size = read_table(rt, &mut table);
+    let mut room = answer_room();
+    let mut out = Gathered::new(rt, &mut room);
+    if size == TABLE_BYTES {
+        let _ = writeln!(out, "the table is too long");
+    } else {
+        answer_rows::<C, _>(&mut out, &table[..size]);
+    }
     let _ = out.flush();
-    Ok(())
 }

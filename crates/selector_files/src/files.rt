@@ -1,5 +1,5 @@
 //! The files of a map: `bit0`, `bit1` and so on, with an ending, loaded one after the other.
-ghost use Rattle.std.specs.Prelude.{◌≡◌, ◌*◌, ◌≤◌, length, take, IfOk, vec_len};
+ghost use Rattle.std.specs.Prelude.{◌≡◌, ◌*◌, ◌≤◌, length, take, IfOk};
 ghost use Rattle.io.specs.Counts.{IsPrefixLen};
 ghost use Rattle.text.specs.Places.{Laid};
 ghost use Rattle.selector.specs.Maps.{most_lists};
@@ -8,7 +8,7 @@ ghost use Rattle.selector_files.specs.Paths.{bit_path};
 use crate::loaded::Bits;
 use program::file;
 use program::told::Told;
-use std::alloc::AllocError;
+use selector::MOST_LISTS;
 use std::io;
 use std::rt::Files;
 
@@ -45,28 +45,35 @@ fn open_bit<R: Files>(rt: &R, folder: &[u8], k: usize, ending: &[u8]) -> io::Res
     file::open(rt, &path[..size])
 }
 
-/// The files of bits 0, 1 and so on, up to the first that is missing and of at most so many bits, at most `width` bytes of each. A file that is there and can't be read
-/// is told of.
-pub(crate) fn load_bits<R: Files + AllocGlobal>(
+/// The files of bits 0, 1 and so on, up to the first that is missing and of at most so many bits, at most `width` bytes of each: end to end to the front of a buffer, as
+/// far as it goes, and their lengths to another. A file that is there and can't be read is told of.
+pub(crate) fn load_bits<'a, R: Files>(
     rt: &R,
     folder: &[u8],
     ending: &[u8],
     width: usize,
     most: usize,
-) -> Result<Bits, Told>
+    bytes: &'a mut [u8],
+    lengths: &'a mut [u64; MOST_LISTS],
+) -> Result<Bits<'a>, Told>
     requires { most ≤ most_lists }
-    ensures few { IfOk result (λ bits. vec_len bits.lengths ≤ most) }
-    ensures short { IfOk result (λ bits. vec_len bits.bytes ≤ most * width) }
+    ensures few { IfOk result (λ bits. length bits.lengths.now ≤ most) }
+    ensures short { IfOk result (λ bits. length bits.bytes.now ≤ most * width) }
 {
-    let mut bytes = Vec::new(rt.alloc());
-    let mut lengths = Vec::new(rt.alloc());
+    let mut count = 0;
+    let mut end: usize = 0;
     for k in 0..most {
-        let Ok(file) = open_bit(rt, folder, k, ending) else {
+        let Ok(mut file) = open_bit(rt, folder, k, ending) else {
             break;
         };
-        let bit = file::load_open(rt, file, width)?;
-        bytes.extend_from_slice(&bit)?;
-        lengths.push(bit.len() as u64).map_err(AllocError::from)?;
+        let room = bytes.len().min(end.saturating_add(width));
+        let bit = file::load_open(&mut file, &mut bytes[end..room])?;
+        lengths[k] = bit.len() as u64;
+        count = k + 1;
+        end += bit.len();
     }
-    Ok(Bits { bytes, lengths })
+    Ok(Bits {
+        bytes: &bytes[..end],
+        lengths: &lengths[..count],
+    })
 }

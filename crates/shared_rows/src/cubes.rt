@@ -9,13 +9,13 @@ use std::io::Write;
 /// The counts or the refusal, and both buffers.
 pub fn settle_cubes<W: Write>(
     out: &mut W,
-    given: &Given,
+    given: Given<'_>,
     work: &mut [u8],
     burned: &mut [u8],
 ) -> io::Result<()> {
     let n = given.head.n;
-    let list = given.first.as_slice();
-    let result = settle::settle(n, list, given.second.as_slice(), work, burned);
+    let list = given.first;
+    let result = settle::settle(n, list, given.second, work, burned);
     row::with_bytes(out, result, work)?;
     write!(out, "{}", Bytes { bytes: burned })
 }

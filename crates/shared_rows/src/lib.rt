@@ -31,12 +31,12 @@ fn run<W: Write>(
 fn settle<W: Write>(
     out: &mut W,
     n: usize,
-    given: &Given,
+    given: Given<'_>,
     work: &mut [u8],
     bytes: &mut [u8],
 ) -> io::Result<()> {
-    let list = given.first.as_slice();
-    let result = settle::settle(n, list, given.second.as_slice(), work, bytes);
+    let list = given.first;
+    let result = settle::settle(n, list, given.second, work, bytes);
     let count = result.ok().map(|settled| settled.burned);
     row::with_bytes(out, result, work)?;
     write!(out, "{}", Products { n, count, bytes })
@@ -46,17 +46,17 @@ fn settle<W: Write>(
 pub fn on_shared<W: Write>(
     out: &mut W,
     call: SharedCall,
-    given: &Given,
+    given: Given<'_>,
     lent: &mut [u8],
     second: &mut [u8],
 ) -> io::Result<()> {
     let n = given.head.n;
-    let list = given.first.as_slice();
+    let list = given.first;
     match call {
         SharedCall::Check => row::answer(out, list::check(n, list)),
         // The word of all outputs' values.
         SharedCall::Value => row::answer(out, value::value(n, list, given.head.given as u64)),
-        SharedCall::Run => run(out, n, list, given.second.as_slice(), lent),
+        SharedCall::Run => run(out, n, list, given.second, lent),
         SharedCall::Settle => settle(out, n, given, lent, second),
     }
 }

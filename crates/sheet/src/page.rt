@@ -54,18 +54,12 @@ fn of_script(rt: &impl Print, script: &[u8], peak: usize) {
 }
 
 /// Whether a list is the one that the script ends in.
-fn is_result<R: AllocGlobal>(
-    rt: &R,
-    n: usize,
-    list: &[u8],
-    script: &[u8],
-    burned: &[u8],
-) -> Result<bool, std::alloc::AllocError> {
-    let mut work = vec![in rt.alloc(); 0u8; buffers::CUBES_BYTES]?;
-    Ok(match script::run::run(n, list, script, &mut work) {
+fn is_result(n: usize, list: &[u8], script: &[u8], burned: &[u8]) -> bool {
+    let mut work = buffers::cubes();
+    match script::run::run(n, list, script, &mut work) {
         Ok(ran) => first_records(RECORD_WIDTH, ran.count, &work) == burned,
         Err(_) => false,
-    })
+    }
 }
 
 /// Whether a list is the form of the best polarity, where that was looked for.
@@ -79,9 +73,10 @@ fn is_form<'a, R: System, E: Print>(
     match fixed {
         None => Ok(false),
         Some(found) => {
-            let vector = vector_of(job, n, list)?;
-            let form = form_of(job.rt, n, &vector, found.polarity)?;
-            Ok(form.as_slice() == burned)
+            let mut vector = buffers::vector();
+            let vector = vector_of(job, n, list, &mut vector)?;
+            let mut form = buffers::cubes();
+            Ok(form_of(n, vector, found.polarity, &mut form) == burned)
         }
     }
 }
@@ -96,7 +91,7 @@ fn by<'a, R: System, E: Print>(
     fixed: Option<BestPolarity>,
     burned: &[u8],
 ) -> Result<&'static str, Told<'a>> {
-    if is_result(job.rt, n, list, script, burned)? {
+    if is_result(n, list, script, burned) {
         return Ok("the list that the script ends in");
     }
     if list == burned {
@@ -159,33 +154,35 @@ pub fn one<'a, R: System, E: Print>(
     list: &[u8],
 ) -> Result<(), Told<'a>> {
     let rt = job.rt;
-    let script = load::steps(rt, job.word)?;
-    let mut work = vec![in rt.alloc(); 0u8; buffers::CUBES_BYTES]?;
-    let mut out = vec![in rt.alloc(); 0u8; buffers::CUBES_BYTES]?;
-    let settled = settling::settle::settle(n, list, &script, &mut work, &mut out).map_err(
+    let mut script = buffers::steps();
+    let script = load::steps(rt, job.word, &mut script)?;
+    let mut work = buffers::cubes();
+    let mut out = buffers::cubes();
+    let settled = settling::settle::settle(n, list, script, &mut work, &mut out).map_err(
         |refusal| load::refused_step(rt, job.word, refusal),
     )?;
     let burned = first_records(RECORD_WIDTH, settled.burned, &out);
-    settled_one(job, n, list, &script, settled, burned)
+    settled_one(job, n, list, script, settled, burned)
 }
 
 /// The sheet of a map of several outputs.
-pub fn shared<'a, R: System, E: Print>(job: &Job<'a, R, E>, map: &Map) -> Result<(), Told<'a>> {
+pub fn shared<'a, R: System, E: Print>(job: &Job<'a, R, E>, map: Map<'_>) -> Result<(), Told<'a>> {
     let rt = job.rt;
-    let script = load::steps(rt, job.word)?;
-    let mut work = vec![in rt.alloc(); 0u8; buffers::SHARES_BYTES]?;
-    let mut out = vec![in rt.alloc(); 0u8; buffers::SHARES_BYTES]?;
+    let mut script = buffers::steps();
+    let script = load::steps(rt, job.word, &mut script)?;
+    let mut work = buffers::shares();
+    let mut out = buffers::shares();
     let s = shared_run::settle::settle(
         map.inputs,
-        &map.products,
-        &script,
+        map.products,
+        script,
         &mut work,
         &mut out,
     ).map_err(|refusal| load::refused_step(rt, job.word, refusal))?;
     heading(job, map.inputs, map.outputs);
     put(rt, "\ngiven\n");
-    shares(rt, &map.products);
-    of_script(rt, &script, s.peak);
+    shares(rt, map.products);
+    of_script(rt, script, s.peak);
     if s.script <= s.given {
         put(rt, "\nburned: the list that the script ends in\n");
     } else {

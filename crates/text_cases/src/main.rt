@@ -2,7 +2,6 @@
 #![tactic(auto)]
 
 use program::{line, print};
-use std::alloc::AllocError;
 use std::rt::Files;
 use text::place::is_blank;
 
@@ -13,30 +12,35 @@ const ROW_BYTES: usize = 128;
 const MOST_ROWS: usize = 200;
 
 /// The command of a row, with at most three words after its name; a row that begins with `#` has none.
-fn with_row<R: Files + AllocGlobal + Print>(rt: &R, row: &[u8]) -> Result<(), AllocError> {
+fn with_row<R: Files + Print>(rt: &R, row: &[u8]) {
     print::text(rt, b"> ");
     print::text(rt, row);
     print::text(rt, b"\n");
     if row.first() == Some(&b'#') {
-        return Ok(());
+        return;
     }
     let mut words = row
         .split(|byte| is_blank(*byte))
         .filter(|word| !word.is_empty());
     let name = words.next().unwrap_or(b"");
-    let others: Vec<&[u8]> = words.take(3).collect(rt.alloc())?;
-    commands::command(rt, rt, name, &others);
-    Ok(())
+    match (words.next(), words.next(), words.next()) {
+        (Some(first), Some(second), Some(third)) => {
+            commands::command(rt, rt, name, &[first, second, third]);
+        }
+        (Some(first), Some(second), None) => commands::command(rt, rt, name, &[first, second]),
+        (Some(first), None, _) => commands::command(rt, rt, name, &[first]),
+        (None, _, _) => commands::command(rt, rt, name, &[]),
+    }
 }
 
 /// The rows up to the first that has no character.
-fn main(rt: HostRuntime) -> Result<(), AllocError> {
+fn main(rt: HostRuntime) {
     for _ in 0..MOST_ROWS {
-        let row = line::read_line(&rt, ROW_BYTES)?;
-        if row.is_empty() {
+        let mut row = [0u8; ROW_BYTES];
+        let size = line::read(&mut row);
+        if size == 0 {
             break;
         }
-        with_row(&rt, &row)?;
+        with_row(&rt, &row[..size]);
     }
-    Ok(())
 }

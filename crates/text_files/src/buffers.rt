@@ -1,5 +1,5 @@
-//! How long the buffers of the commands are.
-ghost use Rattle.std.specs.Prelude.{◌≡◌, [], ◌∷◌};
+//! The buffers of the commands. Of each only the length is told: it is all that lending it needs, and a proof that goes by the bytes takes long.
+ghost use Rattle.std.specs.Prelude.{◌≡◌, [], ◌∷◌, length};
 
 /// Bytes of a text that are loaded: one more than is read, by which it is too long.
 pub const TEXT_BYTES: usize = lines::MOST_TEXT + 1;
@@ -45,4 +45,64 @@ pub fn lengths() -> [usize; 10]
         VECTOR_BYTES,
         PACKED_BYTES,
     ]
+}
+
+pub fn text() -> [u8; TEXT_BYTES]
+    ensures { 1048577 ≡ length result }
+{
+    [0; TEXT_BYTES]
+}
+
+pub fn shares() -> [u8; SHARES_BYTES]
+    ensures { 49152 ≡ length result }
+{
+    [0; SHARES_BYTES]
+}
+
+pub fn cubes() -> [u8; CUBES_BYTES]
+    ensures { 32768 ≡ length result }
+{
+    [0; CUBES_BYTES]
+}
+
+pub fn steps() -> [u8; STEPS_BYTES]
+    ensures { 8192 ≡ length result }
+{
+    [0; STEPS_BYTES]
+}
+
+pub fn map_text() -> [u8; MAP_TEXT_BYTES]
+    ensures { 270464 ≡ length result }
+{
+    [0; MAP_TEXT_BYTES]
+}
+
+pub fn script_text() -> [u8; SCRIPT_TEXT_BYTES]
+    ensures { 22528 ≡ length result }
+{
+    [0; SCRIPT_TEXT_BYTES]
+}
+
+pub fn places() -> [u8; PLACES_BYTES]
+    ensures { 8192 ≡ length result }
+{
+    [0; PLACES_BYTES]
+}
+
+pub fn map_places() -> [u8; MAP_PLACES_BYTES]
+    ensures { 98304 ≡ length result }
+{
+    [0; MAP_PLACES_BYTES]
+}
+
+pub fn vector() -> [u8; VECTOR_BYTES]
+    ensures { 256 ≡ length result }
+{
+    [0; VECTOR_BYTES]
+}
+
+pub fn packed() -> [u8; PACKED_BYTES]
+    ensures { 49164 ≡ length result }
+{
+    [0; PACKED_BYTES]
 }

@@ -3,10 +3,10 @@ use crate::told::{Told, Trouble};
 use records::Refusal;
 use std::rt::Files;
 
-/// What a command works with: files, memory and standard output.
-pub trait System: Files + AllocGlobal + Print {}
+/// What a command works with: files and standard output.
+pub trait System: Files + Print {}
 
-impl<R: Files + AllocGlobal + Print> System for R {}
+impl<R: Files + Print> System for R {}
 
 /// A command at work: the system, what gets the words beside standard output, and the command's own words.
 #[derive(Drop)]

@@ -1,99 +1,89 @@
-//! Files that are loaded.
-ghost use Rattle.std.specs.Prelude.{◌≤◌, IfOk, vec_len};
+//! Files that are loaded. A text has a mebibyte: each call that reads one is on the stack by itself (`inline(never)`), so that no two texts are there at once.
+ghost use Rattle.std.specs.Prelude.{◌≤◌, IfOk, length};
 
-use crate::buffers;
 use crate::told::{Told, Trouble};
+use crate::{buffers, first_records};
 use program::file;
 use records::Refusal;
-use std::io;
-use std::io::ErrorKind;
 use std::rt::Files;
 
 /// A map: its inputs, its outputs, and its products as records of 12 bytes.
-#[derive(Debug, Drop)]
-pub struct Map {
+#[derive(Clone, Copy, Debug)]
+pub struct Map<'a> {
     pub inputs: usize,
     pub outputs: usize,
-    pub products: Vec<u8>,
+    pub products: &'a [u8],
 }
 
-/// What is told of a file that isn't loaded.
-fn not_loaded<'a>(path: &'a [u8], error: io::Error) -> Told<'a> {
-    match error.kind() {
-        ErrorKind::OutOfMemory => Told::OutOfMemory,
-        _ => Told::OfFile(path, Trouble::NoFile),
-    }
-}
-
-/// At most so many bytes of a file.
-pub fn bytes<'a, R: Files + AllocGlobal>(
+/// The bytes of a file from its front on, at most as many as a buffer has.
+pub fn bytes<'a, 'b, R: Files>(
     rt: &R,
     path: &'a [u8],
-    most: usize,
-) -> Result<Vec<u8>, Told<'a>>
-    ensures { IfOk result (λ bytes. vec_len bytes ≤ most) }
+    buffer: &'b mut [u8],
+) -> Result<&'b [u8], Told<'a>>
+    ensures { IfOk result (λ bytes. length bytes.now ≤ length buffer.old) }
 {
-    file::load(rt, path, most).map_err(|error| not_loaded(path, error))
+    file::load(rt, path, buffer).map_err(|_| Told::OfFile(path, Trouble::NoFile))
 }
 
-/// The map of a file.
-pub fn map_of<'a, R: Files + AllocGlobal>(rt: &R, path: &'a [u8]) -> Result<Map, Told<'a>> {
-    let text = bytes(rt, path, buffers::TEXT_BYTES)?;
-    let mut products = vec![in rt.alloc(); 0u8; buffers::SHARES_BYTES]?;
-    let size = pla::read::read(&text, &mut products).map_err(|refusal| Told::OfFile(
+/// The map of a file, its products in a buffer.
+#[inline(never)]
+pub fn map_of<'a, 'b, R: Files>(
+    rt: &R,
+    path: &'a [u8],
+    products: &'b mut [u8],
+) -> Result<Map<'b>, Told<'a>> {
+    let mut text = buffers::text();
+    let text = bytes(rt, path, &mut text)?;
+    let size = pla::read::read(text, products).map_err(|refusal| Told::OfFile(
         path,
         Trouble::AtLine(refusal),
     ))?;
-    products.truncate(size.products.saturating_mul(shared::list::SHARED_WIDTH));
     Ok(Map {
         inputs: size.inputs,
         outputs: size.outputs,
-        products,
+        products: first_records(shared::list::SHARED_WIDTH, size.products, products),
     })
 }
 
-/// The script of a file, as records of 8 bytes. A path with no character is that of no file, and of a script with no step.
-pub fn steps<'a, R: Files + AllocGlobal>(rt: &R, path: &'a [u8]) -> Result<Vec<u8>, Told<'a>> {
+/// The script of a file, as records of 8 bytes in a buffer. A path with no character is that of no file, and of a script with no step.
+#[inline(never)]
+pub fn steps<'a, 'b, R: Files>(
+    rt: &R,
+    path: &'a [u8],
+    script: &'b mut [u8],
+) -> Result<&'b [u8], Told<'a>> {
     if path.is_empty() {
-        return Ok(Vec::new(rt.alloc()));
+        return Ok(&[]);
     }
-    let text = bytes(rt, path, buffers::TEXT_BYTES)?;
-    let mut script = vec![in rt.alloc(); 0u8; buffers::STEPS_BYTES]?;
-    let count = script_lines::read::read(&text, &mut script).map_err(|refusal| Told::OfFile(
+    let mut text = buffers::text();
+    let text = bytes(rt, path, &mut text)?;
+    let count = script_lines::read::read(text, script).map_err(|refusal| Told::OfFile(
         path,
         Trouble::AtLine(refusal),
     ))?;
-    script.truncate(count.saturating_mul(script::check::STEP_WIDTH));
-    Ok(script)
+    Ok(first_records(script::check::STEP_WIDTH, count, script))
 }
 
 /// The line on which step k of a file stands: with room for k steps alone, the reader refuses the step after them, at its line. 0 where there is no such step, or no file.
-fn line_of<'a, R: Files + AllocGlobal>(
-    rt: &R,
-    path: &'a [u8],
-    k: usize,
-) -> Result<usize, Told<'a>> {
-    let text = match bytes(rt, path, buffers::TEXT_BYTES) {
-        Ok(text) => text,
-        Err(Told::OutOfMemory) => return Err(Told::OutOfMemory),
-        Err(_) => return Ok(0),
+#[inline(never)]
+fn line_of<R: Files>(rt: &R, path: &[u8], k: usize) -> usize {
+    let mut text = buffers::text();
+    let Ok(text) = bytes(rt, path, &mut text) else {
+        return 0;
     };
-    let mut before = vec![in rt.alloc(); 0u8; buffers::STEPS_BYTES]?;
-    before.truncate(k.saturating_mul(script::check::STEP_WIDTH));
-    match script_lines::read::read(&text, &mut before) {
-        Err(refusal) => Ok(refusal.place),
-        Ok(_) => Ok(0),
+    let mut before = buffers::steps();
+    let room = before
+        .len()
+        .min(k.saturating_mul(script::check::STEP_WIDTH));
+    match script_lines::read::read(text, &mut before[..room]) {
+        Err(refusal) => refusal.place,
+        Ok(_) => 0,
     }
 }
 
 /// A refusal of a step, of the file of steps.
-pub fn refused_step<'a, R: Files + AllocGlobal>(
-    rt: &R,
-    path: &'a [u8],
-    refusal: Refusal,
-) -> Told<'a> {
-    match line_of(rt, path, refusal.place) {
-        Ok(line) => Told::OfFile(path, Trouble::AtStep(line, refusal)),
-        Err(told) => told,
-    }
+pub fn refused_step<'a, R: Files>(rt: &R, path: &'a [u8], refusal: Refusal) -> Told<'a> {
+    let line = line_of(rt, path, refusal.place);
+    Told::OfFile(path, Trouble::AtStep(line, refusal))
 }

@@ -24,23 +24,18 @@ fn spell_map(n: u32, m: u32, list: &[u8], text: &mut [u8]) -> usize
 }
 
 /// A list of shared products; one of more than 4,096 is not printed.
-pub fn shares<'a, R: AllocGlobal + Print>(
-    rt: &R,
-    n: usize,
-    m: usize,
-    list: &[u8],
-) -> Result<(), Told<'a>> {
+pub fn shares<'a>(rt: &impl Print, n: usize, m: usize, list: &[u8]) -> Result<(), Told<'a>> {
     if cube::list::MOST_RECORDS < list.len() / shared::list::SHARED_WIDTH {
         return Ok(());
     }
-    let mut text = vec![in rt.alloc(); 0u8; buffers::MAP_TEXT_BYTES]?;
+    let mut text = buffers::map_text();
     let end = spell_map(at_most_32(n), at_most_32(m), list, &mut text);
     rt.write_all(&text[..end]).map_err(|_| Told::NotPrinted)
 }
 
 /// A list of cubes, as a map of one output; one of more than 4,096 is not printed.
-pub fn cubes<'a, R: AllocGlobal + Print>(rt: &R, n: usize, list: &[u8]) -> Result<(), Told<'a>> {
-    let mut products = vec![in rt.alloc(); 0u8; buffers::SHARES_BYTES]?;
+pub fn cubes<'a>(rt: &impl Print, n: usize, list: &[u8]) -> Result<(), Told<'a>> {
+    let mut products = buffers::shares();
     match outputs::shares_of(0, list, &mut products) {
         Ok(count) => shares(
             rt,
@@ -63,11 +58,11 @@ fn spell_script(script: &[u8], text: &mut [u8]) -> usize
 }
 
 /// A script; one of more than 1,024 steps is not printed.
-pub fn steps<'a, R: AllocGlobal + Print>(rt: &R, script: &[u8]) -> Result<(), Told<'a>> {
+pub fn steps<'a>(rt: &impl Print, script: &[u8]) -> Result<(), Told<'a>> {
     if script::check::MOST_STEPS < script.len() / script::check::STEP_WIDTH {
         return Ok(());
     }
-    let mut text = vec![in rt.alloc(); 0u8; buffers::SCRIPT_TEXT_BYTES]?;
+    let mut text = buffers::script_text();
     let end = spell_script(script, &mut text);
     rt.write_all(&text[..end]).map_err(|_| Told::NotPrinted)
 }

@@ -1,7 +1,6 @@
 //! What is told where something is refused: the program, the file, the line or step, the number, and words.
 use explain::InWords;
 use records::Refusal;
-use std::alloc::AllocError;
 use std::fmt;
 
 /// The descriptor of standard error.
@@ -27,7 +26,6 @@ pub enum Trouble<'a> {
 /// What a command tells where it gives up.
 #[derive(Clone, Copy, Debug, PartialEq, Eq)]
 pub enum Told<'a> {
-    OutOfMemory,
     NotPrinted,
     OfFile(&'a [u8], Trouble<'a>),
 }
@@ -57,7 +55,6 @@ impl Told<'_> {
     /// written as they are.
     pub fn tell(&self, err: &impl Print) -> std::io::Result<()> {
         match *self {
-            Told::OutOfMemory => println!(err; "druthmoy: out of memory"),
             Told::NotPrinted => {
                 let _ = io::write_all(STDERR, b"druthmoy: standard output can't be written\n");
                 Ok(())
@@ -72,11 +69,5 @@ impl Told<'_> {
                 println!(err; ": {trouble}")
             }
         }
-    }
-}
-
-impl From<AllocError> for Told<'_> {
-    fn from(_error: AllocError) -> Self {
-        Told::OutOfMemory
     }
 }

@@ -4,9 +4,8 @@
 
 mod vectors;
 
-use std::io;
 use vectors::Vectors;
 
-fn main(rt: HostRuntime) -> io::Result<()> {
-    rows::table::answer_all::<Vectors, _>(&rt)
+fn main(rt: HostRuntime) {
+    rows::table::answer_all::<Vectors, _>(&rt);
 }

@@ -1,13 +1,13 @@
 //! A row's call: its parts read, its buffers lent, and the call made by what it takes.
 use cube::list;
 use rows::call::{Call, IndexCall, ListCall, SharedCall};
+use rows::data;
 use rows::given::Given;
 use rows::item::Kind;
 use rows::reader::{Reader, RowError};
 use rows::table::Answers;
 use script::check;
 use shared::list::SHARED_WIDTH;
-use std::alloc::Global;
 use std::io;
 use std::io::Write;
 
@@ -62,7 +62,7 @@ fn third_kind(call: Call) -> Kind {
 fn perform<W: Write>(
     out: &mut W,
     call: Call,
-    given: &Given,
+    given: Given<'_>,
     lent: &mut [u8],
     second: &mut [u8],
 ) -> io::Result<()> {
@@ -75,29 +75,39 @@ fn perform<W: Write>(
     }
 }
 
+/// The same, with the buffers lent.
+fn lend<W: Write>(out: &mut W, call: Call, given: Given<'_>) -> io::Result<()> {
+    let mut lent = [UNTOUCHED; MOST_ROOM];
+    let size = data::within(given.head.room, &lent);
+    let mut second = [UNTOUCHED; MOST_ROOM];
+    let beside = data::within(given.head.second, &second);
+    perform(out, call, given, &mut lent[..size], &mut second[..beside])?;
+    out.write_all(b"\n")
+}
+
 /// The rows whose calls are those of the library on lists, scripts, indexes, shared products and vectors.
 pub(crate) struct Vectors;
 
 impl Answers for Vectors {
-    fn answer<W: Write>(out: &mut W, alloc: Global, row: &[u8]) -> Result<(), RowError> {
+    fn answer<W: Write>(out: &mut W, row: &[u8]) -> Result<(), RowError> {
         let mut reader = Reader::new(row);
         let call = reader.call()?;
         let head = reader.head();
-        let first = reader.part(alloc, first_kind(call, head.n), MOST_ROOM)?;
-        let second = reader.part(alloc, second_kind(call), SCRIPT_BYTES)?;
-        let third = reader.part(alloc, third_kind(call), STARTS_BYTES)?;
+        let mut first = [0u8; MOST_ROOM];
+        let size = reader.part_into(first_kind(call, head.n), &mut first);
+        let mut second = [0u8; SCRIPT_BYTES];
+        let script = reader.part_into(second_kind(call), &mut second);
+        let mut third = [0u8; STARTS_BYTES];
+        let starts = reader.part_into(third_kind(call), &mut third);
         reader.end()?;
         head.within(MOST_ROOM)?;
         let given = Given {
             head,
-            first,
-            second,
-            third,
+            first: &first[..size],
+            second: &second[..script],
+            third: &third[..starts],
         };
-        let mut lent = vec![in alloc; UNTOUCHED; head.room]?;
-        let mut beside = vec![in alloc; UNTOUCHED; head.second]?;
-        perform(out, call, &given, &mut lent, &mut beside)?;
-        out.write_all(b"\n")?;
+        lend(out, call, given)?;
         Ok(())
     }
 }

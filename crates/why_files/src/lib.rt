@@ -50,15 +50,15 @@ fn first_places(count: usize, bytes: &[u8]) -> &[u8]
 }
 
 /// The reasons of a list at a label, and what is printed of them.
-fn show<R: AllocGlobal + Print>(rt: &R, n: usize, list: &[u8], a: u64) -> Result<(), Told> {
-    let mut out = vec![in rt.alloc(); 0u8; PLACES_BYTES]?;
+fn show(rt: &impl Print, n: usize, list: &[u8], a: u64) -> Result<(), Told> {
+    let mut out = [0u8; PLACES_BYTES];
     let shown = reasons::reasons(n, list, a, &mut out)?;
     places(rt, first_places(shown.count, &out));
     Ok(())
 }
 
 /// The label of a line in the map of a line and of a file that is named: the first line, then the list, then the label.
-fn why_by<R: Files + AllocGlobal + Print>(
+fn why_by<R: Files + Print>(
     rt: &R,
     line: &[u8],
     label: &[u8],
@@ -67,24 +67,20 @@ fn why_by<R: Files + AllocGlobal + Print>(
     let Some(n) = line::variables_in(line) else {
         return Err(Told::Refused(Reason::TooManyVariables.at(0)));
     };
-    let list = file::load(rt, list_path, file::LIST_BYTES)?;
-    show(rt, n, &list, label::label_in(label))
+    let mut list = [0u8; file::LIST_BYTES];
+    let list = file::load(rt, list_path, &mut list)?;
+    show(rt, n, list, label::label_in(label))
 }
 
 /// The same, and what is told where it gives up.
-pub fn why_named<R: Files + AllocGlobal + Print>(
-    rt: &R,
-    line: &[u8],
-    label: &[u8],
-    list_path: &[u8],
-) {
+pub fn why_named<R: Files + Print>(rt: &R, line: &[u8], label: &[u8], list_path: &[u8]) {
     if let Err(told) = why_by(rt, line, label, list_path) {
         print::line(rt, told);
     }
 }
 
 /// The program: two lines of standard input, and `map.cub`. A first line that is longer than what is read of it is refused, whatever is read as the second.
-pub fn run<R: Files + AllocGlobal + Print>(rt: &R) {
+pub fn run<R: Files + Print>(rt: &R) {
     let mut first = [0; line::VARIABLE_BYTES];
     let count = line::read(&mut first);
     let mut second = [0; label::LABEL_BYTES];
