@@ -77,6 +77,8 @@ pub fn slot_one<'a, R: System, E: Print>(
 }
 
 /// The slot of a label, where there are several outputs.
+// Not inlined: its buffers are on the stack only while it runs, and not while the map is read.
+#[inline(never)]
 pub fn slot<'a, R: System, E: Print>(job: &Job<'a, R, E>, map: Map<'_>) -> Result<(), Told<'a>> {
     if MOST_LISTS < map.outputs {
         return Err(job.whole(Reason::NotOneToTwelve.at(0)));
@@ -88,6 +90,8 @@ pub fn slot<'a, R: System, E: Print>(job: &Job<'a, R, E>, map: Map<'_>) -> Resul
 }
 
 /// Why a label gets its slot, where there are several outputs: each bit, and the places of its products that are true, in the list of its output.
+// Not inlined: its buffers are on the stack only while it runs, and not while the map is read.
+#[inline(never)]
 pub fn why_shared<'a, R: System, E: Print>(
     job: &Job<'a, R, E>,
     map: Map<'_>,

@@ -24,6 +24,7 @@ pub(crate) fn lists_of<'a>(
     lengths: &'a mut [u64; MOST_LISTS],
 ) -> Bits<'a>
     requires { m ≤ most_lists }
+    ensures { length result.bytes.now ≤ length bytes.old }
 {
     let mut end = 0;
     for k in 0..m {

@@ -154,7 +154,10 @@ fn words_among<R: Env>(rt: &R, most: usize) -> usize
     most
 }
 
-/// The program: its arguments. Those that come after the words that a command can take are only counted: with them it is misused.
+/// Words that the program looks for, its own name and the command's among them: one more than a command has use for, which is only counted.
+const MOST_WORDS: usize = 6;
+
+/// The program: its arguments.
 pub fn run<R: System + Env, E: Print>(rt: &R, err: &E) {
     let mut name = [0u8; WORD_BYTES];
     let mut first = [0u8; WORD_BYTES];
@@ -166,7 +169,7 @@ pub fn run<R: System + Env, E: Print>(rt: &R, err: &E) {
         word_of(rt, 4, &mut third),
         b"",
     ];
-    match words_among(rt, 6) {
+    match words_among(rt, MOST_WORDS) {
         0 | 1 => {
             let _ = err.println(help::MISUSED);
         }

@@ -28,6 +28,8 @@ pub fn one<'a, R: System, E: Print>(
 }
 
 /// A map of several outputs, as shared products.
+// Not inlined: its buffers are on the stack only while it runs, and not while the map is read.
+#[inline(never)]
 pub fn shared<'a, R: System, E: Print>(job: &Job<'a, R, E>, map: Map<'_>) -> Result<(), Told<'a>> {
     let rt = job.rt;
     let mut script = buffers::steps();

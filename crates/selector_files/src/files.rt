@@ -59,6 +59,7 @@ pub(crate) fn load_bits<'a, R: Files>(
     requires { most ≤ most_lists }
     ensures few { IfOk result (λ bits. length bits.lengths.now ≤ most) }
     ensures short { IfOk result (λ bits. length bits.bytes.now ≤ most * width) }
+    ensures within { IfOk result (λ bits. length bits.bytes.now ≤ length bytes.old) }
 {
     let mut count = 0;
     let mut end: usize = 0;

@@ -166,6 +166,8 @@ pub fn one<'a, R: System, E: Print>(
 }
 
 /// The sheet of a map of several outputs.
+// Not inlined: its buffers are on the stack only while it runs, and not while the map is read.
+#[inline(never)]
 pub fn shared<'a, R: System, E: Print>(job: &Job<'a, R, E>, map: Map<'_>) -> Result<(), Told<'a>> {
     let rt = job.rt;
     let mut script = buffers::steps();
