@@ -6,7 +6,7 @@ use rows::data;
 use rows::head::Head;
 use rows::item::Kind;
 use rows::reader::{Reader, RowError};
-use rows::table::Answers;
+use rows::table::AnswersInPlace;
 use script::check;
 use std::io;
 use std::io::Write;
@@ -104,7 +104,7 @@ fn scripts_and_settle<W: Write>(
 #[derive(Clone, Copy, Debug)]
 pub struct Maps;
 
-impl Answers for Maps {
+impl AnswersInPlace for Maps {
     fn answer<W: Write>(out: &mut W, row: &[u8]) -> Result<(), RowError> {
         let mut reader = Reader::new(row);
         let call = call_of(&mut reader)?;

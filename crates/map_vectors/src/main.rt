@@ -5,5 +5,5 @@
 use map_rows::Maps;
 
 fn main(rt: HostRuntime) {
-    rows::table::answer_all::<Maps, _>(&rt);
+    rows::table::answer_all_in_place::<Maps, _>(&rt);
 }

@@ -1,8 +1,10 @@
 //! Lines of standard input, and the number of a line of digits.
-ghost use Rattle.std.specs.Prelude.{◌≡◌};
+ghost use Rattle.std.specs.Prelude.{◌≡◌, ◌≤◌, IfOk, vec_len};
 ghost use Rattle.io.specs.Counts.{IsPrefixLen};
 ghost use Rattle.program.specs.Lines.{line_number, variables_line};
 
+use std::alloc::AllocError;
+use std::io::{BufRead, ErrorKind, Read};
 use text::number;
 
 /// The digits of the line that gives the number of variables, at most.
@@ -36,6 +38,23 @@ pub fn read(line: &mut [u8]) -> usize
         }
     }
     line.len()
+}
+
+/// Reads a line of the input of `rt`, as a vector of at most so many bytes, its newline left out. Its end is as above.
+pub fn read_line<R: Input + AllocGlobal>(rt: &R, most: usize) -> Result<Vec<u8>, AllocError>
+    ensures { IfOk result (λ line. vec_len line ≤ most) }
+{
+    let mut line = Vec::new(rt.alloc());
+    if let Err(error) = rt.reader().take(most as u64).read_until(b'\n', &mut line) {
+        if error.kind() == ErrorKind::OutOfMemory {
+            return Err(AllocError);
+        }
+    }
+    if line.last() == Some(&b'\n') {
+        line.pop();
+    }
+    line.truncate(most);
+    Ok(line)
 }
 
 /// The number of a line of one to `digits` digits, where it is at most `most`.

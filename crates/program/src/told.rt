@@ -1,5 +1,9 @@
 //! What the programs `settle`, `why` and `selector` tell where they give up.
+ghost use Rattle.std.specs.Prelude.{◌≡◌};
+ghost use Rattle.program.specs.declared.told.Told.TheVariants.{NoFile};
+
 use records::Refusal;
+use std::alloc::AllocError;
 use std::{fmt, io};
 
 /// Why a program prints nothing of what it was asked for.
@@ -24,6 +28,15 @@ impl fmt::Display for Told {
 impl From<Refusal> for Told {
     fn from(refusal: Refusal) -> Told {
         Told::Refused(refusal)
+    }
+}
+
+/// A lack of memory, as of an error of a file: for callers that take memory. The programs take none.
+impl From<AllocError> for Told {
+    fn from(_error: AllocError) -> Told
+        ensures { result ≡ NoFile }
+    {
+        Self::NoFile
     }
 }
 

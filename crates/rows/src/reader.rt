@@ -1,14 +1,21 @@
 //! A row that is read from its front on, and why it has no answer.
 ghost use Rattle.std.specs.Prelude.{◌≡◌, ◌+◌, ◌↔◌, IsOk, IsTrue, length};
 
+use std::alloc::AllocError;
 use std::io;
 use std::str::FromStr;
 
-/// Why a row has no answer: it can't be read from a place on, or its answer can't be written.
+/// Why a row has no answer: it can't be read from a place on; or there is no memory, or its answer can't be written.
 #[derive(Debug, Drop)]
 pub enum RowError {
     Unread { place: usize },
     Failed(io::Error),
+}
+
+impl From<AllocError> for RowError {
+    fn from(error: AllocError) -> RowError {
+        RowError::Failed(io::Error::from(error))
+    }
 }
 
 impl From<io::Error> for RowError {

@@ -1,6 +1,10 @@
 //! What is told where something is refused: the program, the file, the line or step, the number, and words.
+ghost use Rattle.std.specs.Prelude.{◌≡◌};
+ghost use Rattle.text_files.specs.declared.told.Told.TheVariants.{NotPrinted};
+
 use explain::InWords;
 use records::Refusal;
+use std::alloc::AllocError;
 use std::fmt;
 
 /// The descriptor of standard error.
@@ -69,5 +73,14 @@ impl Told<'_> {
                 println!(err; ": {trouble}")
             }
         }
+    }
+}
+
+/// A lack of memory, as if what is to be printed could not be: for callers that take memory. The commands take none.
+impl From<AllocError> for Told<'_> {
+    fn from(_error: AllocError) -> Self
+        ensures { result ≡ NotPrinted }
+    {
+        Self::NotPrinted
     }
 }

@@ -7,5 +7,5 @@ mod vectors;
 use vectors::Vectors;
 
 fn main(rt: HostRuntime) {
-    rows::table::answer_all::<Vectors, _>(&rt);
+    rows::table::answer_all_in_place::<Vectors, _>(&rt);
 }

@@ -5,7 +5,7 @@ use rows::data;
 use rows::given::Given;
 use rows::item::Kind;
 use rows::reader::{Reader, RowError};
-use rows::table::Answers;
+use rows::table::AnswersInPlace;
 use script::check;
 use shared::list::SHARED_WIDTH;
 use std::io;
@@ -88,7 +88,7 @@ fn lend<W: Write>(out: &mut W, call: Call, given: Given<'_>) -> io::Result<()> {
 /// The rows whose calls are those of the library on lists, scripts, indexes, shared products and vectors.
 pub(crate) struct Vectors;
 
-impl Answers for Vectors {
+impl AnswersInPlace for Vectors {
     fn answer<W: Write>(out: &mut W, row: &[u8]) -> Result<(), RowError> {
         let mut reader = Reader::new(row);
         let call = reader.call()?;
