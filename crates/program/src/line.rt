@@ -40,7 +40,8 @@ pub fn read(line: &mut [u8]) -> usize
     line.len()
 }
 
-/// Reads a line of the input of `rt`, as a vector of at most so many bytes, its newline left out. Its end is as above.
+/// Reads a line of the input of `rt`, as a vector of at most so many bytes, its newline left out. It ends too where the input ends or can't be read; it fails where there is
+/// no memory for it.
 pub fn read_line<R: Input + AllocGlobal>(rt: &R, most: usize) -> Result<Vec<u8>, AllocError>
     ensures { IfOk result (λ line. vec_len line ≤ most) }
 {

@@ -31,7 +31,7 @@ impl From<Refusal> for Told {
     }
 }
 
-/// A lack of memory, as of an error of a file: for callers that take memory. The programs take none.
+/// A lack of memory, told as an error of a file is: for callers that take memory. The programs take none.
 impl From<AllocError> for Told {
     fn from(_error: AllocError) -> Told
         ensures { result ≡ NoFile }

@@ -76,7 +76,7 @@ impl Told<'_> {
     }
 }
 
-/// A lack of memory, as if what is to be printed could not be: for callers that take memory. The commands take none.
+/// A lack of memory, told as output that can't be printed is: for callers that take memory. The commands take none.
 impl From<AllocError> for Told<'_> {
     fn from(_error: AllocError) -> Self
         ensures { result ≡ NotPrinted }
